@@ -1,0 +1,87 @@
+-- Kind 5 (39 in automata): nodes, and their records. Assumes nothing: these are definitions.
+use mathlib.Core.List.{List, [], _∷_, _++_}
+use Prim.Native.Nat.{ℕ, _*_}
+use lib.ListN.{getD, drop}
+use lib.IntN.{ℤ, pos}
+use Rattle.records.specs.Lists.{caseOf, Lists}
+use Rattle.records.specs.Bytes.{byte, two, four±, bytes2, bytes4±}
+
+pub data Arithmetic : Type 0 where
+  sum difference product quotient remainder : Arithmetic
+
+pub data Comparison : Type 0 where
+  equal less at-most : Comparison
+
+-- A node: its operator with the numbers of its operands, or with its constant, or with the number of its variable.
+pub data Node : Type 0 where
+  constant : ℤ → Node
+  variable : ℕ → Node
+  arithmetic : Arithmetic → ℕ → ℕ → Node
+  choice : ℕ → ℕ → ℕ → Node
+  comparison : Comparison → ℕ → ℕ → Node
+  negation : ℕ → Node
+  both : ℕ → ℕ → Node
+  either : ℕ → ℕ → Node
+  unknown : Node
+
+-- "5 node: 1 operator; 2-3, 4-5, 6-7 operands; 8-11 constant." The record may go on after its 16 bytes.
+abbrev pub readNode : List ℕ → Node
+readNode r =
+    let a = two r 2 in
+    let b = two r 4 in
+    let c = two r 6 in
+    caseOf (byte r 1)
+    ((1, constant (four± r 8))
+    ∷ (2, variable a)
+    ∷ (3, arithmetic sum a b)
+    ∷ (4, arithmetic difference a b)
+    ∷ (5, arithmetic product a b)
+    ∷ (6, arithmetic quotient a b)
+    ∷ (7, arithmetic remainder a b)
+    ∷ (8, choice a b c)
+    ∷ (16, comparison equal a b)
+    ∷ (17, comparison less a b)
+    ∷ (18, comparison at-most a b)
+    ∷ (19, negation a)
+    ∷ (20, both a b)
+    ∷ (21, either a b)
+    ∷ [])
+    unknown
+
+-- Node n of a list of nodes, and of the bytes of such records; one past the end is unknown.
+abbrev pub nodeOf : List Node → ℕ → Node
+nodeOf nodes n = getD nodes n unknown
+
+abbrev pub nodeAt : List ℕ → ℕ → Node
+nodeAt s n = readNode (drop (16 * n) s)
+
+abbrev pub arithmeticCode : Arithmetic → ℕ
+arithmeticCode sum = 3
+arithmeticCode difference = 4
+arithmeticCode product = 5
+arithmeticCode quotient = 6
+arithmeticCode remainder = 7
+
+abbrev pub comparisonCode : Comparison → ℕ
+comparisonCode equal = 16
+comparisonCode less = 17
+comparisonCode at-most = 18
+
+-- bytes 1 to 15: operator, three operands, constant, and what is unnamed
+abbrev pub nodeBytes : ℕ → ℕ → ℕ → ℕ → ℤ → List ℕ
+nodeBytes op a b c z = op ∷ bytes2 a ++ bytes2 b ++ bytes2 c ++ bytes4± z ++ (0 ∷ 0 ∷ 0 ∷ 0 ∷ [])
+
+abbrev pub writeNode : Node → List ℕ
+writeNode (constant z) = nodeBytes 1 0 0 0 z
+writeNode (variable v) = nodeBytes 2 v 0 0 (pos 0)
+writeNode (arithmetic o a b) = nodeBytes (arithmeticCode o) a b 0 (pos 0)
+writeNode (choice t a b) = nodeBytes 8 t a b (pos 0)
+writeNode (comparison o a b) = nodeBytes (comparisonCode o) a b 0 (pos 0)
+writeNode (negation a) = nodeBytes 19 a 0 0 (pos 0)
+writeNode (both a b) = nodeBytes 20 a b 0 (pos 0)
+writeNode (either a b) = nodeBytes 21 a b 0 (pos 0)
+writeNode unknown = nodeBytes 0 0 0 0 (pos 0)
+
+unfoldable pub Nodes : Type 0
+unfolding Lists
+Nodes = Unit

@@ -1,0 +1,14 @@
+pub mod Owned
+pub mod Runs
+pub mod Outcome
+pub mod ChartSet
+pub mod Charts
+pub mod ChartFile
+pub mod AutomataTable
+pub mod Automata
+pub mod AutomataFile
+pub mod Translation
+pub mod PathBack
+pub mod Calls
+pub mod Replay
+pub mod Correspondence

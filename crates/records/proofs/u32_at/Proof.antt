@@ -1,0 +1,29 @@
+-- `records::u32_at` meets its contract: past the end both halves are 0. Assumes nothing.
+use borrow.Author.Needs.{needs}
+use mathlib.Core.Path.{_≡_, refl, sym, ap, _∙_}
+use Rattle.records.proofs.Fields.{four-past}
+use Rattle.records.proofs.u32_at.Statement.{statement}
+use Rattle.records.proofs.u32_at.Tie as tie
+
+u16-at-requires : tie.Need-u16-at-requires
+u16-at-requires c κs = search needs
+
+add-u16-at : tie.Need-add-u16-at
+add-u16-at c = search needs
+
+u16-at-requires-2 : tie.Need-u16-at-requires-2
+u16-at-requires-2 c κs = search needs
+
+joined16-requires : tie.Need-joined16-requires
+joined16-requires c κs = search needs
+
+returns : tie.Need-returns
+returns c = search needs
+
+returns-2 : tie.Need-returns-2
+returns-2 c = sym (four-past (c .before .before .args .s .now) (c .before .before .args .at) (c .if1 .left))
+
+pub u32-at-spec : {M : Type 1} → statement M
+u32-at-spec =
+    tie.close
+    (tie.spec u16-at-requires add-u16-at u16-at-requires-2 joined16-requires returns returns-2)

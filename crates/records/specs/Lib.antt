@@ -1,0 +1,4 @@
+pub mod Lists
+pub mod Refusal
+pub mod Bytes
+pub mod Framing

@@ -1,0 +1,213 @@
+//! Hand-written chart sets with names, as bytes.
+
+use crate::assemble::*;
+use crate::deeds::Deed;
+use crate::expressions::Node;
+use crate::operators::*;
+use crate::records::{Record, ENTRY, EXIT, NODE, ON_TRANSITION, VARIABLE};
+use crate::variables::Variable;
+
+/// One chart; states 0 initial, 1 ahead, 2 behind; one variable from -100 to 100.
+pub fn zero_watch() -> Vec<u8> {
+    let nodes = [
+        variable_value(0),
+        constant(0),
+        operation(LESS, &[0, 1]),
+        variable_value(0),
+        constant(2),
+        operation(DIFFERENCE, &[3, 4]),
+        constant(1),
+    ];
+    SetParts {
+        charts: vec![chart(0)],
+        states: vec![state(0), state(0), state(0)],
+        transitions: vec![
+            transition(1, 0, 1),
+            guarded(transition(1, 1, 2), 2),
+            on_event(transition(2, 1, 1), 0),
+            on_event(transition(1, 2, 1), 1),
+        ],
+        variables: vec![Variable { lowest: -100, highest: 100, start: 1 }],
+        nodes: nodes.to_vec(),
+        actions: vec![
+            action(ON_TRANSITION, 2, Deed::Assign { variable: 0, node: 5 }),
+            action(ON_TRANSITION, 3, Deed::Assign { variable: 0, node: 6 }),
+        ],
+    }
+    .bytes()
+}
+
+/// The parts of a set, each kind in file order.
+#[derive(Clone, Default)]
+pub struct SetParts {
+    pub charts: Vec<Record>,
+    pub states: Vec<Record>,
+    pub transitions: Vec<Record>,
+    pub variables: Vec<Variable>,
+    pub nodes: Vec<Node>,
+    pub actions: Vec<Record>,
+}
+
+impl SetParts {
+    pub fn bytes(&self) -> Vec<u8> {
+        let variables = self.variables.iter().map(|one| variable(VARIABLE, one));
+        let nodes = self.nodes.iter().map(|one| node(NODE, one));
+        let first = self.charts.iter().chain(&self.states).chain(&self.transitions).copied();
+        file(first.chain(variables).chain(nodes).chain(self.actions.iter().copied()))
+    }
+}
+
+/// One chart of an initial state 0 and a state 1, with no loop: the smallest set that is accepted.
+pub fn smallest() -> Vec<u8> {
+    SetParts {
+        charts: vec![chart(0)],
+        states: vec![state(0), state(0)],
+        transitions: vec![transition(1, 0, 1)],
+        ..SetParts::default()
+    }
+    .bytes()
+}
+
+/// State 1 is entered in the first cycle and left for state 2 by event 0; state 2 goes back to 1
+/// after the milliseconds given.
+pub fn one_after(milliseconds: u32) -> Vec<u8> {
+    SetParts {
+        charts: vec![chart(0)],
+        states: vec![state(0), state(0), state(0)],
+        transitions: vec![
+            transition(1, 0, 1),
+            on_event(transition(1, 1, 2), 0),
+            after(transition(1, 2, 1), milliseconds),
+        ],
+        ..SetParts::default()
+    }
+    .bytes()
+}
+
+/// State 1 goes to itself at event 0 and to state 2 after 3 ticks; state 2 counts every 2 ticks and
+/// is left by event 1. Idling must let the age grow, and the self-transition must set it back.
+pub fn winch() -> Vec<u8> {
+    SetParts {
+        charts: vec![chart(0)],
+        states: vec![state(0), state(0), state(0)],
+        transitions: vec![
+            transition(1, 0, 1),
+            on_event(transition(2, 1, 1), 0),
+            after(transition(7, 1, 2), 300),
+            on_event(transition(3, 2, 1), 1),
+            every(transition(4, 2, 2), 200),
+        ],
+        variables: vec![Variable { lowest: 0, highest: 1_000, start: 0 }],
+        nodes: vec![variable_value(0), constant(1), operation(SUM, &[0, 1])],
+        actions: vec![action(ON_TRANSITION, 4, Deed::Assign { variable: 0, node: 2 })],
+    }
+    .bytes()
+}
+
+/// Chart 0 raises event 5 whenever event 0 comes; chart 1, later in the cycle, answers it by
+/// raising event 6, which chart 0 waits for in vain: an event lasts for later charts only.
+pub fn relay() -> Vec<u8> {
+    SetParts {
+        charts: vec![chart(0), chart(2)],
+        states: vec![state(0), state(0), state(1), state(1)],
+        transitions: vec![
+            transition(1, 0, 1),
+            on_event(transition(2, 1, 1), 0),
+            on_event(transition(1, 1, 1), 6),
+            transition(1, 2, 3),
+            on_event(transition(16, 3, 3), 5),
+        ],
+        actions: vec![
+            action(ON_TRANSITION, 1, Deed::Raise { event: 5 }),
+            action(ON_TRANSITION, 4, Deed::Raise { event: 6 }),
+        ],
+        ..SetParts::default()
+    }
+    .bytes()
+}
+
+/// Exit, transition and entry actions that write the digits 1, 2, 3 into one variable in the order
+/// they run, given in the file in the opposite order.
+pub fn action_order() -> Vec<u8> {
+    let mut nodes = Vec::new();
+    for digit in 1..=3u16 {
+        let first = 5 * (digit - 1);
+        nodes.extend([
+            variable_value(0),
+            constant(10),
+            operation(PRODUCT, &[first, first + 1]),
+            constant(i32::from(digit)),
+            operation(SUM, &[first + 2, first + 3]),
+        ]);
+    }
+    SetParts {
+        charts: vec![chart(0)],
+        states: vec![state(0), state(0), state(0)],
+        transitions: vec![transition(1, 0, 1), transition(1, 1, 2)],
+        variables: vec![Variable { lowest: 0, highest: 999, start: 0 }],
+        nodes,
+        actions: vec![
+            action(ENTRY, 2, Deed::Assign { variable: 0, node: 14 }),
+            action(ON_TRANSITION, 1, Deed::Assign { variable: 0, node: 9 }),
+            action(EXIT, 1, Deed::Assign { variable: 0, node: 4 }),
+        ],
+    }
+    .bytes()
+}
+
+/// State 1's two transitions stand in the file against their priorities; the second in priority
+/// has a guard that divides by zero, and is met only where event 0 is absent.
+pub fn guarded_division() -> Vec<u8> {
+    SetParts {
+        charts: vec![chart(0)],
+        states: vec![state(0), state(0), state(0)],
+        transitions: vec![
+            transition(1, 0, 1),
+            guarded(transition(2, 1, 2), 4),
+            on_event(transition(1, 1, 1), 0),
+        ],
+        variables: vec![Variable { lowest: -3, highest: 3, start: 0 }],
+        nodes: vec![
+            constant(1),
+            variable_value(0),
+            operation(QUOTIENT, &[0, 1]),
+            constant(0),
+            operation(EQUAL, &[2, 3]),
+        ],
+        actions: Vec::new(),
+    }
+    .bytes()
+}
+
+/// The first cycle assigns `value` to a variable of the given range.
+pub fn one_assignment(lowest: i16, highest: i16, start: i16, value: i32) -> Vec<u8> {
+    one_expression(lowest, highest, start, &[constant(value)])
+}
+
+/// The first cycle assigns the last of the nodes to the one variable.
+pub fn one_expression(lowest: i16, highest: i16, start: i16, nodes: &[Node]) -> Vec<u8> {
+    let last = u16::try_from(nodes.len()).expect("at most 1,024 nodes") - 1;
+    SetParts {
+        charts: vec![chart(0)],
+        states: vec![state(0), state(0)],
+        transitions: vec![transition(1, 0, 1)],
+        variables: vec![Variable { lowest, highest, start }],
+        nodes: nodes.to_vec(),
+        actions: vec![action(ON_TRANSITION, 0, Deed::Assign { variable: 0, node: last })],
+    }
+    .bytes()
+}
+
+/// All named sets that take no parameter.
+pub fn all() -> Vec<(&'static str, Vec<u8>)> {
+    vec![
+        ("zero_watch", zero_watch()),
+        ("smallest", smallest()),
+        ("one_after", one_after(300)),
+        ("winch", winch()),
+        ("relay", relay()),
+        ("action_order", action_order()),
+        ("guarded_division", guarded_division()),
+        ("one_assignment", one_assignment(-1, 1, 0, -2)),
+    ]
+}

@@ -1,0 +1,45 @@
+//! Chart sets: the reader with its refusals 1 to 9, the run, the turn and the cycle.
+
+mod check;
+mod raw;
+mod step;
+mod tables;
+
+pub use raw::{RawAction, RawSet, RawTransition};
+pub use tables::{ChartSet, Transition, Trigger};
+
+use crate::refusals::Refusal;
+use crate::runs::{Answer, ChartsRun};
+
+/// 0 for an accepted set, else the lowest refusal number that applies.
+pub fn check(set: &[u8]) -> u32 {
+    ChartSet::read(set).err().unwrap_or(0)
+}
+
+pub fn start(set: &[u8]) -> Result<ChartsRun, Refusal> {
+    Ok(ChartSet::read(set)?.start())
+}
+
+/// One turn of a run of any content; the run given is not changed.
+pub fn turn(set: &[u8], run: &ChartsRun, events: u32) -> Result<(Answer, ChartsRun), Refusal> {
+    let set = ChartSet::read(set)?;
+    let mut next = *run;
+    let answer = set.turn(&mut next, events)?;
+    Ok((answer, next))
+}
+
+/// The turns from the present position up to n + 1.
+pub fn cycle(set: &[u8], run: &ChartsRun, events: u32) -> Result<ChartsRun, Refusal> {
+    let set = ChartSet::read(set)?;
+    let mut next = *run;
+    set.cycle(&mut next, events)?;
+    Ok(next)
+}
+
+/// Cycles until one is refused or faults: how many were played, and the run after them.
+pub fn play(set: &[u8], run: &ChartsRun, masks: &[u32]) -> Result<(usize, ChartsRun), Refusal> {
+    let set = ChartSet::read(set)?;
+    let mut next = *run;
+    let played = set.play(&mut next, masks)?;
+    Ok((played, next))
+}

@@ -1,0 +1,14 @@
+//! Seeded generators of everything that the reference is compared with: sets, tables, runs, calls,
+//! paths, buffers and expression files; valid ones and each kind of damage.
+
+pub mod buffers;
+pub mod calls;
+pub mod expression_files;
+pub mod expressions;
+pub mod paths;
+pub mod record_list;
+pub mod set_damage;
+pub mod sets;
+pub mod states;
+pub mod table_damage;
+pub mod tables;
