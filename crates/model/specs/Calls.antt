@@ -2,11 +2,11 @@
 -- definitions.
 use mathlib.Core.Option.{Option, some, none}
 use mathlib.Core.List.{List}
-use Prim.Native.Nat.{ℕ, _+_}
+use Prim.Native.Nat.{ℕ}
 use lib.IntN.{ℤ, pos, negℤ}
 use Rattle.records.specs.Refusal.{Refusal, refusalNumber, Out, val, fault, _>>=_, unless-refused}
 use Rattle.model.specs.Outcome.{Outcome, settled}
-use Rattle.model.specs.Runs.{Run, Machine, start, turn, cycle, Answer, taken, idle, time, Call, Trace, stopped, trace}
+use Rattle.model.specs.Runs.{Run, Machine, start, turn, cycle, Answer, taken, idle, time, Call, Trace, unless-stopped, trace}
 use Rattle.model.specs.ChartSet.{readCharts}
 use Rattle.model.specs.Charts.{charts}
 use Rattle.model.specs.ChartFile.{chartsRefusal}
@@ -43,11 +43,7 @@ module _ (f : Format) (s : List ℕ) where
 
   -- every turn of a call
   abbrev pub callTrace : Call → Run → Trace
-  callTrace c r = onTrace (f .refusal s)
-    where
-      onTrace : Option Refusal → Trace
-      onTrace none = trace (f .machine s) c r
-      onTrace (some w) = stopped w
+  callTrace c r = unless-stopped check (trace (f .machine s) c r)
 
 -- ---- numbers of answers: a refusal is minus its number
 

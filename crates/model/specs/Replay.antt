@@ -100,12 +100,12 @@ replayed cs (mask ∷ rest) r =
     next (traceLines cs t) (ended r t) (replayed cs rest)
 
 -- the file's refusal comes first, with no line
+abbrev pub unless-ended : Option Refusal → Replayed → Replayed
+unless-ended none p = p
+unless-ended (some w) p = record { text = []; end = some w }
+
 abbrev pub replay : List ℕ → List ℕ → Replayed
-replay s input = onRefusal (chartsRefusal s)
-  where
-    onRefusal : Option Refusal → Replayed
-    onRefusal none = replayed (readCharts s) (masks input) (start (charts (readCharts s)))
-    onRefusal (some w) = record { text = []; end = some w }
+replay s input = unless-ended (chartsRefusal s) (replayed (readCharts s) (masks input) (start (charts (readCharts s))))
 
 -- what a proof that computes with these opens
 unfoldable pub Replay : Type 0

@@ -2,3 +2,4 @@ pub mod Lists
 pub mod Refusal
 pub mod Bytes
 pub mod Framing
+pub mod Frame

@@ -19,10 +19,10 @@ module _ {A : Type 0} where
   any p [] = false
   any p (x ∷ xs) = p x || any p xs
 
-  -- how many pass the test
+  -- how many pass the test (the `let` keeps both branches from computing the rest)
   unfoldable pub count : (A → Bool) → List A → ℕ
   count p [] = 0
-  count p (x ∷ xs) = cond (p x) (suc (count p xs)) (count p xs)
+  count p (x ∷ xs) = let rest = count p xs in cond (p x) (suc rest) rest
 
   -- sorted by a key, ascending, equal keys in the order given
   unfoldable pub insert : (A → ℕ) → A → List A → List A

@@ -1,7 +1,11 @@
 // Fields of byte slices, and the framing of files of 16-byte records.
 ghost use mathlib.Core.Path.{_≡_};
-ghost use Prim.Native.Nat.{_+_, _*_, _<_, _^_};
+ghost use mathlib.Core.List.{map};
+ghost use Prim.Native.Nat.{_+_, _*_, _≤_, _<_, _^_};
+ghost use lib.ListN.{length, take, replicate};
+ghost use Rattle.records.specs.Lists.{upto};
 ghost use Rattle.records.specs.Bytes.{byte, two, four, signed, two±, four±};
+ghost use Rattle.records.specs.Frame.{IsFrame, IsTally, exceeds, sumTo};
 
 // The byte at a place, 0 past the end.
 pub fn byte_at(s: &[u8], at: usize) -> u8
@@ -74,4 +78,137 @@ pub fn i32_at(s: &[u8], at: usize) -> i32
     ensures { λ r. ⌜ r ≡ four± (now (s .entry)) at ⌝ }
 {
     signed32(u32_at(s, at))
+}
+
+// What refusals 1 to 3 come to.
+pub enum Framing {
+    Framed,
+    OddLength,
+    UnorderedKinds,
+    WrongAmounts,
+}
+
+// Of the nine kinds from a format's first on: how many records, and the number of the first record. All 0 where refused.
+pub struct Frame {
+    pub answer: Framing,
+    pub counts: [usize; 9],
+    pub firsts: [usize; 9],
+}
+
+struct Tally {
+    unordered: bool,
+    counts: [usize; 9],
+}
+
+// A format has nine kinds at most.
+fn kinds_of(most: &[u16]) -> usize
+    ensures { λ r. ⌜ (r ≡ length (take 9 (now (most .entry)))) × (r ≤ 9) × (r ≤ length (now (most .entry))) ⌝ }
+{
+    if most.len() < 9 { most.len() } else { 9 }
+}
+
+// One pass over the records' kinds, which are counted from the format's first; `last` is the latest one met.
+fn tally_of(s: &[u8], first: u8, most: &[u16]) -> Tally
+    ensures { λ r. ⌜ IsTally first (now (most .entry)) (now (s .entry)) r ⌝ }
+{
+    let kinds = kinds_of(most);
+    let mut counts = [0usize; 9];
+    let mut last: usize = 0;
+    let mut i: usize = 0;
+    while i < s.len() / 16 {
+        let kind = s[16 * i];
+        if kind < first {
+            return Tally {
+                unordered: true,
+                counts,
+            };
+        }
+        let k = (kind - first) as usize;
+        if kinds <= k {
+            return Tally {
+                unordered: true,
+                counts,
+            };
+        }
+        if k < last {
+            return Tally {
+                unordered: true,
+                counts,
+            };
+        }
+        counts[k] += 1;
+        last = k;
+        i += 1;
+    }
+    Tally {
+        unordered: false,
+        counts,
+    }
+}
+
+// A file must have one of its first kind, and of each kind at most its limit.
+fn wrong_amounts(counts: [usize; 9], most: &[u16]) -> bool
+    ensures { λ r. ⌜ r ≡ exceeds counts (now (most .entry)) ⌝ }
+{
+    let kinds = kinds_of(most);
+    if counts[0] == 0 {
+        return true;
+    }
+    let mut k: usize = 0;
+    while k < kinds {
+        if (most[k] as usize) < counts[k] {
+            return true;
+        }
+        k += 1;
+    }
+    false
+}
+
+// The kinds' records stand one kind after the other, so a kind's first record has the sum of the counts before it.
+fn sums(counts: [usize; 9]) -> [usize; 9]
+    requires { ⌜ sumTo 9 counts < 2 ^ 64 ⌝ }
+    ensures { λ r. ⌜ r ≡ map (λ j. sumTo j counts) (upto 9) ⌝ }
+{
+    let mut firsts = [0usize; 9];
+    let mut sum: usize = 0;
+    let mut k: usize = 0;
+    while k < 9 {
+        firsts[k] = sum;
+        sum += counts[k];
+        k += 1;
+    }
+    firsts
+}
+
+fn refused(answer: Framing) -> Frame
+    ensures { λ r. ⌜ (r .answer ≡ answer) × (r .counts ≡ replicate 9 0) × (r .firsts ≡ replicate 9 0) ⌝ }
+{
+    Frame {
+        answer,
+        counts: [0usize; 9],
+        firsts: [0usize; 9],
+    }
+}
+
+// The framing of a file: its kinds are those from `first` on, with the limits `most`.
+pub fn frame_of(s: &[u8], first: u8, most: &[u16]) -> Frame
+    ensures { λ r. ⌜ IsFrame first (now (most .entry)) (now (s .entry)) r ⌝ }
+{
+    if s.len() % 16 != 0 {
+        return refused(Framing::OddLength);
+    }
+    let t = tally_of(s, first, most);
+    if t.unordered {
+        return refused(Framing::UnorderedKinds);
+    }
+    let counts = t.counts;
+    if wrong_amounts(counts, most) {
+        return refused(Framing::WrongAmounts);
+    }
+    let firsts = sums(counts);
+    Frame {
+        answer: Framing::Framed,
+        counts,
+        firsts,
+    }
 }

@@ -1,1 +1,544 @@
+//! Damaged chart sets: every clause of refusals 1 to 9, one at a time or two together.
 
+use super::record_list::{not_zero, shared, Damage, RecordList};
+use crate::assemble;
+use crate::deeds::Deed;
+use crate::operators::*;
+use crate::random::Random;
+use crate::records::*;
+
+/// A damaged set with the refusal that must be given and the clauses broken.
+pub struct Damaged {
+    pub bytes: Vec<u8>,
+    pub number: u32,
+    pub clauses: Vec<&'static str>,
+}
+
+/// Breaks one clause of an accepted set; none if the set has nothing to break so.
+pub fn damage(random: &mut Random, set: &[u8], damage: &Damage) -> Option<Damaged> {
+    let mut list = RecordList::of(set);
+    (damage.apply)(random, &mut list)
+        .then(|| Damaged { bytes: list.bytes(), number: damage.number, clauses: vec![damage.clause] })
+}
+
+/// Breaks two clauses of different numbers; the lower number must be given. The higher is broken
+/// first, so that the lower is broken in what is then there.
+pub fn damage_twice(random: &mut Random, set: &[u8]) -> Option<Damaged> {
+    let (one, other) = (random.below(DAMAGES.len()), random.below(DAMAGES.len()));
+    let (low, high) = if DAMAGES[one].number < DAMAGES[other].number { (one, other) } else { (other, one) };
+    let (low, high) = (&DAMAGES[low], &DAMAGES[high]);
+    if low.number == high.number {
+        return None;
+    }
+    let mut list = RecordList::of(set);
+    let broken = (high.apply)(random, &mut list) && (low.apply)(random, &mut list);
+    broken.then(|| Damaged {
+        bytes: list.bytes(),
+        number: low.number,
+        clauses: vec![low.clause, high.clause],
+    })
+}
+
+macro_rules! damages {
+    ($($number:literal $clause:literal $apply:expr;)*) => {
+        &[$(Damage { number: $number, clause: $clause, apply: $apply }),*]
+    };
+}
+
+pub const DAMAGES: &[Damage] = damages! {
+    1 "a partial record" shared::partial_record;
+    1 "shortened" shared::shortened;
+    2 "unknown kind" unknown_kind;
+    2 "kind 0 first" kind_zero_first;
+    2 "unknown kind last" unknown_kind_last;
+    2 "descending kinds" shared::descending;
+    3 "no chart" |_, list| { list.remove_kind(CHART); true };
+    3 "no records" shared::empty;
+    3 "too many charts" |_, list| { list.fill(CHART, 9); true };
+    3 "too many states" |_, list| { list.fill(STATE, 129); true };
+    3 "too many transitions" |_, list| { list.fill(TRANSITION, 257); true };
+    3 "too many variables" |_, list| { list.fill(VARIABLE, 65); true };
+    3 "too many nodes" |_, list| { list.fill(NODE, 1_025); true };
+    3 "too many actions" |_, list| { list.fill(ACTION, 513); true };
+    4 "unnamed byte of a chart" |random, list| unnamed(random, list, CHART, &[1, 4, 5, 6, 7, 8, 9, 10, 11, 12, 13, 14, 15]);
+    4 "unnamed byte of a state" |random, list| unnamed(random, list, STATE, &[2, 3, 4, 5, 6, 7, 8, 9, 10, 11, 12, 13, 14, 15]);
+    4 "unnamed byte of a transition" |random, list| unnamed(random, list, TRANSITION, &[14, 15]);
+    4 "unnamed byte of a variable" |random, list| unnamed(random, list, VARIABLE, &[1, 8, 9, 10, 11, 12, 13, 14, 15]);
+    4 "unnamed byte of a node" |random, list| unnamed(random, list, NODE, &[12, 13, 14, 15]);
+    4 "unnamed byte of an action" |random, list| unnamed(random, list, ACTION, &[8, 9, 10, 11, 12, 13, 14, 15]);
+    4 "unused byte under no trigger" |random, list| unused(random, list, TRANSITION, 6, &[0], &[7, 8, 9, 10, 11]);
+    4 "unused byte under an event" |random, list| unused(random, list, TRANSITION, 6, &[1], &[8, 9, 10, 11]);
+    4 "unused byte under a time" |random, list| unused(random, list, TRANSITION, 6, &[2, 3], &[7]);
+    4 "unused byte of a constant" |random, list| unused(random, list, NODE, 1, &[1], &[2, 3, 4, 5, 6, 7]);
+    4 "unused byte of a variable's value" |random, list| unused(random, list, NODE, 1, &[2], &[4, 5, 6, 7, 8, 9, 10, 11]);
+    4 "unused byte of a binary operator" |random, list| unused(random, list, NODE, 1, &[3, 4, 5, 6, 7, 16, 17, 18, 20, 21], &[6, 7, 8, 9, 10, 11]);
+    4 "unused byte of a choice" |random, list| unused(random, list, NODE, 1, &[8], &[8, 9, 10, 11]);
+    4 "unused byte of a not" |random, list| unused(random, list, NODE, 1, &[19], &[4, 5, 6, 7, 8, 9, 10, 11]);
+    4 "unused byte of a raise" |random, list| unused(random, list, ACTION, 4, &[2], &[6, 7]);
+    4 "unused byte of a raise of unknown place" raise_of_unknown_place;
+    4 "unnamed byte under an unknown trigger" |random, list| unknown_code(random, list, TRANSITION, 6, &[14, 15]);
+    4 "unnamed byte under an unknown operator" |random, list| unknown_code(random, list, NODE, 1, &[12, 13, 14, 15]);
+    4 "unnamed byte under an unknown deed" |random, list| unknown_code(random, list, ACTION, 4, &[8, 9, 10, 11, 12, 13, 14, 15]);
+    5 "priority 0" |random, list| byte(random, list, TRANSITION, any, 1, &[0]);
+    5 "priority above 16" |random, list| byte(random, list, TRANSITION, any, 1, &[17, 18, 128, 255]);
+    5 "unknown trigger" |random, list| byte(random, list, TRANSITION, any, 6, &[4, 5, 255]);
+    5 "unknown trigger, bytes passed over" |random, list| unknown_code(random, list, TRANSITION, 6, &[7, 8, 9, 10, 11]);
+    5 "event above 31" |random, list| byte(random, list, TRANSITION, |r| r[6] == 1, 7, &[32, 33, 64, 255]);
+    5 "0 milliseconds" |random, list| milliseconds(random, list, &[0]);
+    5 "too many milliseconds" |random, list| milliseconds(random, list, &[3_600_001, 3_600_049, 1 << 31, u32::MAX]);
+    5 "start below lowest" |random, list| range(random, list, &[(0, 5, -1), (-1, 5, -2), (300, 400, 299), (-32_767, 0, -32_768)]);
+    5 "start above highest" |random, list| range(random, list, &[(0, 5, 6), (-5, -3, -2), (-5, -1, 0), (-400, 300, 301), (0, 32_766, 32_767)]);
+    5 "lowest above highest" |random, list| range(random, list, &[(5, -5, 0), (1, 0, 1), (1, 0, 0)]);
+    5 "unknown operator" |random, list| byte(random, list, NODE, any, 1, &[0, 9, 15, 22, 255]);
+    5 "unknown operator, bytes passed over" |random, list| unknown_code(random, list, NODE, 1, &[2, 3, 4, 5, 6, 7, 8, 9, 10, 11]);
+    5 "unknown place" |random, list| byte(random, list, ACTION, any, 1, &[0, 4, 255]);
+    5 "unknown deed" |random, list| byte(random, list, ACTION, any, 4, &[0, 3, 255]);
+    5 "unknown deed, bytes passed over" |random, list| unknown_code(random, list, ACTION, 4, &[6, 7]);
+    5 "raised event above 31" |random, list| byte(random, list, ACTION, |r| r[4] == RAISE, 5, &[32, 63, 64, 255]);
+    6 "no such initial state" |random, list| names_none(random, list, CHART, any, 2, STATE);
+    6 "no such chart" no_such_chart;
+    6 "no such source" |random, list| names_none(random, list, TRANSITION, any, 2, STATE);
+    6 "no such target" |random, list| names_none(random, list, TRANSITION, any, 4, STATE);
+    6 "no such guard" no_such_guard;
+    6 "no such variable read" |random, list| names_none(random, list, NODE, |r| r[1] == 2, 2, VARIABLE);
+    6 "no such first operand" |random, list| names_none(random, list, NODE, |r| r[1] >= 3, 2, NODE);
+    6 "no such second operand" |random, list| names_none(random, list, NODE, |r| r[1] >= 3 && r[1] != 19, 4, NODE);
+    6 "no such third operand" |random, list| names_none(random, list, NODE, |r| r[1] == 8, 6, NODE);
+    6 "no such state as owner" |random, list| names_none(random, list, ACTION, |r| r[1] != 3, 2, STATE);
+    6 "no such transition as owner" |random, list| names_none(random, list, ACTION, |r| r[1] == 3, 2, TRANSITION);
+    6 "no such variable assigned" no_such_variable_assigned;
+    6 "no such node assigned" |random, list| names_none(random, list, ACTION, |r| r[4] == 1, 6, NODE);
+    7 "target in another chart" target_elsewhere;
+    7 "source in another chart" source_elsewhere;
+    7 "initial state of another chart" initial_elsewhere;
+    7 "initial state that is not left" initial_not_left;
+    7 "initial state left twice" initial_left_twice;
+    7 "initial state left by a trigger" initial_trigger;
+    7 "initial state left by a guard" initial_guard;
+    7 "initial state entered" initial_entered;
+    7 "initial state with an entry action" |random, list| initial_action(random, list, ENTRY);
+    7 "initial state with an exit action" |random, list| initial_action(random, list, EXIT);
+    7 "equal priorities" equal_priorities;
+    7 "ninth action of a state" |random, list| ninth_action(random, list, STATE, &[ENTRY, EXIT]);
+    7 "ninth entry action" |random, list| ninth_action(random, list, STATE, &[ENTRY]);
+    7 "ninth action of a transition" |random, list| ninth_action(random, list, TRANSITION, &[ON_TRANSITION]);
+    8 "operand of its own" |random, list| operand_not_lower(random, list, true);
+    8 "operand higher" |random, list| operand_not_lower(random, list, false);
+    8 "truth where an operand is a number" number_operand_made_truth;
+    8 "number where an operand is a truth" truth_operand_made_number;
+    8 "guard that is a number" guard_made_number;
+    8 "assigned truth" assigned_made_truth;
+    8 "node used by nothing" unused_node;
+    8 "guard left out" guard_left_out;
+    8 "node used twice as a guard" guard_used_twice;
+    8 "node used twice as assigned" assigned_used_twice;
+    8 "node used twice as an operand" operand_used_twice;
+    8 "guard that is also an operand" guard_also_operand;
+    9 "timing trigger of 0 ticks" |random, list| milliseconds(random, list, &[1, 2, 25, 48, 49]);
+};
+
+fn any(_: &Record) -> bool {
+    true
+}
+
+fn unknown_kind(random: &mut Random, list: &mut RecordList) -> bool {
+    if list.records.is_empty() {
+        return false;
+    }
+    let at = random.below(list.records.len());
+    list.records[at][0] = random.pick(&[0, 7, 8, 33, 41, 129, 255]);
+    true
+}
+
+fn kind_zero_first(_: &mut Random, list: &mut RecordList) -> bool {
+    list.records.insert(0, [0; 16]);
+    true
+}
+
+fn unknown_kind_last(random: &mut Random, list: &mut RecordList) -> bool {
+    let mut record = [0; 16];
+    record[0] = random.u8_between(7, 255);
+    list.records.push(record);
+    true
+}
+
+fn unnamed(random: &mut Random, list: &mut RecordList, kind: u8, bytes: &[usize]) -> bool {
+    list.change(random, kind, any, |random, record| shared::stray(random, record, bytes))
+}
+
+/// A byte that is not used under one of the codes.
+fn unused(random: &mut Random, list: &mut RecordList, kind: u8, at: usize, codes: &[u8], bytes: &[usize]) -> bool {
+    list.change(random, kind, |r| codes.contains(&r[at]), |random, record| shared::stray(random, record, bytes))
+}
+
+/// An unknown code together with a byte other than zero.
+fn unknown_code(random: &mut Random, list: &mut RecordList, kind: u8, at: usize, bytes: &[usize]) -> bool {
+    list.change(random, kind, any, |random, record| {
+        record[at] = random.u8_between(22, 255);
+        shared::stray(random, record, bytes);
+    })
+}
+
+/// What a byte's use hangs on is the deed; an unknown place excuses none.
+fn raise_of_unknown_place(random: &mut Random, list: &mut RecordList) -> bool {
+    list.change(random, ACTION, |r| r[4] == RAISE, |random, record| {
+        record[1] = random.pick(&[0, 4, 200]);
+        shared::stray(random, record, &[6, 7]);
+    })
+}
+
+fn byte(random: &mut Random, list: &mut RecordList, kind: u8, fits: fn(&Record) -> bool, at: usize, values: &[u8]) -> bool {
+    list.change(random, kind, fits, |random, record| record[at] = random.pick(values))
+}
+
+fn milliseconds(random: &mut Random, list: &mut RecordList, values: &[u32]) -> bool {
+    let timed = |r: &Record| r[6] == AFTER || r[6] == EVERY;
+    list.change(random, TRANSITION, timed, |random, record| write_u32(record, 8, random.pick(values)))
+}
+
+fn range(random: &mut Random, list: &mut RecordList, values: &[(i16, i16, i16)]) -> bool {
+    list.change(random, VARIABLE, any, |random, record| {
+        let (lowest, highest, start) = random.pick(values);
+        write_i16(record, 2, lowest);
+        write_i16(record, 4, highest);
+        write_i16(record, 6, start);
+    })
+}
+
+/// A 16-bit number that names no record of a kind: the first past them, or a far one.
+fn beyond(random: &mut Random, list: &RecordList, kind: u8) -> u16 {
+    let count = u16::try_from(list.count(kind)).expect("at most 1,024");
+    let far = random.u16_between(count, u16::MAX);
+    random.pick(&[count, count, far, u16::MAX])
+}
+
+fn names_none(random: &mut Random, list: &mut RecordList, kind: u8, fits: fn(&Record) -> bool, at: usize, named: u8) -> bool {
+    let number = beyond(random, list, named);
+    list.change(random, kind, fits, |_, record| write_u16(record, at, number))
+}
+
+fn no_such_chart(random: &mut Random, list: &mut RecordList) -> bool {
+    let charts = u8::try_from(list.count(CHART)).expect("at most 8");
+    list.change(random, STATE, any, |random, record| record[1] = random.pick(&[charts, charts + 1, 255]))
+}
+
+/// 65,535 means none for a guard, so it is left out here.
+fn no_such_guard(random: &mut Random, list: &mut RecordList) -> bool {
+    let number = beyond(random, list, NODE).min(u16::MAX - 1);
+    list.change(random, TRANSITION, any, |_, record| write_u16(record, 12, number))
+}
+
+fn no_such_variable_assigned(random: &mut Random, list: &mut RecordList) -> bool {
+    let variables = u8::try_from(list.count(VARIABLE)).expect("at most 64");
+    list.change(random, ACTION, |r| r[4] == ASSIGN, |random, record| {
+        record[5] = random.pick(&[variables, variables + 1, 64, 255]);
+    })
+}
+
+fn chart_of(list: &RecordList, state: usize) -> u8 {
+    list.get(STATE, state)[1]
+}
+
+fn initial_states(list: &RecordList) -> Vec<u16> {
+    list.numbers(CHART, any).iter().map(|chart| read_u16(&list.get(CHART, *chart), 2)).collect()
+}
+
+/// States that are no initial ones and fit.
+fn plain_states(list: &RecordList, fits: impl Fn(usize) -> bool) -> Vec<u16> {
+    let initial = initial_states(list);
+    let states = list.numbers(STATE, any).into_iter().filter(|state| fits(*state));
+    let numbers = states.map(|state| u16::try_from(state).expect("at most 128"));
+    numbers.filter(|state| !initial.contains(state)).collect()
+}
+
+/// A transition that leaves no initial state, or one that does.
+fn pick_transition(random: &mut Random, list: &RecordList, from_initial: bool) -> Option<(usize, Record)> {
+    let initial = initial_states(list);
+    let number = list.pick(random, TRANSITION, |r| initial.contains(&read_u16(r, 2)) == from_initial)?;
+    Some((number, list.get(TRANSITION, number)))
+}
+
+fn move_end(random: &mut Random, list: &mut RecordList, at: usize, end: u16, number: usize) -> bool {
+    let other = plain_states(list, |state| chart_of(list, state) != chart_of(list, usize::from(end)));
+    if other.is_empty() {
+        return false;
+    }
+    let mut record = list.get(TRANSITION, number);
+    write_u16(&mut record, at, random.pick(&other));
+    list.set(TRANSITION, number, record);
+    true
+}
+
+fn target_elsewhere(random: &mut Random, list: &mut RecordList) -> bool {
+    let any_initial = random.chance(1, 3);
+    let Some((number, record)) = pick_transition(random, list, any_initial) else { return false };
+    move_end(random, list, 4, read_u16(&record, 4), number)
+}
+
+fn source_elsewhere(random: &mut Random, list: &mut RecordList) -> bool {
+    let Some((number, record)) = pick_transition(random, list, false) else { return false };
+    move_end(random, list, 2, read_u16(&record, 2), number)
+}
+
+fn initial_elsewhere(random: &mut Random, list: &mut RecordList) -> bool {
+    let initial = initial_states(list);
+    if initial.len() < 2 {
+        return false;
+    }
+    let one = random.below(initial.len());
+    let other = (one + 1) % initial.len();
+    let mut record = list.get(CHART, one);
+    write_u16(&mut record, 2, initial[other]);
+    list.set(CHART, one, record);
+    true
+}
+
+/// The initial state's transition leaves another state of its chart instead.
+fn initial_not_left(random: &mut Random, list: &mut RecordList) -> bool {
+    let Some((number, mut record)) = pick_transition(random, list, true) else { return false };
+    let source = usize::from(read_u16(&record, 2));
+    let others = plain_states(list, |state| chart_of(list, state) == chart_of(list, source));
+    write_u16(&mut record, 2, random.pick(&others));
+    list.set(TRANSITION, number, record);
+    true
+}
+
+/// Another transition of the chart, of another priority, leaves the initial state too.
+fn initial_left_twice(random: &mut Random, list: &mut RecordList) -> bool {
+    let Some((number, mut record)) = pick_transition(random, list, false) else { return false };
+    let chart = chart_of(list, usize::from(read_u16(&record, 2)));
+    let initial = initial_states(list)[usize::from(chart)];
+    let plain = list.numbers(TRANSITION, |r| read_u16(r, 2) == initial);
+    let taken = list.get(TRANSITION, plain[0])[1];
+    record[1] = if taken == 16 { 1 } else { taken + 1 };
+    write_u16(&mut record, 2, initial);
+    list.set(TRANSITION, number, record);
+    true
+}
+
+fn initial_trigger(random: &mut Random, list: &mut RecordList) -> bool {
+    let Some((number, record)) = pick_transition(random, list, true) else { return false };
+    let changed = match random.below(3) {
+        0 => assemble::on_event(record, random.u8_between(0, 31)),
+        1 => assemble::after(record, 300),
+        _ => assemble::every(record, 300),
+    };
+    list.set(TRANSITION, number, changed);
+    true
+}
+
+fn initial_guard(random: &mut Random, list: &mut RecordList) -> bool {
+    let nodes = list.count(NODE);
+    let Some((number, record)) = pick_transition(random, list, true) else { return false };
+    if nodes == 0 {
+        return false;
+    }
+    let guard = random.index(nodes);
+    list.set(TRANSITION, number, assemble::guarded(record, guard));
+    true
+}
+
+fn initial_entered(random: &mut Random, list: &mut RecordList) -> bool {
+    let from_initial = random.chance(1, 4);
+    let Some((number, mut record)) = pick_transition(random, list, from_initial) else { return false };
+    let chart = chart_of(list, usize::from(read_u16(&record, 2)));
+    write_u16(&mut record, 4, initial_states(list)[usize::from(chart)]);
+    list.set(TRANSITION, number, record);
+    true
+}
+
+/// Adds a raise; a full file has an action replaced, which may leave a node without use, but 8 is
+/// a higher number than 7.
+fn add_raise(random: &mut Random, list: &mut RecordList, place: u8, owner: u16) {
+    let raise = assemble::action(place, owner, Deed::Raise { event: random.u8_between(0, 31) });
+    if list.count(ACTION) < 512 {
+        list.append(raise);
+    } else {
+        let not_of_owner = |r: &Record| (r[1] == ON_TRANSITION) != (place == ON_TRANSITION) || read_u16(r, 2) != owner;
+        list.change(random, ACTION, not_of_owner, |_, record| *record = raise);
+    }
+}
+
+fn initial_action(random: &mut Random, list: &mut RecordList, place: u8) -> bool {
+    let owner = random.pick(&initial_states(list));
+    add_raise(random, list, place, owner);
+    true
+}
+
+fn equal_priorities(random: &mut Random, list: &mut RecordList) -> bool {
+    let shares_source = |r: &Record| list.numbers(TRANSITION, |o| read_u16(o, 2) == read_u16(r, 2)).len() > 1;
+    let Some(number) = list.pick(random, TRANSITION, shares_source) else { return false };
+    let mut record = list.get(TRANSITION, number);
+    let same = list.numbers(TRANSITION, |o| read_u16(o, 2) == read_u16(&record, 2));
+    let others: Vec<usize> = same.into_iter().filter(|other| *other != number).collect();
+    record[1] = list.get(TRANSITION, random.pick(&others))[1];
+    list.set(TRANSITION, number, record);
+    true
+}
+
+fn ninth_action(random: &mut Random, list: &mut RecordList, owners: u8, places: &[u8]) -> bool {
+    let owner = match owners {
+        STATE => random.pick(&plain_states(list, |_| true)),
+        _ => random.index(list.count(TRANSITION)),
+    };
+    let own = |r: &Record| places.contains(&r[1]) && read_u16(r, 2) == owner;
+    while list.numbers(ACTION, own).len() < 9 {
+        let place = random.pick(places);
+        add_raise(random, list, place, owner);
+    }
+    true
+}
+
+/// Where the operands of a node stand, with the sort each must have.
+fn operand_places(record: &Record) -> Vec<(usize, Sort)> {
+    let sorts: &[Sort] = match record[1] {
+        3..=7 | 16..=18 => &[Sort::Number, Sort::Number],
+        8 => &[Sort::Truth, Sort::Number, Sort::Number],
+        19 => &[Sort::Truth],
+        20 | 21 => &[Sort::Truth, Sort::Truth],
+        _ => &[],
+    };
+    [2, 4, 6].into_iter().zip(sorts.iter().copied()).collect()
+}
+
+/// Node, place and operand of every operand of a sort.
+fn operands_of(list: &RecordList, sort: Sort) -> Vec<(usize, usize, u16)> {
+    let mut found = Vec::new();
+    for number in list.numbers(NODE, any) {
+        let record = list.get(NODE, number);
+        let places = operand_places(&record).into_iter().filter(|(_, takes)| *takes == sort);
+        found.extend(places.map(|(at, _)| (number, at, read_u16(&record, at))));
+    }
+    found
+}
+
+fn set_operand(list: &mut RecordList, node: usize, at: usize, operand: u16) {
+    let mut record = list.get(NODE, node);
+    write_u16(&mut record, at, operand);
+    list.set(NODE, node, record);
+}
+
+/// Two nodes exchange operands of one sort, so that one gets an operand not lower: itself, or a
+/// higher one. Every node is still used once.
+fn operand_not_lower(random: &mut Random, list: &mut RecordList, itself: bool) -> bool {
+    let sort = random.pick(&[Sort::Number, Sort::Truth]);
+    let operands = operands_of(list, sort);
+    let mut swaps = Vec::new();
+    for (own, at, operand) in &operands {
+        let wrong = |other: &&(usize, usize, u16)| {
+            let number = usize::from(other.2);
+            if itself { number == *own } else { number > *own }
+        };
+        if let Some(other) = operands.iter().find(wrong) {
+            swaps.push(((*own, *at, *operand), *other));
+        }
+    }
+    if swaps.is_empty() {
+        return false;
+    }
+    let (one, other) = random.pick(&swaps);
+    set_operand(list, one.0, one.1, other.2);
+    set_operand(list, other.0, other.1, one.2);
+    true
+}
+
+/// A binary number operator becomes a comparison, or the other way: the operands still fit.
+fn change_sort(random: &mut Random, list: &mut RecordList, node: usize) -> bool {
+    let mut record = list.get(NODE, node);
+    record[1] = match record[1] {
+        3..=7 => random.u8_between(EQUAL, AT_MOST),
+        16..=18 => random.u8_between(SUM, REMAINDER),
+        _ => return false,
+    };
+    list.set(NODE, node, record);
+    true
+}
+
+fn binary(list: &RecordList, node: u16) -> bool {
+    matches!(list.get(NODE, usize::from(node))[1], 3..=7 | 16..=18)
+}
+
+fn change_one_sort(random: &mut Random, list: &mut RecordList, nodes: Vec<u16>) -> bool {
+    let fit: Vec<u16> = nodes.into_iter().filter(|node| binary(list, *node)).collect();
+    if fit.is_empty() {
+        return false;
+    }
+    let node = random.pick(&fit);
+    change_sort(random, list, usize::from(node))
+}
+
+fn number_operand_made_truth(random: &mut Random, list: &mut RecordList) -> bool {
+    let operands = operands_of(list, Sort::Number).into_iter().map(|(_, _, operand)| operand).collect();
+    change_one_sort(random, list, operands)
+}
+
+fn truth_operand_made_number(random: &mut Random, list: &mut RecordList) -> bool {
+    let operands = operands_of(list, Sort::Truth).into_iter().map(|(_, _, operand)| operand).collect();
+    change_one_sort(random, list, operands)
+}
+
+fn guards(list: &RecordList) -> Vec<u16> {
+    let guarded = list.numbers(TRANSITION, |r| read_u16(r, 12) != NONE);
+    guarded.iter().map(|number| read_u16(&list.get(TRANSITION, *number), 12)).collect()
+}
+
+fn assigned(list: &RecordList) -> Vec<u16> {
+    let assigning = list.numbers(ACTION, |r| r[4] == ASSIGN);
+    assigning.iter().map(|number| read_u16(&list.get(ACTION, *number), 6)).collect()
+}
+
+fn guard_made_number(random: &mut Random, list: &mut RecordList) -> bool {
+    change_one_sort(random, list, guards(list))
+}
+
+fn assigned_made_truth(random: &mut Random, list: &mut RecordList) -> bool {
+    change_one_sort(random, list, assigned(list))
+}
+
+fn unused_node(random: &mut Random, list: &mut RecordList) -> bool {
+    if list.count(NODE) == 1_024 {
+        return false;
+    }
+    let value = i32::from(not_zero(random));
+    list.append(assemble::node(NODE, &assemble::constant(value)));
+    true
+}
+
+fn guard_left_out(random: &mut Random, list: &mut RecordList) -> bool {
+    list.change(random, TRANSITION, |r| read_u16(r, 12) != NONE, |_, record| write_u16(record, 12, NONE))
+}
+
+fn guard_used_twice(random: &mut Random, list: &mut RecordList) -> bool {
+    let guards = guards(list);
+    let initial = initial_states(list);
+    let free = |r: &Record| read_u16(r, 12) == NONE && !initial.contains(&read_u16(r, 2));
+    !guards.is_empty()
+        && list.change(random, TRANSITION, free, |random, record| write_u16(record, 12, random.pick(&guards)))
+}
+
+fn assigned_used_twice(random: &mut Random, list: &mut RecordList) -> bool {
+    let assigned = assigned(list);
+    list.change(random, ACTION, |r| r[4] == ASSIGN, |random, record| {
+        let others: Vec<u16> = assigned.iter().copied().filter(|node| *node != read_u16(record, 6)).collect();
+        if !others.is_empty() {
+            write_u16(record, 6, random.pick(&others));
+        }
+    }) && assigned.len() > 1
+}
+
+/// A binary node takes its first operand twice; both sorts are the same.
+fn operand_used_twice(random: &mut Random, list: &mut RecordList) -> bool {
+    let binary = |r: &Record| matches!(r[1], 3..=7 | 16..=18 | 20 | 21);
+    list.change(random, NODE, binary, |_, record| {
+        let first = read_u16(record, 2);
+        write_u16(record, 4, first);
+    })
+}
+
+/// A guard names a truth that is an operand already.
+fn guard_also_operand(random: &mut Random, list: &mut RecordList) -> bool {
+    let truths: Vec<u16> = operands_of(list, Sort::Truth).into_iter().map(|(_, _, operand)| operand).collect();
+    let guarded = |r: &Record| read_u16(r, 12) != NONE;
+    !truths.is_empty()
+        && list.change(random, TRANSITION, guarded, |random, record| write_u16(record, 12, random.pick(&truths)))
+}

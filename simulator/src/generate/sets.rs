@@ -47,8 +47,9 @@ impl Plan {
             variables,
             actions,
             nodes,
-            daring_guards: random.pick(&[0, 0, 1, 4]),
-            daring_deeds: random.pick(&[0, 0, 1, 8]),
+            // In the largest sets there are enough expressions for a few daring ones to be met.
+            daring_guards: random.pick(if exact { &[0, 0, 1, 1] } else { &[0, 0, 1, 4] }),
+            daring_deeds: random.pick(if exact { &[0, 0, 0, 1] } else { &[0, 0, 1, 6] }),
             events: (0..2 + random.below(5)).map(|_| random.u8_between(0, EVENTS - 1)).collect(),
         }
     }

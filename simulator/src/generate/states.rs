@@ -1,1 +1,198 @@
+//! Runs to call with: reached ones, late ones near the last cycle, and corrupted for each clause
+//! of check 12.
 
+use super::calls::{call_list, events_of_set, events_of_table};
+use crate::automata::AutomataTable;
+use crate::charts::ChartSet;
+use crate::random::Random;
+use crate::runs::{AutomataRun, ChartsRun, CHART_PLACES, CLOCK_PLACES};
+use crate::timing::MOST_CYCLES;
+use crate::variables::{Variable, VARIABLE_PLACES};
+
+/// A run that some calls have led to; the fresh one if there are none.
+pub fn reached_charts(random: &mut Random, set: &ChartSet, calls: usize) -> ChartsRun {
+    let mut run = set.start();
+    for call in call_list(random, set.charts(), events_of_set(set), calls) {
+        // A refused or faulting call leaves the run as it was.
+        let _ = call.on_charts(set, &mut run);
+    }
+    run
+}
+
+pub fn reached_automata(random: &mut Random, table: &AutomataTable, calls: usize) -> AutomataRun {
+    let mut run = table.start();
+    for call in call_list(random, table.automata(), events_of_table(table), calls) {
+        let _ = call.on_automata(table, &mut run);
+    }
+    run
+}
+
+/// A cycle count at the end of what a run may do; past position 1 the last cycle is begun.
+pub fn late_count(random: &mut Random, position: u32) -> u32 {
+    let left = random.u32_between(0, 3);
+    if position == 1 {
+        MOST_CYCLES - left
+    } else {
+        MOST_CYCLES - 1 - left
+    }
+}
+
+pub fn late_charts(random: &mut Random, set: &ChartSet, calls: usize) -> ChartsRun {
+    let run = reached_charts(random, set, calls);
+    ChartsRun { cycles: late_count(random, run.position), ..run }
+}
+
+pub fn late_automata(random: &mut Random, table: &AutomataTable, calls: usize) -> AutomataRun {
+    let run = reached_automata(random, table, calls);
+    AutomataRun { cycles: late_count(random, run.position), ..run }
+}
+
+/// A run of any bits, so that most places are impossible.
+pub fn wild_charts(random: &mut Random) -> ChartsRun {
+    let mut run = ChartsRun::ZERO;
+    run.states.fill_with(|| random.u16_between(0, 200));
+    run.ages.fill_with(|| random.u32_between(0, 10));
+    run.variables.fill_with(|| random.i16_between(i16::MIN, i16::MAX));
+    run.events = random.u32_between(0, u32::MAX);
+    run.position = random.u32_between(0, 12);
+    run.cycles = random.pick(&[0, 7, 999_999, 1_000_000, 1_000_001, u32::MAX]);
+    run
+}
+
+pub fn wild_automata(random: &mut Random) -> AutomataRun {
+    let mut run = AutomataRun::ZERO;
+    run.locations.fill_with(|| random.u16_between(0, 200));
+    run.clocks.fill_with(|| random.u16_between(0, u16::MAX));
+    run.variables.fill_with(|| random.i16_between(i16::MIN, i16::MAX));
+    run.events = random.u32_between(0, u32::MAX);
+    run.position = random.u32_between(0, 12);
+    run.cycles = random.pick(&[0, 7, 999_999, 1_000_000, 1_000_001, u32::MAX]);
+    run
+}
+
+/// Makes a possible run impossible by one clause of check 12. False where the set has nothing for
+/// it; then the run is as it was.
+pub struct Corruption<Table, Run> {
+    pub clause: &'static str,
+    pub apply: fn(&mut Random, &Table, &mut Run) -> bool,
+}
+
+macro_rules! corruptions {
+    ($($clause:literal $apply:expr;)*) => {
+        &[$(Corruption { clause: $clause, apply: $apply }),*]
+    };
+}
+
+pub const CHARTS_CORRUPTIONS: &[Corruption<ChartSet, ChartsRun>] = corruptions! {
+    "state of another chart" |random, set, run| foreign(random, &set.chart_of, set.charts(), &mut run.states);
+    "no such state" |random, set, run| no_such(random, set.chart_of.len(), set.charts(), &mut run.states);
+    "unused state" |random, set, run| unused(random, set.charts(), CHART_PLACES).map(|at| run.states[at] = 1).is_some();
+    "age over cycle count" |random, set, run| { run.ages[random.below(set.charts())] = run.cycles + 1; true };
+    "age far over cycle count" |random, set, run| { run.ages[random.below(set.charts())] = u32::MAX; true };
+    "unused age" |random, set, run| unused(random, set.charts(), CHART_PLACES).map(|at| run.ages[at] = 1).is_some();
+    "variable too low" |random, set, run| too_low(random, &set.variables, &mut run.variables);
+    "variable too high" |random, set, run| too_high(random, &set.variables, &mut run.variables);
+    "unused variable" |random, set, run| unused(random, set.variables.len(), VARIABLE_PLACES).map(|at| run.variables[at] = -1).is_some();
+    "position 0" |_, _, run| { run.position = 0; true };
+    "position over n + 1" |random, set, run| { run.position = past(random, set.charts()); true };
+    "count over 1,000,000" |random, _, run| over(random, run.position, &mut run.cycles);
+    "count 1,000,000 past position 1" |_, _, run| last(run.position, &mut run.cycles);
+    "events at position 1" |random, _, run| early(random, run.position, &mut run.events);
+};
+
+pub const AUTOMATA_CORRUPTIONS: &[Corruption<AutomataTable, AutomataRun>] = corruptions! {
+    "location of another automaton" |random, table, run| foreign(random, &table.automaton_of, table.automata(), &mut run.locations);
+    "no such location" |random, table, run| no_such(random, table.automaton_of.len(), table.automata(), &mut run.locations);
+    "unused location" |random, table, run| unused(random, table.automata(), CHART_PLACES).map(|at| run.locations[at] = 1).is_some();
+    "clock over its top" clock_over_top;
+    "unused clock" |random, table, run| unused(random, table.clocks.len(), CLOCK_PLACES).map(|at| run.clocks[at] = 1).is_some();
+    "variable too low" |random, table, run| too_low(random, &table.variables, &mut run.variables);
+    "variable too high" |random, table, run| too_high(random, &table.variables, &mut run.variables);
+    "unused variable" |random, table, run| unused(random, table.variables.len(), VARIABLE_PLACES).map(|at| run.variables[at] = 7).is_some();
+    "position 0" |_, _, run| { run.position = 0; true };
+    "position over n + 1" |random, table, run| { run.position = past(random, table.automata()); true };
+    "count over 1,000,000" |random, _, run| over(random, run.position, &mut run.cycles);
+    "count 1,000,000 past position 1" |_, _, run| last(run.position, &mut run.cycles);
+    "events at position 1" |random, _, run| early(random, run.position, &mut run.events);
+};
+
+fn foreign(random: &mut Random, owner: &[u8], charts: usize, present: &mut [u16; CHART_PLACES]) -> bool {
+    let chart = random.below(charts);
+    let others: Vec<u16> =
+        (0u16..).zip(owner).filter(|(_, of)| usize::from(**of) != chart).map(|(state, _)| state).collect();
+    if others.is_empty() {
+        return false;
+    }
+    present[chart] = random.pick(&others);
+    true
+}
+
+fn no_such(random: &mut Random, states: usize, charts: usize, present: &mut [u16; CHART_PLACES]) -> bool {
+    let first = u16::try_from(states).expect("at most 128");
+    present[random.below(charts)] = random.pick(&[first, first + 1, u16::MAX]);
+    true
+}
+
+/// A place past those in use.
+fn unused(random: &mut Random, used: usize, places: usize) -> Option<usize> {
+    (used < places).then(|| {
+        let some = used + random.below(places - used);
+        random.pick(&[used, places - 1, some])
+    })
+}
+
+fn clock_over_top(random: &mut Random, table: &AutomataTable, run: &mut AutomataRun) -> bool {
+    if table.clocks.is_empty() {
+        return false;
+    }
+    let clock = random.below(table.clocks.len());
+    let top = table.clocks[clock].top();
+    run.clocks[clock] = random.pick(&[top + 1, top + 1, u16::MAX]);
+    true
+}
+
+fn too_low(random: &mut Random, variables: &[Variable], values: &mut [i16]) -> bool {
+    let fit: Vec<usize> = (0..variables.len()).filter(|at| variables[*at].lowest > i16::MIN).collect();
+    if fit.is_empty() {
+        return false;
+    }
+    let at = random.pick(&fit);
+    values[at] = random.pick(&[variables[at].lowest - 1, i16::MIN]);
+    true
+}
+
+fn too_high(random: &mut Random, variables: &[Variable], values: &mut [i16]) -> bool {
+    let fit: Vec<usize> = (0..variables.len()).filter(|at| variables[*at].highest < i16::MAX).collect();
+    if fit.is_empty() {
+        return false;
+    }
+    let at = random.pick(&fit);
+    values[at] = random.pick(&[variables[at].highest + 1, i16::MAX]);
+    true
+}
+
+fn past(random: &mut Random, charts: usize) -> u32 {
+    let last = u32::try_from(charts).expect("at most 8") + 1;
+    random.pick(&[last + 1, last + 2, u32::MAX])
+}
+
+fn over(random: &mut Random, position: u32, cycles: &mut u32) -> bool {
+    if position == 1 {
+        *cycles = random.pick(&[MOST_CYCLES + 1, u32::MAX]);
+    }
+    position == 1
+}
+
+fn last(position: u32, cycles: &mut u32) -> bool {
+    if position > 1 {
+        *cycles = MOST_CYCLES;
+    }
+    position > 1
+}
+
+fn early(random: &mut Random, position: u32, events: &mut u32) -> bool {
+    if position == 1 {
+        *events = random.pick(&[1, 1 << 31, u32::MAX]);
+    }
+    position == 1
+}

@@ -1,0 +1,327 @@
+-- Laws of framing: the tests of the kinds one record at a time, the counts, and where a kind's records stand. Assumes nothing.
+use mathlib.Core.Path.{_≡_, refl, sym, ap, _∙_, subst}
+use mathlib.Core.Bool.{Bool, true, false, not, cond, _&&_, _||_}
+use mathlib.Core.Option.{Option, some, none}
+use mathlib.Core.List.{List, [], _∷_, _++_, map}
+use Prim.Native.Nat.{ℕ, zero, suc, _+_, _-_, _*_, _/_, _≤_, _<_, zero-le}
+use native.Mathlib.Nat.{add-zero, zero-add, le-refl, lt-irrefl}
+use native.Mathlib.Numerals.{add-one}
+use native.Mathlib.Omega.{arith}
+use borrow.Author.Count.{below-more}
+use borrow.Author.Tests.{lt-ltb, le-ltb, le-leb, lt-leb, eq-eqb, ne-eqb, leb-true, leb-false, ltb-true, ltb-false, eqb-true, eqb-false}
+use lib.Dec.{T, leb, ltb, eqb}
+use lib.ListN.{length, getD, take, drop, set, replicate, length-take, drop-of-length-le}
+use lib.Seq.{getD-set-same, getD-set-other, ext-getD, drop-cons}
+use Rattle.records.specs.Lists.{all, any, count, keep, from, upto, mapFrom, ascending}
+use Rattle.records.specs.Bytes.{byte, records, kind, ofKind}
+use Rattle.records.specs.Framing.{known, howMany, firstOf, kinds, oddLength, unorderedKinds, wrongAmounts, framing, counts, firsts}
+use Rattle.records.specs.Refusal.{Refusal, odd-length, unordered-kinds, wrong-amounts, lowest}
+use Rattle.records.specs.Frame.{framingOf, unlessRefused, IsFrame, exceeds, sumTo}
+use Rattle.records.specs.declared.Frame.{Frame}
+use Rattle.records.proofs.Records.{recordAt, byte-record, rest, rest-one, rest-none, length-records}
+
+pub impossible : {A : Type 0} → true ≡ false → A
+impossible e = absurd (subst T e tt)
+
+-- ---- how many pass a test
+
+module _ {A : Type 0} (p : A → Bool) where
+  pub count-le : (xs : List A) → count p xs ≤ length xs
+  unfolding count
+  count-le [] = zero-le
+  count-le (x ∷ xs) = go (p x) (count-le xs)
+    where
+      go : (b : Bool) → count p xs ≤ length xs → cond b (suc (count p xs)) (count p xs) ≤ suc (length xs)
+      go true h = omega arith
+      go false h = omega arith
+
+  pub length-keep : (xs : List A) → length (keep p xs) ≡ count p xs
+  unfolding count keep
+  length-keep [] = refl
+  length-keep (x ∷ xs) = go (p x) (length-keep xs)
+    where
+      go : (b : Bool) → length (keep p xs) ≡ count p xs → length (cond b (x ∷ keep p xs) (keep p xs)) ≡ cond b (suc (count p xs)) (count p xs)
+      go true h = ap suc h
+      go false h = h
+
+pub howMany-le : (k : ℕ) (s : List ℕ) → howMany k s ≤ length s / 16
+howMany-le k s = rw length-records at (count-le (λ r. eqb (kind r) k) (records s))
+
+-- ---- kinds, known and ascending
+
+module _ (first : ℕ) (most : List ℕ) where
+  -- one is unknown, or they do not ascend from the latest on
+  abbrev pub disorder : ℕ → List ℕ → Bool
+  disorder latest ks = not (all (known first most) ks) || not (ascending (latest ∷ ks))
+
+  true-or : (b : Bool) → (b || true) ≡ true
+  true-or true = refl
+  true-or false = refl
+
+  pub unknown-one : (latest k : ℕ) (ks : List ℕ) → known first most k ≡ false → disorder latest (k ∷ ks) ≡ true
+  unfolding all
+  unknown-one latest k ks e = rw e
+
+  pub descending-one : (latest k : ℕ) (ks : List ℕ) → k < latest → disorder latest (k ∷ ks) ≡ true
+  unfolding ascending
+  descending-one latest k ks h = rw (lt-leb latest k h) (true-or (not (all (known first most) (k ∷ ks))))
+
+  pub next-one : (latest k : ℕ) (ks : List ℕ) → known first most k ≡ true → latest ≤ k → disorder latest (k ∷ ks) ≡ disorder k ks
+  unfolding all ascending
+  next-one latest k ks e h = rw (e, le-leb latest k h)
+
+  -- at first the latest is the format's first kind
+  pub disorder-first : (s : List ℕ) → unorderedKinds first most s ≡ disorder first (kinds first most s)
+  unfolding all ascending
+  disorder-first s = go (map kind (records s))
+    where
+      go : (ks : List ℕ) → (not (all (known first most) ks) || not (ascending ks)) ≡ disorder first ks
+      go [] = refl
+      go (k ∷ ks) = by (known first most k) refl (leb first k) refl
+        where
+          by : (a : Bool) → known first most k ≡ a → (b : Bool) → leb first k ≡ b →
+              (not (a && all (known first most) ks) || not (ascending (k ∷ ks))) ≡ (not (a && all (known first most) ks) || not (b && ascending (k ∷ ks)))
+          by false ea b eb = refl
+          by true ea true eb = refl
+          by true ea false eb = impossible (sym ea ∙ rw eb)
+
+-- ---- the counts, one record at a time
+
+pub counted : (first k j : ℕ) (ns r : List ℕ) (rs : List (List ℕ)) (n : ℕ) → kind r ≡ first + k → k < length ns →
+    getD ns j 0 + count (λ r. eqb (kind r) (first + j)) (r ∷ rs) ≡ n →
+    getD (set ns k (getD ns k 0 + 1)) j 0 + count (λ r. eqb (kind r) (first + j)) rs ≡ n
+unfolding count
+counted first k j ns r rs n e h before = go (eqb (kind r) (first + j)) refl before
+  where
+    go : (b : Bool) → eqb (kind r) (first + j) ≡ b → getD ns j 0 + cond b (suc (count (λ r. eqb (kind r) (first + j)) rs)) (count (λ r. eqb (kind r) (first + j)) rs) ≡ n →
+        getD (set ns k (getD ns k 0 + 1)) j 0 + count (λ r. eqb (kind r) (first + j)) rs ≡ n
+    go true t m =
+        let at : kind r ≡ first + j = eqb-true (kind r) (first + j) t in
+        let here : j ≡ k = omega arith in
+        let m' : getD ns k 0 + suc (count (λ r. eqb (kind r) (first + k)) rs) ≡ n = rw here at m in
+        rw (here, getD-set-same ns k (getD ns k 0 + 1) 0 h) (omega arith)
+    go false t m =
+        let apart : j ≡ k → ⊥ = λ here. eqb-false (kind r) (first + j) t (e ∙ ap (λ i. first + i) (sym here)) in
+        rw (getD-set-other ns k j (getD ns k 0 + 1) 0 apart) m
+
+-- ---- tables of the numbers below n
+
+module _ {A : Type 0} (f : ℕ → A) where
+  getD-from : (d : A) (k n j : ℕ) → j < n → getD (map f (from k n)) j d ≡ f (k + j)
+  unfolding from
+  getD-from d k zero j h = absurd (omega arith)
+  getD-from d k (suc n) zero h = ap f (let e : k ≡ k + 0 = omega arith in e)
+  getD-from d k (suc n) (suc j) h = getD-from d (suc k) n j (omega arith) ∙ ap f (let e : suc k + j ≡ k + suc j = omega arith in e)
+
+  length-from : (k n : ℕ) → length (map f (from k n)) ≡ n
+  unfolding from
+  length-from k zero = refl
+  length-from k (suc n) = ap suc (length-from (suc k) n)
+
+  pub getD-upto : (d : A) (n j : ℕ) → j < n → getD (map f (upto n)) j d ≡ f j
+  getD-upto d n j h = getD-from d 0 n j h ∙ ap f (let e : 0 + j ≡ j = omega arith in e)
+
+  pub is-table : (d : A) (n : ℕ) (l : List A) → length l ≡ n → ((j : ℕ) → j < n → getD l j d ≡ f j) → l ≡ map f (upto n)
+  is-table d n l e h = ext-getD d l (map f (upto n)) (e ∙ sym (length-from 0 n)) (λ j b. let c : j < n = omega arith in h j c ∙ sym (getD-upto d n j c))
+
+  -- one more of it is written
+  pub table-more : (d : A) (k : ℕ) (l : List A) → k < length l → ((j : ℕ) → j < k → getD l j d ≡ f j) → (j : ℕ) → j < k + 1 → getD (set l k (f k)) j d ≡ f j
+  table-more d k l h so-far =
+      below-more (λ j. getD (set l k (f k)) j d ≡ f j) k
+      (λ j b. getD-set-other l k j (f k) d (λ e. lt-irrefl k (omega arith)) ∙ so-far j b)
+      (getD-set-same l k (f k) d h)
+
+-- ---- a pass over the records
+
+pub kind-record : (s : List ℕ) (i : ℕ) → kind (recordAt s i) ≡ byte s (16 * i)
+kind-record s i = byte-record s i 0 (omega arith) ∙ ap (byte s) (add-zero (16 * i))
+
+kinds-one : (s : List ℕ) (i : ℕ) → i < length s / 16 → map kind (rest s i) ≡ byte s (16 * i) ∷ map kind (rest s (i + 1))
+kinds-one s i h = ap (map kind) (rest-one s i h) ∙ ap (λ k. k ∷ map kind (rest s (i + 1))) (kind-record s i)
+
+module _ (first : ℕ) (most : List ℕ) (k : ℕ) where
+  pub known-not-below : k < first → known first most k ≡ false
+  known-not-below h = rw (lt-leb first k h)
+
+  pub known-not-above : first + length (take 9 most) ≤ k → known first most k ≡ false
+  known-not-above h = rw (le-leb first k (omega arith), le-ltb k (first + length (take 9 most)) h)
+
+  pub known-within : first ≤ k → k < first + length (take 9 most) → known first most k ≡ true
+  known-within h l = rw (le-leb first k h, lt-ltb k (first + length (take 9 most)) l)
+
+module _ (first : ℕ) (most s : List ℕ) (latest i : ℕ) (so-far : unorderedKinds first most s ≡ disorder first most latest (map kind (rest s i))) where
+  pub at-unknown : i < length s / 16 → known first most (byte s (16 * i)) ≡ false → unorderedKinds first most s ≡ true
+  at-unknown h e = so-far ∙ ap (disorder first most latest) (kinds-one s i h) ∙ unknown-one first most latest (byte s (16 * i)) (map kind (rest s (i + 1))) e
+
+  pub at-descent : i < length s / 16 → byte s (16 * i) < latest → unorderedKinds first most s ≡ true
+  at-descent h e = so-far ∙ ap (disorder first most latest) (kinds-one s i h) ∙ descending-one first most latest (byte s (16 * i)) (map kind (rest s (i + 1))) e
+
+  pub at-next : i < length s / 16 → known first most (byte s (16 * i)) ≡ true → latest ≤ byte s (16 * i) →
+      unorderedKinds first most s ≡ disorder first most (byte s (16 * i)) (map kind (rest s (i + 1)))
+  at-next h e l = so-far ∙ ap (disorder first most latest) (kinds-one s i h) ∙ next-one first most latest (byte s (16 * i)) (map kind (rest s (i + 1))) e l
+
+  pub at-end : i ≡ length s / 16 → unorderedKinds first most s ≡ false
+  unfolding all ascending
+  at-end e = so-far ∙ ap (λ rs. disorder first most latest (map kind rs)) (ap (rest s) e ∙ rest-none s)
+
+pub counted-next : (first i j n : ℕ) (s ns : List ℕ) → i < length s / 16 → first ≤ byte s (16 * i) → byte s (16 * i) - first < length ns →
+    getD ns j 0 + count (λ r. eqb (kind r) (first + j)) (rest s i) ≡ n →
+    getD (set ns (byte s (16 * i) - first) (getD ns (byte s (16 * i) - first) 0 + 1)) j 0 + count (λ r. eqb (kind r) (first + j)) (rest s (i + 1)) ≡ n
+counted-next first i j n s ns h l b e =
+    counted first (byte s (16 * i) - first) j ns (recordAt s i) (rest s (i + 1)) n
+    (kind-record s i ∙ (let m : byte s (16 * i) ≡ first + (byte s (16 * i) - first) = omega arith in m)) b
+    (sym (ap (λ rs. getD ns j 0 + count (λ r. eqb (kind r) (first + j)) rs) (rest-one s i h)) ∙ e)
+
+pub counted-all : (first i j n m : ℕ) (s : List ℕ) → i ≡ length s / 16 → m + count (λ r. eqb (kind r) (first + j)) (rest s i) ≡ n → m ≡ n
+unfolding count
+counted-all first i j n m s e h =
+    let r : m + 0 ≡ n = sym (ap (λ rs. m + count (λ r. eqb (kind r) (first + j)) rs) (ap (rest s) e ∙ rest-none s)) ∙ h in
+    omega arith
+
+-- ---- a pass over the limits
+
+module _ (f : ℕ → ℕ → Bool) where
+  -- those from number k on
+  abbrev pub over : ℕ → List ℕ → Bool
+  over k l = any (λ b. b) (mapFrom k f (drop k l))
+
+  pub over-one : (k : ℕ) (l : List ℕ) → k < length l → over k l ≡ (f k (getD l k 0) || over (k + 1) l)
+  unfolding any mapFrom
+  over-one k l h = ap (λ xs. any (λ b. b) (mapFrom k f xs)) (drop-cons l k 0 h) ∙ ap (λ n. f k (getD l k 0) || over n l) (sym (add-one k))
+
+  pub over-none : (k : ℕ) (l : List ℕ) → length l ≤ k → over k l ≡ false
+  unfolding any mapFrom
+  over-none k l h = rw (drop-of-length-le l h)
+
+-- ---- sums of counts
+
+pub sumTo-le : (ns : List ℕ) (j n : ℕ) → j ≤ n → sumTo j ns ≤ sumTo n ns
+unfolding sumTo
+sumTo-le ns j zero h = subst (λ i. sumTo i ns ≤ 0) (let e : 0 ≡ j = omega arith in e) zero-le
+sumTo-le ns j (suc n) h = go (leb j n) refl (sumTo-le ns j n)
+  where
+    go : (b : Bool) → leb j n ≡ b → (j ≤ n → sumTo j ns ≤ sumTo n ns) → sumTo j ns ≤ sumTo n ns + getD ns n 0
+    go true e ih = let i : sumTo j ns ≤ sumTo n ns = ih (leb-true j n e) in omega arith
+    go false e ih =
+        let l : n < j = leb-false j n e in
+        let m : j ≡ suc n = omega arith in
+        rw m (le-refl (sumTo n ns + getD ns n 0))
+
+pub sumTo-next : (ns : List ℕ) (k : ℕ) → sumTo (k + 1) ns ≡ sumTo k ns + getD ns k 0
+unfolding sumTo
+sumTo-next ns k = rw (add-one k)
+
+module _ {A : Type 0} (key : A → ℕ) where
+  -- below the next number: below this one, or equal to it
+  below-next : (k : ℕ) (xs : List A) → count (λ x. ltb (key x) (suc k)) xs ≡ count (λ x. ltb (key x) k) xs + count (λ x. eqb (key x) k) xs
+  unfolding count
+  below-next k [] = refl
+  below-next k (x ∷ xs) = go (ltb (key x) k) refl (eqb (key x) k) refl (below-next k xs)
+    where
+      go : (a : Bool) → ltb (key x) k ≡ a → (b : Bool) → eqb (key x) k ≡ b →
+          count (λ x. ltb (key x) (suc k)) xs ≡ count (λ x. ltb (key x) k) xs + count (λ x. eqb (key x) k) xs →
+          cond (ltb (key x) (suc k)) (suc (count (λ x. ltb (key x) (suc k)) xs)) (count (λ x. ltb (key x) (suc k)) xs)
+          ≡ cond a (suc (count (λ x. ltb (key x) k) xs)) (count (λ x. ltb (key x) k) xs) + cond b (suc (count (λ x. eqb (key x) k) xs)) (count (λ x. eqb (key x) k) xs)
+      go true ea true eb ih = let l : key x < k = ltb-true (key x) k ea in let m : key x ≡ k = eqb-true (key x) k eb in absurd (omega arith)
+      go true ea false eb ih = let l : key x < k = ltb-true (key x) k ea in rw (lt-ltb (key x) (suc k) (omega arith)) (omega arith)
+      go false ea true eb ih = let m : key x ≡ k = eqb-true (key x) k eb in rw (lt-ltb (key x) (suc k) (omega arith)) (omega arith)
+      go false ea false eb ih =
+          let l : k ≤ key x = ltb-false (key x) k ea in
+          let m : key x ≡ k → ⊥ = eqb-false (key x) k eb in
+          rw (le-ltb (key x) (suc k) (omega arith)) (omega arith)
+
+-- ---- what passes
+
+both-true : (a b : Bool) → (not a || not b) ≡ false → (a ≡ true) × (b ≡ true)
+both-true true true e = (refl, refl)
+both-true true false e = impossible e
+both-true false b e = impossible e
+
+and-true : (a b : Bool) → (a && b) ≡ true → (a ≡ true) × (b ≡ true)
+and-true true true e = (refl, refl)
+and-true true false e = impossible (sym e)
+and-true false b e = impossible (sym e)
+
+module _ (first : ℕ) (most s : List ℕ) (ordered : unorderedKinds first most s ≡ false) where
+  all-known : all (known first most) (kinds first most s) ≡ true
+  all-known = both-true (all (known first most) (kinds first most s)) (ascending (kinds first most s)) ordered .0
+
+  pub all-ascending : ascending (kinds first most s) ≡ true
+  all-ascending = both-true (all (known first most) (kinds first most s)) (ascending (kinds first most s)) ordered .1
+
+  none-before : firstOf first s ≡ 0
+  unfolding all count
+  none-before = go (records s) all-known
+    where
+      go : (rs : List (List ℕ)) → all (known first most) (map kind rs) ≡ true → count (λ r. ltb (kind r) first) rs ≡ 0
+      go [] e = refl
+      go (r ∷ rs) e =
+          let k : (known first most (kind r) ≡ true) × (all (known first most) (map kind rs) ≡ true) = and-true (known first most (kind r)) (all (known first most) (map kind rs)) e in
+          let l : (leb first (kind r) ≡ true) × (ltb (kind r) (first + length (take 9 most)) ≡ true) = and-true (leb first (kind r)) (ltb (kind r) (first + length (take 9 most))) (k .0) in
+          rw (le-ltb (kind r) first (leb-true first (kind r) (l .0))) (go rs (k .1))
+
+  pub firsts-sum : (j : ℕ) → j ≤ 9 → sumTo j (counts first most s) ≡ firstOf (first + j) s
+  unfolding sumTo
+  firsts-sum zero h = sym none-before ∙ ap (λ k. firstOf k s) (sym (add-zero first))
+  firsts-sum (suc j) h =
+      (λ x. firsts-sum j (omega arith) x + getD-upto (λ j. howMany (first + j) s) 0 9 j (omega arith) x)
+      ∙ sym (below-next kind (first + j) (records s)) ∙ ap (λ k. firstOf k s) (let e : suc (first + j) ≡ first + suc j = omega arith in e)
+
+  pub firsts-are : map (λ j. sumTo j (counts first most s)) (upto 9) ≡ firsts first most s
+  firsts-are = is-table (λ j. firstOf (first + j) s) 0 9 (map (λ j. sumTo j (counts first most s)) (upto 9)) (length-from (λ j. sumTo j (counts first most s)) 0 9)
+      (λ j h. getD-upto (λ j. sumTo j (counts first most s)) 0 9 j h ∙ firsts-sum j (omega arith))
+
+pub firstOf-le : (k : ℕ) (s : List ℕ) → firstOf k s ≤ length s / 16
+firstOf-le k s = rw length-records at (count-le (λ r. ltb (kind r) k) (records s))
+
+mapFrom-alike : {A B : Type 0} (f g : ℕ → A → B) (a b : ℕ) (l : List A) → ((j : ℕ) (x : A) → j < length l → f (a + j) x ≡ g (b + j) x) → mapFrom a f l ≡ mapFrom b g l
+unfolding mapFrom
+mapFrom-alike f g a b [] h = refl
+mapFrom-alike f g a b (x ∷ xs) h =
+    λ i. (ap (λ n. f n x) (sym (add-zero a)) ∙ h 0 x (omega arith) ∙ ap (λ n. g n x) (add-zero b)) i
+    ∷ mapFrom-alike f g (suc a) (suc b) xs (λ j y l. ap (λ n. f n y) (let e : suc a + j ≡ a + suc j = omega arith in e) ∙ h (suc j) y (omega arith) ∙ ap (λ n. g n y) (let e : b + suc j ≡ suc b + j = omega arith in e)) i
+
+pub exceeds-is : (first : ℕ) (most s : List ℕ) → exceeds (counts first most s) most ≡ wrongAmounts first most s
+exceeds-is first most s =
+    λ i. eqb ((getD-upto (λ j. howMany (first + j) s) 0 9 0 (omega arith) ∙ ap (λ k. howMany k s) (add-zero first)) i) 0
+    || any (λ over. over) (mapFrom-alike (λ j m. ltb m (getD (counts first most s) j 0)) (λ k m. ltb m (howMany k s)) 0 first (take 9 most) alike i)
+  where
+    alike : (j m : ℕ) → j < length (take 9 most) → ltb m (getD (counts first most s) (0 + j) 0) ≡ ltb m (howMany (first + j) s)
+    alike j m h = ap (ltb m) (ap (λ n. getD (counts first most s) n 0) (zero-add j) ∙ getD-upto (λ j. howMany (first + j) s) 0 9 j (omega (arith, length-take 9 most)))
+
+-- ---- the answer
+
+module _ (first : ℕ) (most s : List ℕ) where
+  framing-tests : (a b c : Bool) → oddLength first most s ≡ a → unorderedKinds first most s ≡ b → wrongAmounts first most s ≡ c →
+      framing first most s ≡ lowest ((odd-length, a) ∷ (unordered-kinds, b) ∷ (wrong-amounts, c) ∷ [])
+  framing-tests a b c ea eb ec = λ i. lowest ((odd-length, ea i) ∷ (unordered-kinds, eb i) ∷ (wrong-amounts, ec i) ∷ [])
+
+  pub is-odd : oddLength first most s ≡ true → framing first most s ≡ some odd-length
+  unfolding lowest
+  is-odd a = framing-tests true _ _ a refl refl
+
+  pub is-unordered : oddLength first most s ≡ false → unorderedKinds first most s ≡ true → framing first most s ≡ some unordered-kinds
+  unfolding lowest
+  is-unordered a b = framing-tests false true _ a b refl
+
+  pub is-wrong : oddLength first most s ≡ false → unorderedKinds first most s ≡ false → wrongAmounts first most s ≡ true → framing first most s ≡ some wrong-amounts
+  unfolding lowest
+  is-wrong a b c = framing-tests false false true a b c
+
+  pub is-none : oddLength first most s ≡ false → unorderedKinds first most s ≡ false → wrongAmounts first most s ≡ false → framing first most s ≡ none
+  unfolding lowest
+  is-none a b c = framing-tests false false false a b c
+
+  pub is-refused : (w : Refusal) (r : Frame) → framing first most s ≡ some w → framingOf (r .answer) ≡ some w → r .counts ≡ replicate 9 0 → r .firsts ≡ replicate 9 0 → IsFrame first most s r
+  is-refused w r f a c d = record {
+    answer = a ∙ sym f;
+    counts = c ∙ ap (λ o. unlessRefused o (counts first most s)) (sym f);
+    firsts = d ∙ ap (λ o. unlessRefused o (firsts first most s)) (sym f);
+  }
+
+  pub is-framed : (r : Frame) → framing first most s ≡ none → framingOf (r .answer) ≡ none → r .counts ≡ counts first most s → r .firsts ≡ firsts first most s → IsFrame first most s r
+  is-framed r f a c d = record {
+    answer = a ∙ sym f;
+    counts = c ∙ ap (λ o. unlessRefused o (counts first most s)) (sym f);
+    firsts = d ∙ ap (λ o. unlessRefused o (firsts first most s)) (sym f);
+  }

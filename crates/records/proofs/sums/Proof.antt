@@ -1,0 +1,76 @@
+-- `records::sums` meets its contract. The invariant: what is written is the table of sums up to `k`, and `sum` is the next. Assumes nothing.
+use mathlib.Core.Path.{_≡_, refl, sym, ap, _∙_}
+use Prim.Native.Nat.{ℕ, _+_, _-_, _*_, _/_, _≤_, _<_}
+use native.Mathlib.Omega.{arith}
+use borrow.Author.Needs.{needs}
+use lib.ListN.{length, getD, set, length-set}
+use Rattle.records.specs.Frame.{sumTo}
+use Rattle.records.proofs.FramingLaws.{sumTo-le, sumTo-next, is-table, table-more}
+use Rattle.records.proofs.sums.Statement.{statement}
+use Rattle.records.proofs.sums.Tie as tie
+
+abbrev Inv-loop : tie.InvT-loop
+Inv-loop counts firsts₀ sum₀ k₀ firsts sum k = (k ≤ 9) × (length firsts ≡ 9) × (sum ≡ sumTo k counts) × ((j : ℕ) → j < k → getD firsts j 0 ≡ sumTo j counts)
+
+abbrev μ-loop : tie.MeasureT-loop
+μ-loop counts firsts₀ sum₀ k₀ firsts sum k = 9 - k
+
+loop-holds : tie.Need-loop-holds Inv-loop μ-loop
+unfolding sumTo
+loop-holds c = (omega arith, refl, refl, λ j h. absurd (omega arith))
+
+mul-firsts : tie.Need-mul-firsts Inv-loop μ-loop
+mul-firsts c = search needs
+
+array-write-firsts : tie.Need-array-write-firsts Inv-loop μ-loop
+array-write-firsts c = search needs
+
+mul-sum : tie.Need-mul-sum Inv-loop μ-loop
+mul-sum c = search needs
+
+array-read-sum : tie.Need-array-read-sum Inv-loop μ-loop
+array-read-sum c = search needs
+
+add-sum : tie.Need-add-sum Inv-loop μ-loop
+add-sum c =
+    let ns = c .before .before .args .t1 in
+    let k = c .before .loop .k in
+    omega (arith, sumTo-next ns k, sumTo-le ns (k + 1) 9 (omega arith))
+
+add-k : tie.Need-add-k Inv-loop μ-loop
+add-k c = search needs
+
+loop-less : tie.Need-loop-less Inv-loop μ-loop
+loop-less c = search needs
+
+loop-again : tie.Need-loop-again Inv-loop μ-loop
+loop-again c =
+    let ns = c .before .before .args .t1 in
+    let l = c .before .loop in (
+      omega arith,
+      length-set (l .firsts) (l .k) (l .sum) ∙ l .inv .1,
+      ap (λ n. n + getD ns (l .k) 0) (l .inv .2) ∙ sym (sumTo-next ns (l .k)),
+      λ j h. ap (λ n. getD (set (l .firsts) (l .k) n) j 0) (l .inv .2) ∙ table-more (λ j. sumTo j ns) 0 (l .k) (l .firsts) (omega arith) (l .inv .3) j h,
+    )
+
+returns : tie.Need-returns Inv-loop μ-loop
+returns c =
+    let l = c .before .loop in
+    is-table (λ j. sumTo j (c .before .before .args .t1)) 0 9 (l .firsts) (l .inv .1) (λ j h. l .inv .3 j (omega arith))
+
+pub sums-spec : {M : Type 1} → statement M
+sums-spec =
+    tie.close
+    (tie.spec
+    Inv-loop
+    μ-loop
+    loop-holds
+    mul-firsts
+    array-write-firsts
+    mul-sum
+    array-read-sum
+    add-sum
+    add-k
+    loop-less
+    loop-again
+    returns)

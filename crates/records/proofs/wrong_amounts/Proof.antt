@@ -1,0 +1,98 @@
+-- `records::wrong_amounts` meets its contract. The invariant: no limit passed is exceeded, so the answer is that of those left. Assumes nothing.
+use mathlib.Core.Path.{_≡_, refl, sym, ap, _∙_}
+use mathlib.Core.Bool.{Bool, true, false, _||_}
+use mathlib.Core.List.{List}
+use Prim.Native.Nat.{ℕ, _+_, _-_, _*_, _/_, _≤_, _<_}
+use native.Mathlib.Omega.{arith}
+use borrow.Author.Needs.{needs}
+use borrow.Author.Tests.{eq-eqb, ne-eqb, lt-ltb, le-ltb}
+use lib.Dec.{ltb}
+use lib.ListN.{length, getD, take, length-take}
+use lib.Seq.{getD-take}
+use Rattle.records.specs.Frame.{exceeds}
+use Rattle.records.proofs.FramingLaws.{over, over-one, over-none}
+use Rattle.records.proofs.wrong_amounts.Statement.{statement}
+use Rattle.records.proofs.wrong_amounts.Tie as tie
+
+abbrev Inv-loop : tie.InvT-loop
+Inv-loop most counts kinds k₀ k = (k ≤ kinds) × (exceeds counts most ≡ over (λ j m. ltb m (getD counts j 0)) k (take 9 most))
+
+abbrev μ-loop : tie.MeasureT-loop
+μ-loop most counts kinds k₀ k = kinds - k
+
+one : (ns most : List ℕ) (k : ℕ) → k < length (take 9 most) →
+    over (λ j m. ltb m (getD ns j 0)) k (take 9 most) ≡ (ltb (getD most k 0) (getD ns k 0) || over (λ j m. ltb m (getD ns j 0)) (k + 1) (take 9 most))
+one ns most k h =
+    over-one (λ j m. ltb m (getD ns j 0)) k (take 9 most) h
+    ∙ ap (λ m. ltb m (getD ns k 0) || over (λ j m. ltb m (getD ns j 0)) (k + 1) (take 9 most)) (getD-take 9 most k 0 (omega (arith, length-take 9 most)))
+
+kinds-of-requires : tie.Need-kinds-of-requires Inv-loop μ-loop
+kinds-of-requires c κs = search needs
+
+array-read-if1 : tie.Need-array-read-if1 Inv-loop μ-loop
+array-read-if1 c = search needs
+
+returns : tie.Need-returns Inv-loop μ-loop
+returns c = sym (rw (eq-eqb (getD (c .before .before .before .args .t1) 0 0) 0 (c .if1 .taken)))
+
+loop-holds : tie.Need-loop-holds Inv-loop μ-loop
+loop-holds c = (omega arith, rw (ne-eqb (getD (c .before .before .before .args .t1) 0 0) 0 (c .if1 .left)))
+
+mul-if2 : tie.Need-mul-if2 Inv-loop μ-loop
+mul-if2 c = search needs
+
+shared-slice-read-if2 : tie.Need-shared-slice-read-if2 Inv-loop μ-loop
+shared-slice-read-if2 c = search needs
+
+cast-if2 : tie.Need-cast-if2 Inv-loop μ-loop
+cast-if2 c = omega (arith, c .shared-slice-known2 .given (c .before .before .loop .k))
+
+mul-if2-2 : tie.Need-mul-if2-2 Inv-loop μ-loop
+mul-if2-2 c = search needs
+
+array-read-if2 : tie.Need-array-read-if2 Inv-loop μ-loop
+array-read-if2 c = search needs
+
+returns-2 : tie.Need-returns-2 Inv-loop μ-loop
+returns-2 c =
+    let a = c .before .before .before .before .before .before .before .args in
+    let l = c .before .before .before .loop in
+    sym (l .inv .1 ∙ one (a .t1) (a .most .now) (l .k) (omega arith) ∙ rw (lt-ltb (getD (a .most .now) (l .k) 0) (getD (a .t1) (l .k) 0) (c .if2 .taken)))
+
+add-k : tie.Need-add-k Inv-loop μ-loop
+add-k c = search needs
+
+loop-less : tie.Need-loop-less Inv-loop μ-loop
+loop-less c = search needs
+
+loop-again : tie.Need-loop-again Inv-loop μ-loop
+loop-again c =
+    let a = c .before .before .before .before .before .before .before .args in
+    let l = c .before .before .before .loop in
+    (omega arith, l .inv .1 ∙ one (a .t1) (a .most .now) (l .k) (omega arith) ∙ rw (le-ltb (getD (a .most .now) (l .k) 0) (getD (a .t1) (l .k) 0) (c .if2 .left)))
+
+returns-3 : tie.Need-returns-3 Inv-loop μ-loop
+returns-3 c =
+    let a = c .before .before .before .before .before .args in
+    sym (c .before .loop .inv .1 ∙ over-none (λ j m. ltb m (getD (a .t1) j 0)) (c .before .loop .k) (take 9 (a .most .now)) (omega arith))
+
+pub wrong-amounts-spec : {M : Type 1} → statement M
+wrong-amounts-spec =
+    tie.close
+    (tie.spec
+    Inv-loop
+    μ-loop
+    kinds-of-requires
+    array-read-if1
+    returns
+    loop-holds
+    mul-if2
+    shared-slice-read-if2
+    cast-if2
+    mul-if2-2
+    array-read-if2
+    returns-2
+    add-k
+    loop-less
+    loop-again
+    returns-3)

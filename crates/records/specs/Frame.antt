@@ -1,0 +1,47 @@
+-- What `frame_of` answers, in the words of `Framing`, and the steps on the way. Assumes nothing: these are definitions.
+use mathlib.Core.Path.{_≡_}
+use mathlib.Core.Bool.{Bool, true, false, _||_}
+use mathlib.Core.Option.{Option, some, none}
+use mathlib.Core.List.{List}
+use Prim.Native.Nat.{ℕ, zero, suc, _+_}
+use lib.Dec.{ltb, eqb}
+use lib.ListN.{getD, take, replicate}
+use Rattle.records.specs.Lists.{any, mapFrom}
+use Rattle.records.specs.Refusal.{Refusal, odd-length, unordered-kinds, wrong-amounts}
+use Rattle.records.specs.Framing as F
+use Rattle.records.specs.declared.Framing.{Framing}
+use Rattle.records.specs.declared.Framing.the-variants.{Framed, OddLength, UnorderedKinds, WrongAmounts}
+use Rattle.records.specs.declared.Frame.{Frame}
+use Rattle.records.specs.declared.Tally.{Tally}
+
+-- the refusal of an answer
+abbrev pub framingOf : Framing → Option Refusal
+framingOf Framed = none
+framingOf OddLength = some odd-length
+framingOf UnorderedKinds = some unordered-kinds
+framingOf WrongAmounts = some wrong-amounts
+
+-- nine numbers where nothing is refused, else zeros
+abbrev pub unlessRefused : Option Refusal → List ℕ → List ℕ
+unlessRefused none ns = ns
+unlessRefused (some w) ns = replicate 9 0
+
+-- Each field of the answer.
+pub record IsFrame (first : ℕ) (most s : List ℕ) (r : Frame) : Type 0 where
+  pub answer : framingOf (r .answer) ≡ F.framing first most s
+  pub counts : r .counts ≡ unlessRefused (F.framing first most s) (F.counts first most s)
+  pub firsts : r .firsts ≡ unlessRefused (F.framing first most s) (F.firsts first most s)
+
+-- One pass over the kinds: refusal 2, and how many of each where it does not apply.
+pub record IsTally (first : ℕ) (most s : List ℕ) (r : Tally) : Type 0 where
+  pub unordered : r .unordered ≡ F.unorderedKinds first most s
+  pub counts : r .unordered ≡ false → r .counts ≡ F.counts first most s
+
+-- Refusal 3, of counts: none of the first kind, or one above its limit.
+abbrev pub exceeds : List ℕ → List ℕ → Bool
+exceeds ns most = eqb (getD ns 0 0) 0 || any (λ over. over) (mapFrom 0 (λ j m. ltb m (getD ns j 0)) (take 9 most))
+
+-- the sum of the first j numbers
+unfoldable pub sumTo : ℕ → List ℕ → ℕ
+sumTo zero ns = 0
+sumTo (suc j) ns = sumTo j ns + getD ns j 0
