@@ -13,7 +13,7 @@ pub struct Sections<'a> {
 impl<'a> Sections<'a> {
     /// Refusals 1, 2 and 3. A file of no bytes has no chart: 3.
     pub fn read(bytes: &'a [u8], limits: &'static [(u8, usize)]) -> Result<Self, Refusal> {
-        if bytes.len() % RECORD_LEN != 0 {
+        if !bytes.len().is_multiple_of(RECORD_LEN) {
             return Err(refusals::LENGTH);
         }
         let sections = Sections { records: whole_records(bytes), limits };

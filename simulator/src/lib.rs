@@ -16,6 +16,7 @@ pub mod deeds;
 pub mod expressions;
 pub mod files;
 pub mod generate;
+pub mod interface;
 pub mod node_rules;
 pub mod operators;
 pub mod path_back;

@@ -18,7 +18,9 @@ pub fn names_something(node: &Node, nodes: usize, variables: usize) -> bool {
 /// Each operand node is lower than its node and of the sort the operator takes.
 pub fn operands_lower_and_sorted(nodes: &[Node]) -> bool {
     nodes.iter().enumerate().all(|(own, node)| {
-        let Some(shape) = shape(node.operator) else { return false };
+        let Some(shape) = shape(node.operator) else {
+            return false;
+        };
         node_operands(node).iter().zip(shape.operands).all(|(operand, sort)| {
             let operand = usize::from(*operand);
             operand < own && gives(nodes, operand, *sort)

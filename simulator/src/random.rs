@@ -10,7 +10,7 @@ impl Random {
         Random { state: seed }
     }
 
-    pub fn next(&mut self) -> u64 {
+    pub fn next_u64(&mut self) -> u64 {
         self.state = self.state.wrapping_add(0x9E37_79B9_7F4A_7C15);
         let mut mixed = self.state;
         mixed = (mixed ^ (mixed >> 30)).wrapping_mul(0xBF58_476D_1CE4_E5B9);
@@ -21,13 +21,13 @@ impl Random {
     /// A number below `end`, which is not zero.
     pub fn below(&mut self, end: usize) -> usize {
         let end = u64::try_from(end).expect("a count");
-        usize::try_from(self.next() % end).expect("below a count")
+        usize::try_from(self.next_u64() % end).expect("below a count")
     }
 
     /// A number from `low` to `high`, both included.
     pub fn between(&mut self, low: i64, high: i64) -> i64 {
         let span = u64::try_from(high - low).expect("low is not above high") + 1;
-        low + i64::try_from(self.next() % span).expect("a small span")
+        low + i64::try_from(self.next_u64() % span).expect("a small span")
     }
 
     /// True `times` in `of` cases on average.
@@ -40,7 +40,7 @@ impl Random {
     }
 
     pub fn u8(&mut self) -> u8 {
-        self.next().to_le_bytes()[0]
+        self.next_u64().to_le_bytes()[0]
     }
 
     /// From `low` to `high`, both included.

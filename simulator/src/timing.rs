@@ -33,7 +33,7 @@ pub fn ticks(milliseconds: u32) -> u32 {
 pub fn timing_holds(timing: Timing, age: u32, ticks: u32) -> bool {
     match timing {
         Timing::After => age == ticks,
-        Timing::Every => age > 0 && age % ticks == 0,
+        Timing::Every => age > 0 && age.is_multiple_of(ticks),
     }
 }
 

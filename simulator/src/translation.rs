@@ -10,7 +10,9 @@ use crate::timing::Clock;
 /// and on a refusal (1 to 9, then 10) all of them.
 pub fn translate(set: &[u8], out: &mut [u8]) -> Result<usize, Refusal> {
     let twin = twin(&ChartSet::read(set)?);
-    let Some(place) = out.get_mut(..twin.len()) else { return Err(BUFFER) };
+    let Some(place) = out.get_mut(..twin.len()) else {
+        return Err(BUFFER);
+    };
     place.copy_from_slice(&twin);
     Ok(twin.len())
 }

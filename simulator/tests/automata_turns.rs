@@ -14,7 +14,13 @@ use simulator::{Answer, AutomataRun, Random};
 use std::collections::BTreeMap;
 
 /// One automaton with locations 0 and 1, one variable from 0 to 9, and two clocks: after 2, every 2.
-fn table(edges: &[Record], literals: &[Record], nodes: &[Node], updates: &[Record], resets: &[Record]) -> AutomataTable {
+fn table(
+    edges: &[Record],
+    literals: &[Record],
+    nodes: &[Node],
+    updates: &[Record],
+    resets: &[Record],
+) -> AutomataTable {
     let clocks = [Clock { timing: Timing::After, ticks: 2 }, Clock { timing: Timing::Every, ticks: 2 }];
     let mut records = vec![automaton(0), location(0), location(0)];
     records.extend(edges);
@@ -30,8 +36,16 @@ fn table(edges: &[Record], literals: &[Record], nodes: &[Node], updates: &[Recor
 /// Two truths that fault: node 4 divides by zero, node 9 leaves the range.
 fn nodes() -> Vec<Node> {
     vec![
-        constant(1), constant(0), operation(QUOTIENT, &[0, 1]), constant(7), operation(EQUAL, &[2, 3]),
-        constant(i32::MAX), constant(1), operation(SUM, &[5, 6]), constant(7), operation(EQUAL, &[7, 8]),
+        constant(1),
+        constant(0),
+        operation(QUOTIENT, &[0, 1]),
+        constant(7),
+        operation(EQUAL, &[2, 3]),
+        constant(i32::MAX),
+        constant(1),
+        operation(SUM, &[5, 6]),
+        constant(7),
+        operation(EQUAL, &[7, 8]),
     ]
 }
 const DIVIDES: u16 = 4;
@@ -49,7 +63,11 @@ fn no_edge_and_two_edges() {
     assert_eq!(turn(&table(&[away, away], &[], &[], &[], &[]), 0), Err(19));
     assert_eq!(turn(&table(&[away, edge(0, 1, 1, false)], &[], &[], &[], &[]), 0), Ok(Answer::Taken(0)));
     let never = literal(MUST_NOT, 0, NONE);
-    assert_eq!(turn(&table(&[away], &[never], &[], &[], &[]), 0), Err(18), "a must-not of nothing always fails");
+    assert_eq!(
+        turn(&table(&[away], &[never], &[], &[], &[]), 0),
+        Err(18),
+        "a must-not of nothing always fails"
+    );
     let always = literal(MUST_HOLD, 0, NONE);
     assert_eq!(turn(&table(&[away], &[always], &[], &[], &[]), 0), Ok(Answer::Taken(0)));
 }

@@ -253,7 +253,8 @@ fn seven_actions_and_priorities() {
     assert_eq!(with(|p| p.actions = vec![action(ENTRY, 1, raise); 9]), 7);
     assert_eq!(with(|p| p.actions = vec![action(ON_TRANSITION, 1, raise); 8]), 0);
     assert_eq!(with(|p| p.actions = vec![action(ON_TRANSITION, 1, raise); 9]), 7);
-    let mixed = |exits: usize| [vec![action(ENTRY, 1, raise); 5], vec![action(EXIT, 1, raise); exits]].concat();
+    let mixed =
+        |exits: usize| [vec![action(ENTRY, 1, raise); 5], vec![action(EXIT, 1, raise); exits]].concat();
     assert_eq!(with(|p| p.actions = mixed(3)), 0);
     assert_eq!(with(|p| p.actions = mixed(4)), 7, "entry and exit actions count together");
     let beside = [vec![action(ENTRY, 1, raise); 8], vec![action(ON_TRANSITION, 1, raise); 8]].concat();
@@ -263,7 +264,11 @@ fn seven_actions_and_priorities() {
 #[test]
 fn eight_nodes() {
     assert_eq!(with(|p| p.nodes[2] = operation(EQUAL, &[0, 2])), 8, "an operand of its own");
-    assert_eq!(with(|p| p.nodes = vec![constant(1), operation(EQUAL, &[0, 2]), constant(1)]), 8, "a higher operand");
+    assert_eq!(
+        with(|p| p.nodes = vec![constant(1), operation(EQUAL, &[0, 2]), constant(1)]),
+        8,
+        "a higher operand"
+    );
     assert_eq!(with(|p| p.nodes[2] = operation(AND, &[0, 1])), 8, "numbers where truths belong");
     assert_eq!(with(|p| p.nodes[2] = operation(SUM, &[0, 1])), 8, "a guard that is a number");
     assert_eq!(with(|p| p.nodes[2] = operation(EQUAL, &[0, 0])), 8, "used twice and not at all");

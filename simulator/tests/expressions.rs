@@ -2,7 +2,9 @@
 
 use simulator::assemble::{constant, file, node, operation, variable_value};
 use simulator::expressions::{number, truth, Node};
-use simulator::generate::expression_files::{arbitrary, extreme, node_numbers, steps, values, well_formed, MOST_STEPS};
+use simulator::generate::expression_files::{
+    arbitrary, extreme, node_numbers, steps, values, well_formed, MOST_STEPS,
+};
 use simulator::operators::*;
 use simulator::records::{whole_records, NODE};
 use simulator::Random;
@@ -40,7 +42,8 @@ fn arithmetic_has_exact_ends() {
 
 #[test]
 fn division_goes_toward_zero() {
-    let cases = [(-3, 2, -1, -1), (3, -2, -1, 1), (-3, -2, 1, -1), (3, 2, 1, 1), (-7, 7, -1, 0), (MIN, 1, MIN, 0)];
+    let cases =
+        [(-3, 2, -1, -1), (3, -2, -1, 1), (-3, -2, 1, -1), (3, 2, 1, 1), (-7, 7, -1, 0), (MIN, 1, MIN, 0)];
     for (a, b, quotient, remainder) in cases {
         assert_eq!(of_two(QUOTIENT, a, b), Ok(quotient), "{a} by {b}");
         assert_eq!(of_two(REMAINDER, a, b), Ok(remainder), "{a} by {b}");
@@ -63,11 +66,20 @@ fn comparisons_are_signed() {
 /// 0..2 overflow with 15, 3..5 divide by zero with 16, 6..8 are true, 9..11 false.
 fn faulting(last: Node) -> Vec<u8> {
     bytes(&[
-        constant(MAX), constant(1), operation(SUM, &[0, 1]),
-        constant(1), constant(0), operation(QUOTIENT, &[3, 4]),
-        constant(1), constant(1), operation(EQUAL, &[6, 7]),
-        constant(1), constant(2), operation(EQUAL, &[9, 10]),
-        constant(5), operation(EQUAL, &[2, 12]),
+        constant(MAX),
+        constant(1),
+        operation(SUM, &[0, 1]),
+        constant(1),
+        constant(0),
+        operation(QUOTIENT, &[3, 4]),
+        constant(1),
+        constant(1),
+        operation(EQUAL, &[6, 7]),
+        constant(1),
+        constant(2),
+        operation(EQUAL, &[9, 10]),
+        constant(5),
+        operation(EQUAL, &[2, 12]),
         last,
     ])
 }
@@ -150,12 +162,34 @@ fn by_hand(bytes: &[u8], variables: &[i16; 64], at: usize) -> Result<i128, u32> 
                 _ => i128::from(a <= b),
             }
         }
-        8 => if value(0)? != 0 { value(1)? } else { value(2)? },
+        8 => {
+            if value(0)? != 0 {
+                value(1)?
+            } else {
+                value(2)?
+            }
+        }
         19 => 1 - value(0)?,
-        20 => if value(0)? == 0 { 0 } else { value(1)? },
-        _ => if value(0)? == 1 { 1 } else { value(1)? },
+        20 => {
+            if value(0)? == 0 {
+                0
+            } else {
+                value(1)?
+            }
+        }
+        _ => {
+            if value(0)? == 1 {
+                1
+            } else {
+                value(1)?
+            }
+        }
     };
-    if (-(1i128 << 31)..1 << 31).contains(&exact) { Ok(exact) } else { Err(15) }
+    if (-(1i128 << 31)..1 << 31).contains(&exact) {
+        Ok(exact)
+    } else {
+        Err(15)
+    }
 }
 
 #[test]
@@ -191,7 +225,11 @@ fn well_formed_lists_agree_with_a_second_evaluator() {
 fn lowest_by_minus_one(bytes: &[u8], operator: u8) -> bool {
     whole_records(bytes).windows(3).any(|three| {
         let constant = |at: usize| i32::from_le_bytes(three[at][8..12].try_into().unwrap());
-        three[0][1] == 1 && constant(0) == MIN && three[1][1] == 1 && constant(1) == -1 && three[2][1] == operator
+        three[0][1] == 1
+            && constant(0) == MIN
+            && three[1][1] == 1
+            && constant(1) == -1
+            && three[2][1] == operator
     })
 }
 
@@ -220,7 +258,19 @@ fn evaluation_of_any_bytes_ends() {
             *outcomes.entry(format!("truth {shown}")).or_default() += 1;
         }
     }
-    for outcome in ["number true", "number false", "number 15", "number 16", "truth true", "truth false", "truth 15", "truth 16"] {
-        assert!(outcomes.get(outcome).copied().unwrap_or(0) > 10, "{outcome} came up too seldom: {outcomes:?}");
+    for outcome in [
+        "number true",
+        "number false",
+        "number 15",
+        "number 16",
+        "truth true",
+        "truth false",
+        "truth 15",
+        "truth 16",
+    ] {
+        assert!(
+            outcomes.get(outcome).copied().unwrap_or(0) > 10,
+            "{outcome} came up too seldom: {outcomes:?}"
+        );
     }
 }

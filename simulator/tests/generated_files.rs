@@ -161,8 +161,12 @@ fn tables_have_what_they_are_made_for() {
         let records = whole_records(&bytes);
         let edges_of = |kind: u8| records.iter().filter(move |r| r[0] == kind).map(|r| read_u16(r, 2));
         let unsorted = |kind: u8| !edges_of(kind).is_sorted();
-        let mut guards: Vec<u16> =
-            records.iter().filter(|r| r[0] == LITERAL).map(|r| read_u16(r, 8)).filter(|node| *node != NONE).collect();
+        let mut guards: Vec<u16> = records
+            .iter()
+            .filter(|r| r[0] == LITERAL)
+            .map(|r| read_u16(r, 8))
+            .filter(|node| *node != NONE)
+            .collect();
         guards.sort_unstable();
         for (what, seen) in [
             ("unsorted literals", unsorted(LITERAL)),
@@ -213,7 +217,9 @@ fn a_refused_set_is_not_translated() {
     for _ in 0..300 {
         let set = valid_set(&mut random, Size::Tiny);
         let damage = &set_damage::DAMAGES[random.below(set_damage::DAMAGES.len())];
-        let Some(damaged) = set_damage::damage(&mut random, &set, damage) else { continue };
+        let Some(damaged) = set_damage::damage(&mut random, &set, damage) else {
+            continue;
+        };
         let mut out = bytes(random.below(2_000));
         assert_eq!(translate(&damaged.bytes, &mut out), Err(damaged.number));
         assert!(out.iter().all(|byte| *byte == FILL));

@@ -140,7 +140,9 @@ fn broken_paths_are_refused() {
         for _ in 0..200 {
             let set = ChartSet::read(&valid_set(&mut random, Size::Middling)).unwrap();
             let steps = random.below(30);
-            let Some(path) = broken(&mut random, &set, steps, clause) else { continue };
+            let Some(path) = broken(&mut random, &set, steps, clause) else {
+                continue;
+            };
             match rows_of(&set, &path) {
                 Err(number) => {
                     assert_eq!(number, 20);

@@ -78,12 +78,15 @@ impl Pair {
             (Ok(Turn(Answer::Taken(transition))), Ok(Turn(Answer::Taken(edge)))) => {
                 assert_eq!(transition, edge, "{place}");
                 count(tally, "taken");
-                count(tally, match self.set.transitions[usize::from(transition)].trigger {
-                    Trigger::None => "taken without trigger",
-                    Trigger::Event(_) => "taken by event",
-                    Trigger::Timed(Timing::After, _) => "taken after",
-                    Trigger::Timed(Timing::Every, _) => "taken every",
-                });
+                count(
+                    tally,
+                    match self.set.transitions[usize::from(transition)].trigger {
+                        Trigger::None => "taken without trigger",
+                        Trigger::Event(_) => "taken by event",
+                        Trigger::Timed(Timing::After, _) => "taken after",
+                        Trigger::Timed(Timing::Every, _) => "taken every",
+                    },
+                );
             }
             (Ok(Turn(Answer::Idle)), Ok(Turn(Answer::Taken(edge)))) => {
                 let state = before.states[usize::try_from(before.position).expect("small") - 1];

@@ -1,8 +1,8 @@
 //! The worked examples of the scope paper.
 
 use simulator::assemble::{constant, operation};
-use simulator::charts::ChartSet;
 use simulator::chart_sets::{one_after, one_assignment, one_expression, zero_watch};
+use simulator::charts::ChartSet;
 use simulator::operators::{LESS, QUOTIENT, REMAINDER};
 use simulator::records::*;
 use simulator::replay::replay;
@@ -201,5 +201,8 @@ fn assigning_minus_two_below_a_lowest_of_minus_one_faults() {
     assert_eq!(charts::turn(&set, &run, 0), Err(17));
     assert_eq!(charts::cycle(&set, &run, 0), Err(17));
     let set = one_assignment(-1, 1, 0, -1);
-    assert_eq!(charts::turn(&set, &run, 0).map(|(answer, next)| (answer, next.variables[0])), Ok((Answer::Taken(0), -1)));
+    assert_eq!(
+        charts::turn(&set, &run, 0).map(|(answer, next)| (answer, next.variables[0])),
+        Ok((Answer::Taken(0), -1))
+    );
 }

@@ -1,3 +1,4 @@
 pub mod Nodes
 pub mod Values
 pub mod Sorts
+pub mod Answers

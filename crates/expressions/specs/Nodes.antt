@@ -24,14 +24,11 @@ pub data Node : Type 0 where
   either : ℕ → ℕ → Node
   unknown : Node
 
--- "5 node: 1 operator; 2-3, 4-5, 6-7 operands; 8-11 constant." The record may go on after its 16 bytes.
-abbrev pub readNode : List ℕ → Node
-readNode r =
-    let a = two r 2 in
-    let b = two r 4 in
-    let c = two r 6 in
-    caseOf (byte r 1)
-    ((1, constant (four± r 8))
+-- Operators by their codes, of a record's operands and constant.
+abbrev pub nodeBy : ℕ → ℕ → ℕ → ℕ → ℤ → Node
+nodeBy operator a b c z =
+    caseOf operator
+    ((1, constant z)
     ∷ (2, variable a)
     ∷ (3, arithmetic sum a b)
     ∷ (4, arithmetic difference a b)
@@ -47,6 +44,10 @@ readNode r =
     ∷ (21, either a b)
     ∷ [])
     unknown
+
+-- "5 node: 1 operator; 2-3, 4-5, 6-7 operands; 8-11 constant." The record may go on after its 16 bytes.
+abbrev pub readNode : List ℕ → Node
+readNode r = nodeBy (byte r 1) (two r 2) (two r 4) (two r 6) (four± r 8)
 
 -- Node n of a list of nodes, and of the bytes of such records; one past the end is unknown.
 abbrev pub nodeOf : List Node → ℕ → Node

@@ -213,7 +213,7 @@ sumTo-next ns k = rw (add-one k)
 
 module _ {A : Type 0} (key : A → ℕ) where
   -- below the next number: below this one, or equal to it
-  below-next : (k : ℕ) (xs : List A) → count (λ x. ltb (key x) (suc k)) xs ≡ count (λ x. ltb (key x) k) xs + count (λ x. eqb (key x) k) xs
+  pub below-next : (k : ℕ) (xs : List A) → count (λ x. ltb (key x) (suc k)) xs ≡ count (λ x. ltb (key x) k) xs + count (λ x. eqb (key x) k) xs
   unfolding count
   below-next k [] = refl
   below-next k (x ∷ xs) = go (ltb (key x) k) refl (eqb (key x) k) refl (below-next k xs)
@@ -237,13 +237,13 @@ both-true true true e = (refl, refl)
 both-true true false e = impossible e
 both-true false b e = impossible e
 
-and-true : (a b : Bool) → (a && b) ≡ true → (a ≡ true) × (b ≡ true)
+pub and-true : (a b : Bool) → (a && b) ≡ true → (a ≡ true) × (b ≡ true)
 and-true true true e = (refl, refl)
 and-true true false e = impossible (sym e)
 and-true false b e = impossible (sym e)
 
 module _ (first : ℕ) (most s : List ℕ) (ordered : unorderedKinds first most s ≡ false) where
-  all-known : all (known first most) (kinds first most s) ≡ true
+  pub all-known : all (known first most) (kinds first most s) ≡ true
   all-known = both-true (all (known first most) (kinds first most s)) (ascending (kinds first most s)) ordered .0
 
   pub all-ascending : ascending (kinds first most s) ≡ true

@@ -1,3 +1,5 @@
 pub mod Fields
 pub mod Records
+pub mod RoundTrips
 pub mod FramingLaws
+pub mod Framed

@@ -2,9 +2,10 @@
 ghost use mathlib.Core.Path.{_≡_};
 ghost use mathlib.Core.List.{map};
 ghost use Prim.Native.Nat.{_+_, _*_, _≤_, _<_, _^_};
-ghost use lib.ListN.{length, take, replicate};
+ghost use lib.ListN.{length, take, set, replicate};
+ghost use lib.Seq.{sets};
 ghost use Rattle.records.specs.Lists.{upto};
-ghost use Rattle.records.specs.Bytes.{byte, two, four, signed, two±, four±};
+ghost use Rattle.records.specs.Bytes.{byte, two, four, signed, two±, four±, bytes2, bytes4, unsigned, bytes2±, bytes4±};
 ghost use Rattle.records.specs.Frame.{IsFrame, IsTally, exceeds, sumTo};
 
 // The byte at a place, 0 past the end.
@@ -78,6 +79,61 @@ pub fn i32_at(s: &[u8], at: usize) -> i32
     ensures { λ r. ⌜ r ≡ four± (now (s .entry)) at ⌝ }
 {
     signed32(u32_at(s, at))
+}
+
+// Writes at a place: bytes past the end are not written, and the rest is kept.
+pub fn put_byte(s: &mut [u8], at: usize, v: u8)
+    ensures { λ _. ⌜ now (s .exit) ≡ set (now (s .entry)) at v ⌝ }
+{
+    if at < s.len() {
+        s[at] = v;
+    }
+}
+
+pub fn put_u16(s: &mut [u8], at: usize, v: u16)
+    ensures { λ _. ⌜ now (s .exit) ≡ sets (now (s .entry)) at (bytes2 v) ⌝ }
+{
+    if at < s.len() {
+        put_byte(s, at, (v % 256) as u8);
+        put_byte(s, at + 1, (v / 256 % 256) as u8);
+    }
+}
+
+pub fn put_u32(s: &mut [u8], at: usize, v: u32)
+    ensures { λ _. ⌜ now (s .exit) ≡ sets (now (s .entry)) at (bytes4 v) ⌝ }
+{
+    if at < s.len() {
+        put_u16(s, at, (v % 65536) as u16);
+        put_u16(s, at + 2, (v / 65536) as u16);
+    }
+}
+
+fn unsigned16(z: i16) -> u16
+    ensures { λ r. ⌜ r ≡ unsigned (2 ^ 15) z ⌝ }
+{
+    if z < 0 { 65535 - (!z as u16) } else { z as u16 }
+}
+
+fn unsigned32(z: i32) -> u32
+    ensures { λ r. ⌜ r ≡ unsigned (2 ^ 31) z ⌝ }
+{
+    if z < 0 {
+        4294967295 - (!z as u32)
+    } else {
+        z as u32
+    }
+}
+
+pub fn put_i16(s: &mut [u8], at: usize, v: i16)
+    ensures { λ _. ⌜ now (s .exit) ≡ sets (now (s .entry)) at (bytes2± v) ⌝ }
+{
+    put_u16(s, at, unsigned16(v));
+}
+
+pub fn put_i32(s: &mut [u8], at: usize, v: i32)
+    ensures { λ _. ⌜ now (s .exit) ≡ sets (now (s .entry)) at (bytes4± v) ⌝ }
+{
+    put_u32(s, at, unsigned32(v));
 }
 
 // What refusals 1 to 3 come to.

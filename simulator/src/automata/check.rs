@@ -12,9 +12,10 @@ pub fn accepted(table: &RawTable) -> bool {
 fn codes_and_ranges(table: &RawTable) -> bool {
     table.edges.iter().all(|edge| edge.idle <= 1)
         && table.literals.iter().all(literal_codes)
-        && table.clocks.iter().all(|(trigger, ticks)| {
-            matches!(*trigger, AFTER | EVERY) && (1..=MOST_TICKS).contains(ticks)
-        })
+        && table
+            .clocks
+            .iter()
+            .all(|(trigger, ticks)| matches!(*trigger, AFTER | EVERY) && (1..=MOST_TICKS).contains(ticks))
         && table.variables.iter().all(|variable| variable.well_ranged())
         && table.nodes.iter().all(|node| shape(node.operator).is_some())
         && table.updates.iter().all(update_codes)

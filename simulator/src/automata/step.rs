@@ -10,7 +10,8 @@ use crate::variables::{start_values, values_possible};
 impl AutomataTable {
     /// Initial locations, variables at start, no events, clocks and count 0, position 1.
     pub fn start(&self) -> AutomataRun {
-        let mut run = AutomataRun { variables: start_values(&self.variables), position: 1, ..AutomataRun::ZERO };
+        let mut run =
+            AutomataRun { variables: start_values(&self.variables), position: 1, ..AutomataRun::ZERO };
         run.locations[..self.automata()].copy_from_slice(&self.initial);
         run
     }
@@ -28,7 +29,9 @@ impl AutomataTable {
         let (locations, unused_locations) = run.locations.split_at(self.automata());
         let (clocks, unused_clocks) = run.clocks.split_at(self.clocks.len());
         let of_its_automaton = |(automaton, location): (usize, &u16)| {
-            self.automaton_of.get(usize::from(*location)).is_some_and(|owner| usize::from(*owner) == automaton)
+            self.automaton_of
+                .get(usize::from(*location))
+                .is_some_and(|owner| usize::from(*owner) == automaton)
         };
         locations.iter().enumerate().all(of_its_automaton)
             && clocks.iter().zip(&self.clocks).all(|(value, clock)| *value <= clock.top())

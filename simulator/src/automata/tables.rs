@@ -69,7 +69,8 @@ impl AutomataTable {
         for (number, edge) in (0u16..).zip(&edges) {
             leaving[usize::from(edge.source)].push(number);
         }
-        let clock = |(trigger, ticks): &(u8, u16)| Clock { timing: Timing::of_trigger(*trigger), ticks: *ticks };
+        let clock =
+            |(trigger, ticks): &(u8, u16)| Clock { timing: Timing::of_trigger(*trigger), ticks: *ticks };
         AutomataTable {
             edges,
             leaving,

@@ -7,9 +7,12 @@ use crate::records::*;
 use crate::refusals::{self, Refusal};
 use crate::timing::ticks;
 
+/// Whether a set keeps what one refusal asks.
+type Condition = fn(&RawSet) -> bool;
+
 /// Asked in this order, so that a condition may rely on those before it: numbers are followed
 /// only where they name something.
-const CONDITIONS: [(fn(&RawSet) -> bool, Refusal); 5] = [
+const CONDITIONS: [(Condition, Refusal); 5] = [
     (codes_and_ranges, refusals::CODE_OR_RANGE),
     (names, refusals::NAMES_NOTHING),
     (structure, refusals::STRUCTURE),

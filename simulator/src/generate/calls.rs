@@ -65,8 +65,8 @@ fn raised<'a>(deeds: impl Iterator<Item = &'a Deed> + 'a) -> impl Iterator<Item 
 
 /// An event mask: mostly some of the known events, at times none, others or all.
 pub fn mask(random: &mut Random, known: u32) -> u32 {
-    let some = u32::try_from(random.next() >> 32).expect("32 bits");
-    let others = u32::try_from(random.next() >> 32).expect("32 bits");
+    let some = u32::try_from(random.next_u64() >> 32).expect("32 bits");
+    let others = u32::try_from(random.next_u64() >> 32).expect("32 bits");
     match random.below(8) {
         0 => 0,
         1 => some,

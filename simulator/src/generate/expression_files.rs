@@ -42,7 +42,8 @@ pub fn well_formed(random: &mut Random) -> Vec<u8> {
     while nodes.len() < total {
         let left = total - nodes.len();
         let size = if random.chance(1, 2) { left } else { 1 + random.below(left) };
-        let style = Style { variables: VARIABLE_PLACES, daring: random.chance(3, 4), chain: random.chance(1, 2) };
+        let style =
+            Style { variables: VARIABLE_PLACES, daring: random.chance(3, 4), chain: random.chance(1, 2) };
         let is_truth = size >= 3 && random.chance(1, 2);
         let mut grower = Grower { random, nodes: &mut nodes, style };
         if is_truth {

@@ -62,7 +62,9 @@ impl RecordList {
         fits: impl Fn(&Record) -> bool,
         change: impl FnOnce(&mut Random, &mut Record),
     ) -> bool {
-        let Some(number) = self.pick(random, kind, fits) else { return false };
+        let Some(number) = self.pick(random, kind, fits) else {
+            return false;
+        };
         let mut record = self.get(kind, number);
         change(random, &mut record);
         self.set(kind, number, record);
@@ -116,7 +118,9 @@ pub mod shared {
     }
 
     pub fn shortened(random: &mut Random, list: &mut RecordList) -> bool {
-        let Some(last) = list.records.pop() else { return false };
+        let Some(last) = list.records.pop() else {
+            return false;
+        };
         list.rest = last[..1 + random.below(15)].to_vec();
         true
     }

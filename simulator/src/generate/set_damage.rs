@@ -17,8 +17,11 @@ pub struct Damaged {
 /// Breaks one clause of an accepted set; none if the set has nothing to break so.
 pub fn damage(random: &mut Random, set: &[u8], damage: &Damage) -> Option<Damaged> {
     let mut list = RecordList::of(set);
-    (damage.apply)(random, &mut list)
-        .then(|| Damaged { bytes: list.bytes(), number: damage.number, clauses: vec![damage.clause] })
+    (damage.apply)(random, &mut list).then(|| Damaged {
+        bytes: list.bytes(),
+        number: damage.number,
+        clauses: vec![damage.clause],
+    })
 }
 
 /// Breaks two clauses of different numbers; the lower number must be given. The higher is broken
@@ -60,41 +63,57 @@ pub const DAMAGES: &[Damage] = damages! {
     3 "too many variables" |_, list| { list.fill(VARIABLE, 65); true };
     3 "too many nodes" |_, list| { list.fill(NODE, 1_025); true };
     3 "too many actions" |_, list| { list.fill(ACTION, 513); true };
-    4 "unnamed byte of a chart" |random, list| unnamed(random, list, CHART, &[1, 4, 5, 6, 7, 8, 9, 10, 11, 12, 13, 14, 15]);
-    4 "unnamed byte of a state" |random, list| unnamed(random, list, STATE, &[2, 3, 4, 5, 6, 7, 8, 9, 10, 11, 12, 13, 14, 15]);
+    4 "unnamed byte of a chart"
+        |random, list| unnamed(random, list, CHART, &[1, 4, 5, 6, 7, 8, 9, 10, 11, 12, 13, 14, 15]);
+    4 "unnamed byte of a state"
+        |random, list| unnamed(random, list, STATE, &[2, 3, 4, 5, 6, 7, 8, 9, 10, 11, 12, 13, 14, 15]);
     4 "unnamed byte of a transition" |random, list| unnamed(random, list, TRANSITION, &[14, 15]);
-    4 "unnamed byte of a variable" |random, list| unnamed(random, list, VARIABLE, &[1, 8, 9, 10, 11, 12, 13, 14, 15]);
+    4 "unnamed byte of a variable"
+        |random, list| unnamed(random, list, VARIABLE, &[1, 8, 9, 10, 11, 12, 13, 14, 15]);
     4 "unnamed byte of a node" |random, list| unnamed(random, list, NODE, &[12, 13, 14, 15]);
-    4 "unnamed byte of an action" |random, list| unnamed(random, list, ACTION, &[8, 9, 10, 11, 12, 13, 14, 15]);
-    4 "unused byte under no trigger" |random, list| unused(random, list, TRANSITION, 6, &[0], &[7, 8, 9, 10, 11]);
+    4 "unnamed byte of an action"
+        |random, list| unnamed(random, list, ACTION, &[8, 9, 10, 11, 12, 13, 14, 15]);
+    4 "unused byte under no trigger"
+        |random, list| unused(random, list, TRANSITION, 6, &[0], &[7, 8, 9, 10, 11]);
     4 "unused byte under an event" |random, list| unused(random, list, TRANSITION, 6, &[1], &[8, 9, 10, 11]);
     4 "unused byte under a time" |random, list| unused(random, list, TRANSITION, 6, &[2, 3], &[7]);
     4 "unused byte of a constant" |random, list| unused(random, list, NODE, 1, &[1], &[2, 3, 4, 5, 6, 7]);
-    4 "unused byte of a variable's value" |random, list| unused(random, list, NODE, 1, &[2], &[4, 5, 6, 7, 8, 9, 10, 11]);
-    4 "unused byte of a binary operator" |random, list| unused(random, list, NODE, 1, &[3, 4, 5, 6, 7, 16, 17, 18, 20, 21], &[6, 7, 8, 9, 10, 11]);
+    4 "unused byte of a variable's value"
+        |random, list| unused(random, list, NODE, 1, &[2], &[4, 5, 6, 7, 8, 9, 10, 11]);
+    4 "unused byte of a binary operator"
+        |random, list| unused(random, list, NODE, 1, &[3, 4, 5, 6, 7, 16, 17, 18, 20, 21], &[6, 7, 8, 9, 10, 11]);
     4 "unused byte of a choice" |random, list| unused(random, list, NODE, 1, &[8], &[8, 9, 10, 11]);
     4 "unused byte of a not" |random, list| unused(random, list, NODE, 1, &[19], &[4, 5, 6, 7, 8, 9, 10, 11]);
     4 "unused byte of a raise" |random, list| unused(random, list, ACTION, 4, &[2], &[6, 7]);
     4 "unused byte of a raise of unknown place" raise_of_unknown_place;
-    4 "unnamed byte under an unknown trigger" |random, list| unknown_code(random, list, TRANSITION, 6, &[14, 15]);
-    4 "unnamed byte under an unknown operator" |random, list| unknown_code(random, list, NODE, 1, &[12, 13, 14, 15]);
-    4 "unnamed byte under an unknown deed" |random, list| unknown_code(random, list, ACTION, 4, &[8, 9, 10, 11, 12, 13, 14, 15]);
+    4 "unnamed byte under an unknown trigger"
+        |random, list| unknown_code(random, list, TRANSITION, 6, &[14, 15]);
+    4 "unnamed byte under an unknown operator"
+        |random, list| unknown_code(random, list, NODE, 1, &[12, 13, 14, 15]);
+    4 "unnamed byte under an unknown deed"
+        |random, list| unknown_code(random, list, ACTION, 4, &[8, 9, 10, 11, 12, 13, 14, 15]);
     5 "priority 0" |random, list| byte(random, list, TRANSITION, any, 1, &[0]);
     5 "priority above 16" |random, list| byte(random, list, TRANSITION, any, 1, &[17, 18, 128, 255]);
     5 "unknown trigger" |random, list| byte(random, list, TRANSITION, any, 6, &[4, 5, 255]);
-    5 "unknown trigger, bytes passed over" |random, list| unknown_code(random, list, TRANSITION, 6, &[7, 8, 9, 10, 11]);
+    5 "unknown trigger, bytes passed over"
+        |random, list| unknown_code(random, list, TRANSITION, 6, &[7, 8, 9, 10, 11]);
     5 "event above 31" |random, list| byte(random, list, TRANSITION, |r| r[6] == 1, 7, &[32, 33, 64, 255]);
     5 "0 milliseconds" |random, list| milliseconds(random, list, &[0]);
-    5 "too many milliseconds" |random, list| milliseconds(random, list, &[3_600_001, 3_600_049, 1 << 31, u32::MAX]);
-    5 "start below lowest" |random, list| range(random, list, &[(0, 5, -1), (-1, 5, -2), (300, 400, 299), (-32_767, 0, -32_768)]);
-    5 "start above highest" |random, list| range(random, list, &[(0, 5, 6), (-5, -3, -2), (-5, -1, 0), (-400, 300, 301), (0, 32_766, 32_767)]);
+    5 "too many milliseconds"
+        |random, list| milliseconds(random, list, &[3_600_001, 3_600_049, 1 << 31, u32::MAX]);
+    5 "start below lowest"
+        |random, list| range(random, list, &[(0, 5, -1), (-1, 5, -2), (300, 400, 299), (-32_767, 0, -32_768)]);
+    5 "start above highest"
+        |random, list| range(random, list, &[(0, 5, 6), (-5, -3, -2), (-5, -1, 0), (-400, 300, 301), (0, 32_766, 32_767)]);
     5 "lowest above highest" |random, list| range(random, list, &[(5, -5, 0), (1, 0, 1), (1, 0, 0)]);
     5 "unknown operator" |random, list| byte(random, list, NODE, any, 1, &[0, 9, 15, 22, 255]);
-    5 "unknown operator, bytes passed over" |random, list| unknown_code(random, list, NODE, 1, &[2, 3, 4, 5, 6, 7, 8, 9, 10, 11]);
+    5 "unknown operator, bytes passed over"
+        |random, list| unknown_code(random, list, NODE, 1, &[2, 3, 4, 5, 6, 7, 8, 9, 10, 11]);
     5 "unknown place" |random, list| byte(random, list, ACTION, any, 1, &[0, 4, 255]);
     5 "unknown deed" |random, list| byte(random, list, ACTION, any, 4, &[0, 3, 255]);
     5 "unknown deed, bytes passed over" |random, list| unknown_code(random, list, ACTION, 4, &[6, 7]);
-    5 "raised event above 31" |random, list| byte(random, list, ACTION, |r| r[4] == RAISE, 5, &[32, 63, 64, 255]);
+    5 "raised event above 31"
+        |random, list| byte(random, list, ACTION, |r| r[4] == RAISE, 5, &[32, 63, 64, 255]);
     6 "no such initial state" |random, list| names_none(random, list, CHART, any, 2, STATE);
     6 "no such chart" no_such_chart;
     6 "no such source" |random, list| names_none(random, list, TRANSITION, any, 2, STATE);
@@ -102,10 +121,12 @@ pub const DAMAGES: &[Damage] = damages! {
     6 "no such guard" no_such_guard;
     6 "no such variable read" |random, list| names_none(random, list, NODE, |r| r[1] == 2, 2, VARIABLE);
     6 "no such first operand" |random, list| names_none(random, list, NODE, |r| r[1] >= 3, 2, NODE);
-    6 "no such second operand" |random, list| names_none(random, list, NODE, |r| r[1] >= 3 && r[1] != 19, 4, NODE);
+    6 "no such second operand"
+        |random, list| names_none(random, list, NODE, |r| r[1] >= 3 && r[1] != 19, 4, NODE);
     6 "no such third operand" |random, list| names_none(random, list, NODE, |r| r[1] == 8, 6, NODE);
     6 "no such state as owner" |random, list| names_none(random, list, ACTION, |r| r[1] != 3, 2, STATE);
-    6 "no such transition as owner" |random, list| names_none(random, list, ACTION, |r| r[1] == 3, 2, TRANSITION);
+    6 "no such transition as owner"
+        |random, list| names_none(random, list, ACTION, |r| r[1] == 3, 2, TRANSITION);
     6 "no such variable assigned" no_such_variable_assigned;
     6 "no such node assigned" |random, list| names_none(random, list, ACTION, |r| r[4] == 1, 6, NODE);
     7 "target in another chart" target_elsewhere;
@@ -167,8 +188,20 @@ fn unnamed(random: &mut Random, list: &mut RecordList, kind: u8, bytes: &[usize]
 }
 
 /// A byte that is not used under one of the codes.
-fn unused(random: &mut Random, list: &mut RecordList, kind: u8, at: usize, codes: &[u8], bytes: &[usize]) -> bool {
-    list.change(random, kind, |r| codes.contains(&r[at]), |random, record| shared::stray(random, record, bytes))
+fn unused(
+    random: &mut Random,
+    list: &mut RecordList,
+    kind: u8,
+    at: usize,
+    codes: &[u8],
+    bytes: &[usize],
+) -> bool {
+    list.change(
+        random,
+        kind,
+        |r| codes.contains(&r[at]),
+        |random, record| shared::stray(random, record, bytes),
+    )
 }
 
 /// An unknown code together with a byte other than zero.
@@ -181,13 +214,25 @@ fn unknown_code(random: &mut Random, list: &mut RecordList, kind: u8, at: usize,
 
 /// What a byte's use hangs on is the deed; an unknown place excuses none.
 fn raise_of_unknown_place(random: &mut Random, list: &mut RecordList) -> bool {
-    list.change(random, ACTION, |r| r[4] == RAISE, |random, record| {
-        record[1] = random.pick(&[0, 4, 200]);
-        shared::stray(random, record, &[6, 7]);
-    })
+    list.change(
+        random,
+        ACTION,
+        |r| r[4] == RAISE,
+        |random, record| {
+            record[1] = random.pick(&[0, 4, 200]);
+            shared::stray(random, record, &[6, 7]);
+        },
+    )
 }
 
-fn byte(random: &mut Random, list: &mut RecordList, kind: u8, fits: fn(&Record) -> bool, at: usize, values: &[u8]) -> bool {
+fn byte(
+    random: &mut Random,
+    list: &mut RecordList,
+    kind: u8,
+    fits: fn(&Record) -> bool,
+    at: usize,
+    values: &[u8],
+) -> bool {
     list.change(random, kind, fits, |random, record| record[at] = random.pick(values))
 }
 
@@ -212,7 +257,14 @@ fn beyond(random: &mut Random, list: &RecordList, kind: u8) -> u16 {
     random.pick(&[count, count, far, u16::MAX])
 }
 
-fn names_none(random: &mut Random, list: &mut RecordList, kind: u8, fits: fn(&Record) -> bool, at: usize, named: u8) -> bool {
+fn names_none(
+    random: &mut Random,
+    list: &mut RecordList,
+    kind: u8,
+    fits: fn(&Record) -> bool,
+    at: usize,
+    named: u8,
+) -> bool {
     let number = beyond(random, list, named);
     list.change(random, kind, fits, |_, record| write_u16(record, at, number))
 }
@@ -230,9 +282,14 @@ fn no_such_guard(random: &mut Random, list: &mut RecordList) -> bool {
 
 fn no_such_variable_assigned(random: &mut Random, list: &mut RecordList) -> bool {
     let variables = u8::try_from(list.count(VARIABLE)).expect("at most 64");
-    list.change(random, ACTION, |r| r[4] == ASSIGN, |random, record| {
-        record[5] = random.pick(&[variables, variables + 1, 64, 255]);
-    })
+    list.change(
+        random,
+        ACTION,
+        |r| r[4] == ASSIGN,
+        |random, record| {
+            record[5] = random.pick(&[variables, variables + 1, 64, 255]);
+        },
+    )
 }
 
 fn chart_of(list: &RecordList, state: usize) -> u8 {
@@ -271,12 +328,16 @@ fn move_end(random: &mut Random, list: &mut RecordList, at: usize, end: u16, num
 
 fn target_elsewhere(random: &mut Random, list: &mut RecordList) -> bool {
     let any_initial = random.chance(1, 3);
-    let Some((number, record)) = pick_transition(random, list, any_initial) else { return false };
+    let Some((number, record)) = pick_transition(random, list, any_initial) else {
+        return false;
+    };
     move_end(random, list, 4, read_u16(&record, 4), number)
 }
 
 fn source_elsewhere(random: &mut Random, list: &mut RecordList) -> bool {
-    let Some((number, record)) = pick_transition(random, list, false) else { return false };
+    let Some((number, record)) = pick_transition(random, list, false) else {
+        return false;
+    };
     move_end(random, list, 2, read_u16(&record, 2), number)
 }
 
@@ -295,7 +356,9 @@ fn initial_elsewhere(random: &mut Random, list: &mut RecordList) -> bool {
 
 /// The initial state's transition leaves another state of its chart instead.
 fn initial_not_left(random: &mut Random, list: &mut RecordList) -> bool {
-    let Some((number, mut record)) = pick_transition(random, list, true) else { return false };
+    let Some((number, mut record)) = pick_transition(random, list, true) else {
+        return false;
+    };
     let source = usize::from(read_u16(&record, 2));
     let others = plain_states(list, |state| chart_of(list, state) == chart_of(list, source));
     write_u16(&mut record, 2, random.pick(&others));
@@ -305,7 +368,9 @@ fn initial_not_left(random: &mut Random, list: &mut RecordList) -> bool {
 
 /// Another transition of the chart, of another priority, leaves the initial state too.
 fn initial_left_twice(random: &mut Random, list: &mut RecordList) -> bool {
-    let Some((number, mut record)) = pick_transition(random, list, false) else { return false };
+    let Some((number, mut record)) = pick_transition(random, list, false) else {
+        return false;
+    };
     let chart = chart_of(list, usize::from(read_u16(&record, 2)));
     let initial = initial_states(list)[usize::from(chart)];
     let plain = list.numbers(TRANSITION, |r| read_u16(r, 2) == initial);
@@ -317,7 +382,9 @@ fn initial_left_twice(random: &mut Random, list: &mut RecordList) -> bool {
 }
 
 fn initial_trigger(random: &mut Random, list: &mut RecordList) -> bool {
-    let Some((number, record)) = pick_transition(random, list, true) else { return false };
+    let Some((number, record)) = pick_transition(random, list, true) else {
+        return false;
+    };
     let changed = match random.below(3) {
         0 => assemble::on_event(record, random.u8_between(0, 31)),
         1 => assemble::after(record, 300),
@@ -329,7 +396,9 @@ fn initial_trigger(random: &mut Random, list: &mut RecordList) -> bool {
 
 fn initial_guard(random: &mut Random, list: &mut RecordList) -> bool {
     let nodes = list.count(NODE);
-    let Some((number, record)) = pick_transition(random, list, true) else { return false };
+    let Some((number, record)) = pick_transition(random, list, true) else {
+        return false;
+    };
     if nodes == 0 {
         return false;
     }
@@ -340,7 +409,9 @@ fn initial_guard(random: &mut Random, list: &mut RecordList) -> bool {
 
 fn initial_entered(random: &mut Random, list: &mut RecordList) -> bool {
     let from_initial = random.chance(1, 4);
-    let Some((number, mut record)) = pick_transition(random, list, from_initial) else { return false };
+    let Some((number, mut record)) = pick_transition(random, list, from_initial) else {
+        return false;
+    };
     let chart = chart_of(list, usize::from(read_u16(&record, 2)));
     write_u16(&mut record, 4, initial_states(list)[usize::from(chart)]);
     list.set(TRANSITION, number, record);
@@ -354,7 +425,8 @@ fn add_raise(random: &mut Random, list: &mut RecordList, place: u8, owner: u16) 
     if list.count(ACTION) < 512 {
         list.append(raise);
     } else {
-        let not_of_owner = |r: &Record| (r[1] == ON_TRANSITION) != (place == ON_TRANSITION) || read_u16(r, 2) != owner;
+        let not_of_owner =
+            |r: &Record| (r[1] == ON_TRANSITION) != (place == ON_TRANSITION) || read_u16(r, 2) != owner;
         list.change(random, ACTION, not_of_owner, |_, record| *record = raise);
     }
 }
@@ -367,7 +439,9 @@ fn initial_action(random: &mut Random, list: &mut RecordList, place: u8) -> bool
 
 fn equal_priorities(random: &mut Random, list: &mut RecordList) -> bool {
     let shares_source = |r: &Record| list.numbers(TRANSITION, |o| read_u16(o, 2) == read_u16(r, 2)).len() > 1;
-    let Some(number) = list.pick(random, TRANSITION, shares_source) else { return false };
+    let Some(number) = list.pick(random, TRANSITION, shares_source) else {
+        return false;
+    };
     let mut record = list.get(TRANSITION, number);
     let same = list.numbers(TRANSITION, |o| read_u16(o, 2) == read_u16(&record, 2));
     let others: Vec<usize> = same.into_iter().filter(|other| *other != number).collect();
@@ -427,7 +501,11 @@ fn operand_not_lower(random: &mut Random, list: &mut RecordList, itself: bool) -
     for (own, at, operand) in &operands {
         let wrong = |other: &&(usize, usize, u16)| {
             let number = usize::from(other.2);
-            if itself { number == *own } else { number > *own }
+            if itself {
+                number == *own
+            } else {
+                number > *own
+            }
         };
         if let Some(other) = operands.iter().find(wrong) {
             swaps.push(((*own, *at, *operand), *other));
@@ -518,12 +596,18 @@ fn guard_used_twice(random: &mut Random, list: &mut RecordList) -> bool {
 
 fn assigned_used_twice(random: &mut Random, list: &mut RecordList) -> bool {
     let assigned = assigned(list);
-    list.change(random, ACTION, |r| r[4] == ASSIGN, |random, record| {
-        let others: Vec<u16> = assigned.iter().copied().filter(|node| *node != read_u16(record, 6)).collect();
-        if !others.is_empty() {
-            write_u16(record, 6, random.pick(&others));
-        }
-    }) && assigned.len() > 1
+    list.change(
+        random,
+        ACTION,
+        |r| r[4] == ASSIGN,
+        |random, record| {
+            let others: Vec<u16> =
+                assigned.iter().copied().filter(|node| *node != read_u16(record, 6)).collect();
+            if !others.is_empty() {
+                write_u16(record, 6, random.pick(&others));
+            }
+        },
+    ) && assigned.len() > 1
 }
 
 /// A binary node takes its first operand twice; both sorts are the same.
@@ -537,8 +621,10 @@ fn operand_used_twice(random: &mut Random, list: &mut RecordList) -> bool {
 
 /// A guard names a truth that is an operand already.
 fn guard_also_operand(random: &mut Random, list: &mut RecordList) -> bool {
-    let truths: Vec<u16> = operands_of(list, Sort::Truth).into_iter().map(|(_, _, operand)| operand).collect();
+    let truths: Vec<u16> =
+        operands_of(list, Sort::Truth).into_iter().map(|(_, _, operand)| operand).collect();
     let guarded = |r: &Record| read_u16(r, 12) != NONE;
     !truths.is_empty()
-        && list.change(random, TRANSITION, guarded, |random, record| write_u16(record, 12, random.pick(&truths)))
+        && list
+            .change(random, TRANSITION, guarded, |random, record| write_u16(record, 12, random.pick(&truths)))
 }

@@ -58,7 +58,8 @@ impl Plan {
 /// A set that is accepted.
 pub fn valid_set(random: &mut Random, size: Size) -> Vec<u8> {
     let plan = Plan::new(random, size);
-    let mut maker = Maker { random, plan, parts: SetParts::default(), chart_of: Vec::new(), initial: Vec::new() };
+    let mut maker =
+        Maker { random, plan, parts: SetParts::default(), chart_of: Vec::new(), initial: Vec::new() };
     maker.make_states();
     maker.make_transitions();
     maker.make_triggers();
@@ -107,12 +108,16 @@ impl Maker<'_> {
 
     fn states_where(&self, kept: impl Fn(&Self, usize) -> bool) -> Vec<u16> {
         let states = 0..self.chart_of.len();
-        states.filter(|state| kept(self, *state)).map(|state| u16::try_from(state).expect("at most 128")).collect()
+        states
+            .filter(|state| kept(self, *state))
+            .map(|state| u16::try_from(state).expect("at most 128"))
+            .collect()
     }
 
     fn enterable(&self, chart: u8) -> Vec<u16> {
         self.states_where(|maker, state| {
-            maker.chart_of[state] == chart && !maker.initial.iter().any(|initial| usize::from(*initial) == state)
+            maker.chart_of[state] == chart
+                && !maker.initial.iter().any(|initial| usize::from(*initial) == state)
         })
     }
 
@@ -125,9 +130,8 @@ impl Maker<'_> {
             let priority = self.random.u8_between(HIGHEST_PRIORITY, LOWEST_PRIORITY);
             transitions.push(transition(priority, initial, target));
         }
-        let sources = self.states_where(|maker, state| {
-            !maker.initial.iter().any(|initial| usize::from(*initial) == state)
-        });
+        let sources = self
+            .states_where(|maker, state| !maker.initial.iter().any(|initial| usize::from(*initial) == state));
         let favoured = self.random.pick(&sources);
         let mut free = vec![(HIGHEST_PRIORITY..=LOWEST_PRIORITY).collect::<Vec<u8>>(); self.chart_of.len()];
         while transitions.len() < self.plan.transitions {
@@ -136,7 +140,9 @@ impl Maker<'_> {
             if !priorities.is_empty() {
                 let priority = priorities.swap_remove(self.random.below(priorities.len()));
                 transitions.push(transition(priority, source, self.target(source)));
-            } else if free.iter().map(Vec::len).sum::<usize>() == LOWEST_PRIORITY as usize * self.initial.len() {
+            } else if free.iter().map(Vec::len).sum::<usize>()
+                == LOWEST_PRIORITY as usize * self.initial.len()
+            {
                 break;
             }
         }
@@ -150,14 +156,14 @@ impl Maker<'_> {
         self.random.pick(&targets)
     }
 
-    fn from_initial(&self, transition: &Record) -> bool {
+    fn leaves_initial(&self, transition: &Record) -> bool {
         self.initial.contains(&read_u16(transition, 2))
     }
 
     fn make_triggers(&mut self) {
         for number in 0..self.parts.transitions.len() {
             let plain = self.parts.transitions[number];
-            if self.from_initial(&plain) {
+            if self.leaves_initial(&plain) {
                 continue;
             }
             let event = self.random.pick(&self.plan.events);
@@ -182,7 +188,7 @@ impl Maker<'_> {
         for number in 0..self.parts.transitions.len() {
             let record = self.parts.transitions[number];
             let often = if record[6] == NO_TRIGGER { 7 } else { 3 };
-            if !self.from_initial(&record) && self.random.chance(often, 8) {
+            if !self.leaves_initial(&record) && self.random.chance(often, 8) {
                 guards.push(number);
             }
         }
@@ -191,9 +197,8 @@ impl Maker<'_> {
 
     /// Place and owner of each action; at most 8 an owner, none of an initial state.
     fn choose_owners(&mut self) -> Vec<(u8, u16)> {
-        let states = self.states_where(|maker, state| {
-            !maker.initial.iter().any(|initial| usize::from(*initial) == state)
-        });
+        let states = self
+            .states_where(|maker, state| !maker.initial.iter().any(|initial| usize::from(*initial) == state));
         let mut owners: Vec<(u8, u16)> = Vec::new();
         let mut of_state = vec![0; self.chart_of.len()];
         let mut of_transition = vec![0; self.parts.transitions.len()];

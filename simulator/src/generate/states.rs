@@ -5,9 +5,9 @@ use super::calls::{call_list, events_of_set, events_of_table};
 use crate::automata::AutomataTable;
 use crate::charts::ChartSet;
 use crate::random::Random;
-use crate::runs::{AutomataRun, ChartsRun, CHART_PLACES, CLOCK_PLACES};
+use crate::runs::{AutomataRun, ChartsRun, CHART_PLACES};
 use crate::timing::MOST_CYCLES;
-use crate::variables::{Variable, VARIABLE_PLACES};
+use crate::variables::Variable;
 
 /// A run that some calls have led to; the fresh one if there are none.
 pub fn reached_charts(random: &mut Random, set: &ChartSet, calls: usize) -> ChartsRun {
@@ -86,13 +86,13 @@ macro_rules! corruptions {
 pub const CHARTS_CORRUPTIONS: &[Corruption<ChartSet, ChartsRun>] = corruptions! {
     "state of another chart" |random, set, run| foreign(random, &set.chart_of, set.charts(), &mut run.states);
     "no such state" |random, set, run| no_such(random, set.chart_of.len(), set.charts(), &mut run.states);
-    "unused state" |random, set, run| unused(random, set.charts(), CHART_PLACES).map(|at| run.states[at] = 1).is_some();
+    "unused state" |random, set, run| fill_unused(random, set.charts(), &mut run.states, 1);
     "age over cycle count" |random, set, run| { run.ages[random.below(set.charts())] = run.cycles + 1; true };
     "age far over cycle count" |random, set, run| { run.ages[random.below(set.charts())] = u32::MAX; true };
-    "unused age" |random, set, run| unused(random, set.charts(), CHART_PLACES).map(|at| run.ages[at] = 1).is_some();
+    "unused age" |random, set, run| fill_unused(random, set.charts(), &mut run.ages, 1);
     "variable too low" |random, set, run| too_low(random, &set.variables, &mut run.variables);
     "variable too high" |random, set, run| too_high(random, &set.variables, &mut run.variables);
-    "unused variable" |random, set, run| unused(random, set.variables.len(), VARIABLE_PLACES).map(|at| run.variables[at] = -1).is_some();
+    "unused variable" |random, set, run| fill_unused(random, set.variables.len(), &mut run.variables, -1);
     "position 0" |_, _, run| { run.position = 0; true };
     "position over n + 1" |random, set, run| { run.position = past(random, set.charts()); true };
     "count over 1,000,000" |random, _, run| over(random, run.position, &mut run.cycles);
@@ -101,14 +101,16 @@ pub const CHARTS_CORRUPTIONS: &[Corruption<ChartSet, ChartsRun>] = corruptions! 
 };
 
 pub const AUTOMATA_CORRUPTIONS: &[Corruption<AutomataTable, AutomataRun>] = corruptions! {
-    "location of another automaton" |random, table, run| foreign(random, &table.automaton_of, table.automata(), &mut run.locations);
-    "no such location" |random, table, run| no_such(random, table.automaton_of.len(), table.automata(), &mut run.locations);
-    "unused location" |random, table, run| unused(random, table.automata(), CHART_PLACES).map(|at| run.locations[at] = 1).is_some();
+    "location of another automaton"
+        |random, table, run| foreign(random, &table.automaton_of, table.automata(), &mut run.locations);
+    "no such location"
+        |random, table, run| no_such(random, table.automaton_of.len(), table.automata(), &mut run.locations);
+    "unused location" |random, table, run| fill_unused(random, table.automata(), &mut run.locations, 1);
     "clock over its top" clock_over_top;
-    "unused clock" |random, table, run| unused(random, table.clocks.len(), CLOCK_PLACES).map(|at| run.clocks[at] = 1).is_some();
+    "unused clock" |random, table, run| fill_unused(random, table.clocks.len(), &mut run.clocks, 1);
     "variable too low" |random, table, run| too_low(random, &table.variables, &mut run.variables);
     "variable too high" |random, table, run| too_high(random, &table.variables, &mut run.variables);
-    "unused variable" |random, table, run| unused(random, table.variables.len(), VARIABLE_PLACES).map(|at| run.variables[at] = 7).is_some();
+    "unused variable" |random, table, run| fill_unused(random, table.variables.len(), &mut run.variables, 7);
     "position 0" |_, _, run| { run.position = 0; true };
     "position over n + 1" |random, table, run| { run.position = past(random, table.automata()); true };
     "count over 1,000,000" |random, _, run| over(random, run.position, &mut run.cycles);
@@ -133,12 +135,15 @@ fn no_such(random: &mut Random, states: usize, charts: usize, present: &mut [u16
     true
 }
 
-/// A place past those in use.
-fn unused(random: &mut Random, used: usize, places: usize) -> Option<usize> {
-    (used < places).then(|| {
-        let some = used + random.below(places - used);
-        random.pick(&[used, places - 1, some])
-    })
+/// Puts a value into a place past those in use.
+fn fill_unused<T>(random: &mut Random, used: usize, places: &mut [T], value: T) -> bool {
+    let count = places.len();
+    if used == count {
+        return false;
+    }
+    let some = used + random.below(count - used);
+    places[random.pick(&[used, count - 1, some])] = value;
+    true
 }
 
 fn clock_over_top(random: &mut Random, table: &AutomataTable, run: &mut AutomataRun) -> bool {

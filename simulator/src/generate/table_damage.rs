@@ -45,7 +45,8 @@ pub const DAMAGES: &[Damage] = damages! {
     "unused byte under an event" |random, list| unused(random, list, LITERAL, 4, &[1], &[6, 7]);
     "unused byte under a clock" |random, list| unused(random, list, LITERAL, 4, &[2], &[5]);
     "unused byte of a constant" |random, list| unused(random, list, TWIN_NODE, 1, &[1], &[2, 7]);
-    "unused byte of a binary operator" |random, list| unused(random, list, TWIN_NODE, 1, &[3, 4, 5, 6, 7, 16, 17, 18, 20, 21], &[6, 11]);
+    "unused byte of a binary operator"
+        |random, list| unused(random, list, TWIN_NODE, 1, &[3, 4, 5, 6, 7, 16, 17, 18, 20, 21], &[6, 11]);
     "unused byte of a raise" |random, list| unused(random, list, UPDATE, 1, &[2], &[6, 7]);
     "idle neither 0 nor 1" |random, list| byte(random, list, EDGE, any, 6, &[2, 3, 255]);
     "unknown sign" |random, list| byte(random, list, LITERAL, any, 1, &[0, 3, 255]);
@@ -54,7 +55,8 @@ pub const DAMAGES: &[Damage] = damages! {
     "unknown timing" |random, list| byte(random, list, CLOCK, any, 1, &[0, 1, 4, 255]);
     "0 ticks" |random, list| word(random, list, CLOCK, any, 2, &[0]);
     "too many ticks" |random, list| word(random, list, CLOCK, any, 2, &[36_001, 40_000, 65_535]);
-    "start outside its range" |random, list| range(random, list, &[(0, 5, -1), (0, 5, 6), (5, -5, 0), (-5, -3, 0)]);
+    "start outside its range"
+        |random, list| range(random, list, &[(0, 5, -1), (0, 5, 6), (5, -5, 0), (-5, -3, 0)]);
     "unknown operator" |random, list| byte(random, list, TWIN_NODE, any, 1, &[0, 9, 15, 22, 255]);
     "unknown deed" |random, list| byte(random, list, UPDATE, any, 1, &[0, 3, 255]);
     "raised event above 31" |random, list| byte(random, list, UPDATE, |r| r[1] == RAISE, 4, &[32, 64, 255]);
@@ -66,9 +68,11 @@ pub const DAMAGES: &[Damage] = damages! {
     "no such edge of a literal" |random, list| names_none(random, list, LITERAL, any, 2, EDGE);
     "no such clock read" |random, list| names_none(random, list, LITERAL, |r| r[4] == 2, 6, CLOCK);
     "no such guard" no_such_guard;
-    "no such variable read" |random, list| names_none(random, list, TWIN_NODE, |r| r[1] == 2, 2, TWIN_VARIABLE);
+    "no such variable read"
+        |random, list| names_none(random, list, TWIN_NODE, |r| r[1] == 2, 2, TWIN_VARIABLE);
     "no such operand" |random, list| names_none(random, list, TWIN_NODE, |r| r[1] >= 3, 2, TWIN_NODE);
-    "no such second operand" |random, list| names_none(random, list, TWIN_NODE, |r| r[1] >= 3 && r[1] != 19, 4, TWIN_NODE);
+    "no such second operand"
+        |random, list| names_none(random, list, TWIN_NODE, |r| r[1] >= 3 && r[1] != 19, 4, TWIN_NODE);
     "no such edge of an update" |random, list| names_none(random, list, UPDATE, any, 2, EDGE);
     "no such variable assigned" |random, list| no_such_variable(random, list);
     "no such node assigned" |random, list| names_none(random, list, UPDATE, |r| r[1] == 1, 6, TWIN_NODE);
@@ -82,7 +86,8 @@ pub const DAMAGES: &[Damage] = damages! {
     "operand of its own" |random, list| operand_not_lower(random, list, 0);
     "operand higher" |random, list| operand_not_lower(random, list, 1);
     "operand of the wrong sort" operand_of_wrong_sort;
-    "guard that is a number" |random, list| wrong_sort(random, list, LITERAL, 8, |r| read_u16(r, 8) != NONE, |o| o < 16);
+    "guard that is a number"
+        |random, list| wrong_sort(random, list, LITERAL, 8, |r| read_u16(r, 8) != NONE, |o| o < 16);
     "assigned truth" |random, list| wrong_sort(random, list, UPDATE, 6, |r| r[1] == ASSIGN, |o| o >= 16);
     "operand twice in one node" operand_twice_in_one;
     "operand of two nodes" operand_of_two;
@@ -113,15 +118,41 @@ fn unnamed(random: &mut Random, list: &mut RecordList, kind: u8, bytes: &[usize]
     list.change(random, kind, any, |random, record| shared::stray(random, record, bytes))
 }
 
-fn unused(random: &mut Random, list: &mut RecordList, kind: u8, at: usize, codes: &[u8], bytes: &[usize]) -> bool {
-    list.change(random, kind, |r| codes.contains(&r[at]), |random, record| shared::stray(random, record, bytes))
+fn unused(
+    random: &mut Random,
+    list: &mut RecordList,
+    kind: u8,
+    at: usize,
+    codes: &[u8],
+    bytes: &[usize],
+) -> bool {
+    list.change(
+        random,
+        kind,
+        |r| codes.contains(&r[at]),
+        |random, record| shared::stray(random, record, bytes),
+    )
 }
 
-fn byte(random: &mut Random, list: &mut RecordList, kind: u8, fits: fn(&Record) -> bool, at: usize, values: &[u8]) -> bool {
+fn byte(
+    random: &mut Random,
+    list: &mut RecordList,
+    kind: u8,
+    fits: fn(&Record) -> bool,
+    at: usize,
+    values: &[u8],
+) -> bool {
     list.change(random, kind, fits, |random, record| record[at] = random.pick(values))
 }
 
-fn word(random: &mut Random, list: &mut RecordList, kind: u8, fits: fn(&Record) -> bool, at: usize, values: &[u16]) -> bool {
+fn word(
+    random: &mut Random,
+    list: &mut RecordList,
+    kind: u8,
+    fits: fn(&Record) -> bool,
+    at: usize,
+    values: &[u16],
+) -> bool {
     list.change(random, kind, fits, |random, record| write_u16(record, at, random.pick(values)))
 }
 
@@ -134,7 +165,14 @@ fn range(random: &mut Random, list: &mut RecordList, values: &[(i16, i16, i16)])
     })
 }
 
-fn names_none(random: &mut Random, list: &mut RecordList, kind: u8, fits: fn(&Record) -> bool, at: usize, named: u8) -> bool {
+fn names_none(
+    random: &mut Random,
+    list: &mut RecordList,
+    kind: u8,
+    fits: fn(&Record) -> bool,
+    at: usize,
+    named: u8,
+) -> bool {
     let count = u16::try_from(list.count(named)).expect("at most 6,144");
     word(random, list, kind, fits, at, &[count, count, count + 1, u16::MAX])
 }
@@ -161,10 +199,13 @@ fn owners(list: &RecordList) -> Vec<u8> {
 /// A location field names a location of another automaton.
 fn elsewhere(random: &mut Random, list: &mut RecordList, kind: u8, at: usize) -> bool {
     let owners = owners(list);
-    let Some(number) = list.pick(random, kind, any) else { return false };
+    let Some(number) = list.pick(random, kind, any) else {
+        return false;
+    };
     let mut record = list.get(kind, number);
     let own = owners[usize::from(read_u16(&record, at))];
-    let others: Vec<u16> = (0u16..).zip(&owners).filter(|(_, owner)| **owner != own).map(|(l, _)| l).collect();
+    let others: Vec<u16> =
+        (0u16..).zip(&owners).filter(|(_, owner)| **owner != own).map(|(l, _)| l).collect();
     if others.is_empty() {
         return false;
     }
@@ -186,7 +227,8 @@ fn idle_with_two_ends(random: &mut Random, list: &mut RecordList) -> bool {
 /// The last operator node takes itself or a node after it as its first operand.
 fn operand_not_lower(_: &mut Random, list: &mut RecordList, above: usize) -> bool {
     let nodes = list.count(TWIN_NODE);
-    let Some(own) = list.numbers(TWIN_NODE, |r| r[1] >= 3).into_iter().rfind(|own| own + above < nodes) else {
+    let Some(own) = list.numbers(TWIN_NODE, |r| r[1] >= 3).into_iter().rfind(|own| own + above < nodes)
+    else {
         return false;
     };
     let mut record = list.get(TWIN_NODE, own);
@@ -226,8 +268,17 @@ fn operands(list: &RecordList) -> Vec<u16> {
 }
 
 /// A literal or update takes a node of the other sort.
-fn wrong_sort(random: &mut Random, list: &mut RecordList, kind: u8, at: usize, fits: fn(&Record) -> bool, wrong: fn(u8) -> bool) -> bool {
-    let Some(node) = list.pick(random, TWIN_NODE, |r| wrong(r[1])) else { return false };
+fn wrong_sort(
+    random: &mut Random,
+    list: &mut RecordList,
+    kind: u8,
+    at: usize,
+    fits: fn(&Record) -> bool,
+    wrong: fn(u8) -> bool,
+) -> bool {
+    let Some(node) = list.pick(random, TWIN_NODE, |r| wrong(r[1])) else {
+        return false;
+    };
     let node = u16::try_from(node).expect("at most 1,024");
     list.change(random, kind, fits, |_, record| write_u16(record, at, node))
 }

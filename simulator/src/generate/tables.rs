@@ -77,10 +77,15 @@ fn move_to_edge(random: &mut Random, list: &mut RecordList, kind: u8, edges: usi
 }
 
 fn change_clock(random: &mut Random, list: &mut RecordList) {
-    list.change(random, CLOCK, |_| true, |random, record| {
-        record[1] = 5 - record[1];
-        write_u16(record, 2, random.pick(&[1, 2, 3, MOST_TICKS]));
-    });
+    list.change(
+        random,
+        CLOCK,
+        |_| true,
+        |random, record| {
+            record[1] = 5 - record[1];
+            write_u16(record, 2, random.pick(&[1, 2, 3, MOST_TICKS]));
+        },
+    );
 }
 
 fn shuffle_kind(random: &mut Random, list: &mut RecordList, kind: u8) {
@@ -99,14 +104,20 @@ fn remove_one(random: &mut Random, list: &mut RecordList, kind: u8) {
 
 /// Moves an edge's target within its automaton; an idle edge becomes another.
 fn retarget_edge(random: &mut Random, list: &mut RecordList) {
-    let owners: Vec<u8> = list.numbers(LOCATION, |_| true).iter().map(|at| list.get(LOCATION, *at)[1]).collect();
-    list.change(random, EDGE, |_| true, |random, record| {
-        let own = (0u16..).zip(&owners).filter(|(_, owner)| **owner == record[1]);
-        let targets: Vec<u16> = own.map(|(location, _)| location).collect();
-        let target = random.pick(&targets);
-        record[6] = 0;
-        write_u16(record, 4, target);
-    });
+    let owners: Vec<u8> =
+        list.numbers(LOCATION, |_| true).iter().map(|at| list.get(LOCATION, *at)[1]).collect();
+    list.change(
+        random,
+        EDGE,
+        |_| true,
+        |random, record| {
+            let own = (0u16..).zip(&owners).filter(|(_, owner)| **owner == record[1]);
+            let targets: Vec<u16> = own.map(|(location, _)| location).collect();
+            let target = random.pick(&targets);
+            record[6] = 0;
+            write_u16(record, 4, target);
+        },
+    );
 }
 
 /// A literal takes the guard of another, or an update the number of another.

@@ -1,0 +1,5 @@
+-- What the proofs of several functions use, and the laws that crates above cite.
+pub mod Signed
+pub mod Depth
+pub mod Fields
+pub mod Arms

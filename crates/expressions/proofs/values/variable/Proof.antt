@@ -1,0 +1,32 @@
+-- `values::variable` meets its contract: 32 bits hold what 16 hold, and past the end is 0. Assumes nothing.
+use mathlib.Core.Path.{_≡_, sym, _∙_}
+use borrow.Author.Needs.{needs}
+use denote.Ref.{now}
+use lib.IntN.{pos}
+use lib.ListN.{getD, List·getD-eq-default}
+use mir.Facts.{toZ-ofZ, sfits-widen, sfits-toZ, fits-ofZ}
+use mir.Syntax.{w16}
+use mir.Val.{SFits}
+use Rattle.expressions.proofs.values.variable.Statement.{statement}
+use Rattle.expressions.proofs.values.variable.Tie as tie
+
+mul-result : tie.Need-mul-result
+mul-result c = search needs
+
+shared-slice-copy-out-result : tie.Need-shared-slice-copy-out-result
+shared-slice-copy-out-result c = search needs
+
+held : (c : tie.After-result) → SFits w16 (getD (now (c .before .before .args .vars)) (c .before .before .args .v) (pos 0))
+held c = record { sfits = c .result .given }
+
+cast-result : tie.Need-cast-result
+cast-result c = sfits-widen tt (sfits-toZ (fits-ofZ (held c)))
+
+returns : tie.Need-returns
+returns c = toZ-ofZ (cast-result c) ∙ toZ-ofZ (held c)
+
+returns-2 : tie.Need-returns-2
+returns-2 c = sym (List·getD-eq-default (now (c .before .args .vars)) (pos 0) (c .if1 .left))
+
+pub variable-spec : {M : Type 1} → statement M
+variable-spec = tie.close (tie.spec mul-result shared-slice-copy-out-result cast-result returns returns-2)

@@ -1,0 +1,55 @@
+-- The code's answers, read as the outcomes and the nodes of document 01. Assumes nothing: these are definitions.
+use mathlib.Core.Bool.{Bool}
+use lib.IntN.{ℤ}
+use Rattle.records.specs.Refusal.{Refusal, out-of-range, zero-divisor, Out, val, fault}
+use Rattle.expressions.specs.Nodes.{Node, constant, variable, arithmetic, choice, comparison, negation, both, either, unknown, Arithmetic, sum, difference, product, quotient, remainder, Comparison, equal, less, at-most}
+use Rattle.expressions.specs.declared.arithmetic.Reason.{Reason}
+use Rattle.expressions.specs.declared.arithmetic.Reason.the-variants.{Range, Divisor}
+use Rattle.expressions.specs.declared.arithmetic.Number as declared-number
+use Rattle.expressions.specs.declared.arithmetic.Truth as declared-truth
+use Rattle.expressions.specs.declared.arithmetic.Pair as declared-pair
+use Rattle.expressions.specs.declared.nodes.Operator.{Operator}
+use Rattle.expressions.specs.declared.nodes.Operator.the-variants.{Sum, Difference, Product, Quotient, Remainder}
+use Rattle.expressions.specs.declared.nodes.Relation.{Relation}
+use Rattle.expressions.specs.declared.nodes.Relation.the-variants.{Equal, Less, AtMost}
+use Rattle.expressions.specs.declared.nodes.Node as declared-node
+use Rattle.expressions.specs.declared.nodes.Node.the-variants.{Constant, Variable, Arithmetic as Computed, Choice, Comparison as Compared, Negation, Both, Either, Unknown}
+
+abbrev pub reasonOf : Reason → Refusal
+reasonOf Range = out-of-range
+reasonOf Divisor = zero-divisor
+
+abbrev pub numberOf : declared-number.Number → Out ℤ
+numberOf (declared-number.the-variants.Value z) = val z
+numberOf (declared-number.the-variants.Fault w) = fault (reasonOf w)
+
+abbrev pub truthOf : declared-truth.Truth → Out Bool
+truthOf (declared-truth.the-variants.Value t) = val t
+truthOf (declared-truth.the-variants.Fault w) = fault (reasonOf w)
+
+abbrev pub pairOf : declared-pair.Pair → Out (ℤ × ℤ)
+pairOf (declared-pair.the-variants.Values a b) = val (a, b)
+pairOf (declared-pair.the-variants.Fault w) = fault (reasonOf w)
+
+abbrev pub operatorOf : Operator → Arithmetic
+operatorOf Sum = sum
+operatorOf Difference = difference
+operatorOf Product = product
+operatorOf Quotient = quotient
+operatorOf Remainder = remainder
+
+abbrev pub relationOf : Relation → Comparison
+relationOf Equal = equal
+relationOf Less = less
+relationOf AtMost = at-most
+
+abbrev pub nodeFor : declared-node.Node → Node
+nodeFor (Constant z) = constant z
+nodeFor (Variable v) = variable v
+nodeFor (Computed o a b) = arithmetic (operatorOf o) a b
+nodeFor (Choice t a b) = choice t a b
+nodeFor (Compared o a b) = comparison (relationOf o) a b
+nodeFor (Negation a) = negation a
+nodeFor (Both a b) = both a b
+nodeFor (Either a b) = either a b
+nodeFor Unknown = unknown

@@ -1,0 +1,105 @@
+// Sums, products and comparisons of 32-bit numbers, worked out in 64 bits.
+ghost use mathlib.Core.Path.{_≡_};
+ghost use Rattle.expressions.specs.Nodes.{sum, difference, product, quotient, remainder as remainder-of};
+ghost use Rattle.expressions.specs.Values.{inRange, compute as computed, compare as compared};
+ghost use Rattle.expressions.specs.Answers.{numberOf, operatorOf, relationOf};
+use super::nodes::Operator;
+use super::nodes::Relation;
+
+// Why a value has no answer.
+pub enum Reason {
+    Range,
+    Divisor,
+}
+
+pub enum Number {
+    Value(i32),
+    Fault(Reason),
+}
+
+pub enum Truth {
+    Value(bool),
+    Fault(Reason),
+}
+
+// Two numbers, or the first fault.
+pub enum Pair {
+    Values(i32, i32),
+    Fault(Reason),
+}
+
+fn wide(x: i32) -> i64
+    ensures { λ r. ⌜ r ≡ x ⌝ }
+{
+    x as i64
+}
+
+fn in_range(z: i64) -> Number
+    ensures { λ r. ⌜ numberOf r ≡ inRange z ⌝ }
+{
+    if -2147483648 <= z && z <= 2147483647 {
+        Number::Value(z as i32)
+    } else {
+        Number::Fault(Reason::Range)
+    }
+}
+
+pub fn add(a: i32, b: i32) -> Number
+    ensures { λ r. ⌜ numberOf r ≡ computed sum a b ⌝ }
+{
+    in_range(wide(a) + wide(b))
+}
+
+pub fn subtract(a: i32, b: i32) -> Number
+    ensures { λ r. ⌜ numberOf r ≡ computed difference a b ⌝ }
+{
+    in_range(wide(a) - wide(b))
+}
+
+pub fn multiply(a: i32, b: i32) -> Number
+    ensures { λ r. ⌜ numberOf r ≡ computed product a b ⌝ }
+{
+    in_range(wide(a) * wide(b))
+}
+
+pub fn divide(a: i32, b: i32) -> Number
+    ensures { λ r. ⌜ numberOf r ≡ computed quotient a b ⌝ }
+{
+    if b == 0 {
+        Number::Fault(Reason::Divisor)
+    } else {
+        in_range(wide(a) / wide(b))
+    }
+}
+
+pub fn remainder(a: i32, b: i32) -> Number
+    ensures { λ r. ⌜ numberOf r ≡ computed remainder-of a b ⌝ }
+{
+    if b == 0 {
+        Number::Fault(Reason::Divisor)
+    } else {
+        in_range(wide(a) % wide(b))
+    }
+}
+
+pub fn compute(o: Operator, a: i32, b: i32) -> Number
+    ensures { λ r. ⌜ numberOf r ≡ computed (operatorOf o) a b ⌝ }
+{
+    match o {
+        Operator::Sum => add(a, b),
+        Operator::Difference => subtract(a, b),
+        Operator::Product => multiply(a, b),
+        Operator::Quotient => divide(a, b),
+        Operator::Remainder => remainder(a, b),
+    }
+}
+
+pub fn compare(o: Relation, a: i32, b: i32) -> bool
+    ensures { λ r. ⌜ r ≡ compared (relationOf o) a b ⌝ }
+{
+    match o {
+        Relation::Equal => a == b,
+        Relation::Less => a < b,
+        Relation::AtMost => a <= b,
+    }
+}
