@@ -1,19 +1,15 @@
 -- What the arms of the two evaluators show, from what their calls ensure. Assumes nothing.
 use mathlib.Core.Path.{_≡_, refl, sym, ap, _∙_, subst}
 use mathlib.Core.Bool.{Bool, true, false, cond, Bool·beq}
-use mathlib.Core.List.{List, [], _∷_}
+use mathlib.Core.List.{List}
 use Prim.Native.Nat.{ℕ}
 use lib.Dec.{T}
-use lib.IntN.{ℤ, pos}
-use denote.Enum.Declared.{tagOf, declared}
-use types.Run.{OneOf, miss}
+use lib.IntN.{ℤ}
 use Rattle.records.specs.Refusal.{Refusal, Out, val, fault, _>>=_, choose}
 use Rattle.expressions.specs.Nodes.{nodeAt}
 use Rattle.expressions.specs.Values.{numberBy, truthBy, decide, number, truth, operandNumber, operandTruth}
 use Rattle.expressions.specs.Answers.{nodeFor}
 use Rattle.expressions.specs.declared.nodes.Node.{Node}
-use Rattle.expressions.specs.declared.nodes.Node.the-variants.{Constant, Variable, Arithmetic, Choice, Comparison, Negation, Both, Either, Unknown}
-use Rattle.expressions.proofs.nodes.Node.{enum}
 use Rattle.expressions.proofs.Depth.{number-rule, truth-rule}
 
 -- ---- outcomes
@@ -59,27 +55,3 @@ module _ (s : List ℕ) (vars : List ℤ) (n : ℕ) {r x : Node} (is : r ≡ x) 
   truth-arm =
       ap (truthBy (operandNumber (nodeAt s) vars n) (operandTruth (nodeAt s) vars n) vars) (ap nodeFor (sym is) ∙ read)
       ∙ sym (truth-rule vars (nodeAt s) n)
-
--- the nodes of the other sort
-module _ (f : ℕ → Out ℤ) (g : ℕ → Out Bool) (vars : List ℤ) where
-  pub no-number : (x : Node) → OneOf (4 ∷ 5 ∷ 6 ∷ 7 ∷ 8 ∷ []) (tagOf (declared enum) x) → val (pos 0) ≡ numberBy f g vars (nodeFor x)
-  no-number (Constant z) h = absurd (miss (4 ∷ 5 ∷ 6 ∷ 7 ∷ 8 ∷ []) 0 tt h)
-  no-number (Variable v) h = absurd (miss (4 ∷ 5 ∷ 6 ∷ 7 ∷ 8 ∷ []) 1 tt h)
-  no-number (Arithmetic o a b) h = absurd (miss (4 ∷ 5 ∷ 6 ∷ 7 ∷ 8 ∷ []) 2 tt h)
-  no-number (Choice t a b) h = absurd (miss (4 ∷ 5 ∷ 6 ∷ 7 ∷ 8 ∷ []) 3 tt h)
-  no-number (Comparison o a b) h = refl
-  no-number (Negation a) h = refl
-  no-number (Both a b) h = refl
-  no-number (Either a b) h = refl
-  no-number Unknown h = refl
-
-  pub no-truth : (x : Node) → OneOf (0 ∷ 1 ∷ 2 ∷ 3 ∷ 8 ∷ []) (tagOf (declared enum) x) → val false ≡ truthBy f g vars (nodeFor x)
-  no-truth (Constant z) h = refl
-  no-truth (Variable v) h = refl
-  no-truth (Arithmetic o a b) h = refl
-  no-truth (Choice t a b) h = refl
-  no-truth (Comparison o a b) h = absurd (miss (0 ∷ 1 ∷ 2 ∷ 3 ∷ 8 ∷ []) 4 tt h)
-  no-truth (Negation a) h = absurd (miss (0 ∷ 1 ∷ 2 ∷ 3 ∷ 8 ∷ []) 5 tt h)
-  no-truth (Both a b) h = absurd (miss (0 ∷ 1 ∷ 2 ∷ 3 ∷ 8 ∷ []) 6 tt h)
-  no-truth (Either a b) h = absurd (miss (0 ∷ 1 ∷ 2 ∷ 3 ∷ 8 ∷ []) 7 tt h)
-  no-truth Unknown h = refl

@@ -3,3 +3,6 @@ pub mod Signed
 pub mod Depth
 pub mod Fields
 pub mod Arms
+pub mod Tags
+pub mod Loops
+pub mod Uses

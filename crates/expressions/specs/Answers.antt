@@ -1,8 +1,11 @@
 -- The code's answers, read as the outcomes and the nodes of document 01. Assumes nothing: these are definitions.
 use mathlib.Core.Bool.{Bool}
+use mathlib.Core.List.{List, [], _∷_}
+use Prim.Native.Nat.{ℕ}
 use lib.IntN.{ℤ}
 use Rattle.records.specs.Refusal.{Refusal, out-of-range, zero-divisor, Out, val, fault}
 use Rattle.expressions.specs.Nodes.{Node, constant, variable, arithmetic, choice, comparison, negation, both, either, unknown, Arithmetic, sum, difference, product, quotient, remainder, Comparison, equal, less, at-most}
+use Rattle.expressions.specs.Sorts.{Sort, a-number, a-truth}
 use Rattle.expressions.specs.declared.arithmetic.Reason.{Reason}
 use Rattle.expressions.specs.declared.arithmetic.Reason.the-variants.{Range, Divisor}
 use Rattle.expressions.specs.declared.arithmetic.Number as declared-number
@@ -14,6 +17,8 @@ use Rattle.expressions.specs.declared.nodes.Relation.{Relation}
 use Rattle.expressions.specs.declared.nodes.Relation.the-variants.{Equal, Less, AtMost}
 use Rattle.expressions.specs.declared.nodes.Node as declared-node
 use Rattle.expressions.specs.declared.nodes.Node.the-variants.{Constant, Variable, Arithmetic as Computed, Choice, Comparison as Compared, Negation, Both, Either, Unknown}
+use Rattle.expressions.specs.declared.sorts.Sort as declared-sort
+use Rattle.expressions.specs.declared.sorts.Operands as declared-operands
 
 abbrev pub reasonOf : Reason → Refusal
 reasonOf Range = out-of-range
@@ -53,3 +58,13 @@ nodeFor (Negation a) = negation a
 nodeFor (Both a b) = both a b
 nodeFor (Either a b) = either a b
 nodeFor Unknown = unknown
+
+abbrev pub sortFor : declared-sort.Sort → Sort
+sortFor declared-sort.the-variants.Number = a-number
+sortFor declared-sort.the-variants.Truth = a-truth
+
+abbrev pub operandsFor : declared-operands.Operands → List (ℕ × Sort)
+operandsFor declared-operands.the-variants.Leaf = []
+operandsFor (declared-operands.the-variants.One s a) = (a, sortFor s) ∷ []
+operandsFor (declared-operands.the-variants.Two s a b) = (a, sortFor s) ∷ (b, sortFor s) ∷ []
+operandsFor (declared-operands.the-variants.Choice t a b) = (t, a-truth) ∷ (a, a-number) ∷ (b, a-number) ∷ []

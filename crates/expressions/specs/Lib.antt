@@ -1,4 +1,5 @@
 pub mod Nodes
 pub mod Values
 pub mod Sorts
+pub mod Uses
 pub mod Answers

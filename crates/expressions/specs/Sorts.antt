@@ -60,16 +60,26 @@ variablesOf (both a b) = []
 variablesOf (either a b) = []
 variablesOf unknown = []
 
+-- One node's part in the tests below: the names in it, an operand of node n, and its operands.
+module _ (node : ℕ → Node) where
+  abbrev pub nodeNamed : ℕ → ℕ → ℕ → Bool
+  nodeNamed size variables n = all (λ o. ltb (o .0) size) (operands (node n)) && all (λ v. ltb v variables) (variablesOf (node n))
+
+  abbrev pub operandFits : ℕ → ℕ × Sort → Bool
+  operandFits n o = ltb (o .0) n && sameSort (o .1) (sortOf (node (o .0)))
+
+  abbrev pub nodeFits : ℕ → Bool
+  nodeFits n = all (operandFits n) (operands (node n))
+
 -- Of `size` nodes.
 module _ (node : ℕ → Node) (size : ℕ) where
   -- 6: every operand is a node, and every variable one of so many
   abbrev pub nodesNamed : ℕ → Bool
-  nodesNamed variables =
-      all (λ n. all (λ o. ltb (o .0) size) (operands (node n)) && all (λ v. ltb v variables) (variablesOf (node n))) (upto size)
+  nodesNamed variables = all (nodeNamed node size variables) (upto size)
 
   -- 8, 11: every operand is lower than its node, and of the right sort
   abbrev pub operandsFit : Bool
-  operandsFit = all (λ n. all (λ o. ltb (o .0) n && sameSort (o .1) (sortOf (node (o .0)))) (operands (node n))) (upto size)
+  operandsFit = all (nodeFits node) (upto size)
 
   -- 8, 11: how often node k is an operand, over all operand places
   abbrev pub operandUses : ℕ → ℕ

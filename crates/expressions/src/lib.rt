@@ -2,4 +2,5 @@
 // byte past the end counts as 0, so every function takes any bytes.
 pub mod arithmetic;
 pub mod nodes;
+pub mod sorts;
 pub mod values;

@@ -5,3 +5,4 @@ pub mod ChartExamples
 pub mod CheckExamples
 pub mod PathExamples
 pub mod FileExamples
+pub mod TwinExamples

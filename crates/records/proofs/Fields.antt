@@ -1,18 +1,18 @@
 -- Laws of fields: past the end, and two's complement. Assumes nothing.
 use mathlib.Core.Path.{_≡_, refl, sym, ap, _∙_, subst}
-use mathlib.Core.Bool.{Bool, true, false, not, cond}
-use mathlib.Core.List.{List, [], _∷_, _++_}
-use Prim.Native.Nat.{ℕ, zero, suc, _+_, _-_, _*_, _^_, _≤_, _<_}
+use mathlib.Core.Bool.{Bool, true, false, cond}
+use mathlib.Core.List.{List, [], _∷_}
+use Prim.Native.Nat.{ℕ, suc, _+_, _-_, _*_, _^_, _≤_, _<_}
 use native.Mathlib.Omega.{arith}
 use borrow.Author.Tests.{ltb-true}
 use lib.Dec.{T, ltb}
-use lib.ListN.{length, getD, set, length-set, List·getD-eq-default}
+use lib.ListN.{length, set, length-set, List·getD-eq-default}
 use lib.Seq.{sets, set-out}
 use lib.IntN.{ℤ, pos, negsuc}
-use lib.Signed.{mag, ltZ, nonNeg}
-use mir.Facts.{toZ-ofZ, toZ-pos, fits-ofZ}
+use lib.Signed.{ltZ}
+use mir.Facts.{toZ-ofZ, toZ-pos}
 use mir.Syntax.{Width}
-use mir.Val.{Fits, SFits, toZ, ofZ, hbits, bits, sel}
+use mir.Val.{SFits, toZ, ofZ, hbits, bits, sel}
 use Rattle.records.specs.Bytes.{byte, two, four, signed, unsigned}
 
 -- past the end

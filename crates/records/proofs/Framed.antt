@@ -1,21 +1,24 @@
 -- What holds of a framed file: the tests passed, and each kind's records stand together from the kind's first on. Assumes nothing.
-use mathlib.Core.Path.{_≡_, refl, sym, ap, _∙_, subst}
-use mathlib.Core.Bool.{Bool, true, false, not, cond, _&&_, _||_}
-use mathlib.Core.Option.{Option, some, none}
+use mathlib.Core.Path.{_≡_, refl, sym, ap, _∙_}
+use mathlib.Core.Bool.{Bool, true, false, cond, _||_}
+use mathlib.Core.Option.{some, none}
 use mathlib.Core.List.{List, [], _∷_, map}
 use Prim.Native.Nat.{ℕ, zero, suc, _+_, _*_, _/_, _%_, _≤_, _<_}
-use native.Mathlib.Nat.{add-zero, zero-add, le-refl}
+use native.Mathlib.Nat.{add-zero}
 use native.Mathlib.Omega.{arith}
-use borrow.Author.Tests.{lt-ltb, le-ltb, eq-eqb, ne-eqb, leb-true, ltb-true, ltb-false, eqb-true, eqb-false, not-false}
+use borrow.Author.Tests.{le-ltb, ne-eqb, leb-true, ltb-true, ltb-false, eqb-true, eqb-false, not-false}
 use lib.Dec.{leb, ltb, eqb}
 use lib.ListN.{length, getD, take, length-take}
 use lib.Seq.{getD-take}
 use Rattle.records.specs.Lists.{all, any, count, keep, mapFrom, ascending}
 use Rattle.records.specs.Refusal.{odd-length, unordered-kinds, wrong-amounts, lowest}
 use Rattle.records.specs.Bytes.{records, kind, ofKind}
-use Rattle.records.specs.Framing.{known, howMany, firstOf, kinds, oddLength, unorderedKinds, wrongAmounts, framing}
+use Rattle.records.specs.Framing.{known, howMany, firstOf, kinds, oddLength, unorderedKinds, wrongAmounts, framing, counts, firsts}
+use Rattle.records.specs.Frame.{framingOf, unlessRefused, IsFrame}
+use Rattle.records.specs.declared.Frame.{Frame}
+use Rattle.records.specs.declared.Framing.the-variants.{Framed}
 use Rattle.records.proofs.Records.{recordAt, getD-records, length-records}
-use Rattle.records.proofs.FramingLaws.{impossible, and-true, count-le, length-keep, below-next, all-ascending, all-known}
+use Rattle.records.proofs.FramingLaws.{impossible, and-true, count-le, length-keep, below-next, getD-upto, all-ascending, all-known}
 
 -- how many of a kind there are, of any file
 pub length-ofKind : (k : ℕ) (s : List ℕ) → length (ofKind k s) ≡ howMany k s
@@ -117,3 +120,15 @@ module _ (first : ℕ) (most s : List ℕ) (framed : framing first most s ≡ no
   -- the thing of number i of a kind is the record of number i from the kind's first on
   pub framed-thing : (k i : ℕ) → i < howMany k s → getD (ofKind k s) i [] ≡ recordAt s (firstOf k s + i)
   framed-thing k i h = together kind k [] (records s) i framed-ascending h ∙ getD-records s (firstOf k s + i) (omega (arith, first-and-many k s))
+
+-- ---- what `frame_of` answers of it
+
+module _ (first : ℕ) (most s : List ℕ) (r : Frame) (is : IsFrame first most s r) (answer : r .answer ≡ Framed) where
+  pub frame-framed : framing first most s ≡ none
+  frame-framed = sym (is .answer) ∙ ap framingOf answer
+
+  pub frame-count : (j : ℕ) → j < 9 → getD (r .counts) j 0 ≡ howMany (first + j) s
+  frame-count j h = ap (λ l. getD l j 0) (is .counts ∙ ap (λ o. unlessRefused o (counts first most s)) frame-framed) ∙ getD-upto (λ j. howMany (first + j) s) 0 9 j h
+
+  pub frame-first : (j : ℕ) → j < 9 → getD (r .firsts) j 0 ≡ firstOf (first + j) s
+  frame-first j h = ap (λ l. getD l j 0) (is .firsts ∙ ap (λ o. unlessRefused o (firsts first most s)) frame-framed) ∙ getD-upto (λ j. firstOf (first + j) s) 0 9 j h

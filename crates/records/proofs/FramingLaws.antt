@@ -2,22 +2,23 @@
 use mathlib.Core.Path.{_≡_, refl, sym, ap, _∙_, subst}
 use mathlib.Core.Bool.{Bool, true, false, not, cond, _&&_, _||_}
 use mathlib.Core.Option.{Option, some, none}
-use mathlib.Core.List.{List, [], _∷_, _++_, map}
+use mathlib.Core.List.{List, [], _∷_, map}
 use Prim.Native.Nat.{ℕ, zero, suc, _+_, _-_, _*_, _/_, _≤_, _<_, zero-le}
 use native.Mathlib.Nat.{add-zero, zero-add, le-refl, lt-irrefl}
 use native.Mathlib.Numerals.{add-one}
 use native.Mathlib.Omega.{arith}
 use borrow.Author.Count.{below-more}
-use borrow.Author.Tests.{lt-ltb, le-ltb, le-leb, lt-leb, eq-eqb, ne-eqb, leb-true, leb-false, ltb-true, ltb-false, eqb-true, eqb-false}
+use borrow.Author.Tests.{lt-ltb, le-ltb, le-leb, lt-leb, leb-true, leb-false, ltb-true, ltb-false, eqb-true, eqb-false}
 use lib.Dec.{T, leb, ltb, eqb}
-use lib.ListN.{length, getD, take, drop, set, replicate, length-take, drop-of-length-le}
+use lib.ListN.{length, getD, take, drop, set, length-take, drop-of-length-le}
 use lib.Seq.{getD-set-same, getD-set-other, ext-getD, drop-cons}
 use Rattle.records.specs.Lists.{all, any, count, keep, from, upto, mapFrom, ascending}
-use Rattle.records.specs.Bytes.{byte, records, kind, ofKind}
+use Rattle.records.specs.Bytes.{byte, records, kind}
 use Rattle.records.specs.Framing.{known, howMany, firstOf, kinds, oddLength, unorderedKinds, wrongAmounts, framing, counts, firsts}
 use Rattle.records.specs.Refusal.{Refusal, odd-length, unordered-kinds, wrong-amounts, lowest}
-use Rattle.records.specs.Frame.{framingOf, unlessRefused, IsFrame, exceeds, sumTo}
+use Rattle.records.specs.Frame.{framingOf, unlessRefused, IsFrame, IsTally, exceeds, sumTo}
 use Rattle.records.specs.declared.Frame.{Frame}
+use Rattle.records.specs.declared.Tally.{Tally}
 use Rattle.records.proofs.Records.{recordAt, byte-record, rest, rest-one, rest-none, length-records}
 
 pub impossible : {A : Type 0} → true ≡ false → A
@@ -289,9 +290,12 @@ exceeds-is first most s =
     alike : (j m : ℕ) → j < length (take 9 most) → ltb m (getD (counts first most s) (0 + j) 0) ≡ ltb m (howMany (first + j) s)
     alike j m h = ap (ltb m) (ap (λ n. getD (counts first most s) n 0) (zero-add j) ∙ getD-upto (λ j. howMany (first + j) s) 0 9 j (omega (arith, length-take 9 most)))
 
--- ---- the answer
+-- ---- the answers
 
 module _ (first : ℕ) (most s : List ℕ) where
+  pub is-disordered : (r : Tally) → r .unordered ≡ true → unorderedKinds first most s ≡ true → IsTally first most s r
+  is-disordered r a e = record { unordered = a ∙ sym e; counts = λ b. impossible (sym a ∙ b) }
+
   framing-tests : (a b c : Bool) → oddLength first most s ≡ a → unorderedKinds first most s ≡ b → wrongAmounts first most s ≡ c →
       framing first most s ≡ lowest ((odd-length, a) ∷ (unordered-kinds, b) ∷ (wrong-amounts, c) ∷ [])
   framing-tests a b c ea eb ec = λ i. lowest ((odd-length, ea i) ∷ (unordered-kinds, eb i) ∷ (wrong-amounts, ec i) ∷ [])
@@ -312,16 +316,10 @@ module _ (first : ℕ) (most s : List ℕ) where
   unfolding lowest
   is-none a b c = framing-tests false false false a b c
 
-  pub is-refused : (w : Refusal) (r : Frame) → framing first most s ≡ some w → framingOf (r .answer) ≡ some w → r .counts ≡ replicate 9 0 → r .firsts ≡ replicate 9 0 → IsFrame first most s r
-  is-refused w r f a c d = record {
+  pub is-frame : (o : Option Refusal) (r : Frame) → framing first most s ≡ o → framingOf (r .answer) ≡ o →
+      r .counts ≡ unlessRefused o (counts first most s) → r .firsts ≡ unlessRefused o (firsts first most s) → IsFrame first most s r
+  is-frame o r f a c d = record {
     answer = a ∙ sym f;
-    counts = c ∙ ap (λ o. unlessRefused o (counts first most s)) (sym f);
-    firsts = d ∙ ap (λ o. unlessRefused o (firsts first most s)) (sym f);
-  }
-
-  pub is-framed : (r : Frame) → framing first most s ≡ none → framingOf (r .answer) ≡ none → r .counts ≡ counts first most s → r .firsts ≡ firsts first most s → IsFrame first most s r
-  is-framed r f a c d = record {
-    answer = a ∙ sym f;
-    counts = c ∙ ap (λ o. unlessRefused o (counts first most s)) (sym f);
-    firsts = d ∙ ap (λ o. unlessRefused o (firsts first most s)) (sym f);
+    counts = c ∙ ap (λ p. unlessRefused p (counts first most s)) (sym f);
+    firsts = d ∙ ap (λ p. unlessRefused p (firsts first most s)) (sym f);
   }

@@ -1,15 +1,12 @@
 -- Laws of records: each by its number, those from a number on, and how many are of a kind. Assumes nothing.
-use mathlib.Core.Path.{_≡_, refl, sym, ap, _∙_, subst}
-use mathlib.Core.Bool.{Bool, true, false, not, cond, _&&_, _||_}
-use mathlib.Core.List.{List, [], _∷_, _++_, map}
-use Prim.Native.Nat.{ℕ, zero, suc, _+_, _-_, _*_, _/_, _≤_, _<_, zero-le}
-use native.Mathlib.Nat.{sub-zero, sub-self, add-suc, suc-add}
+use mathlib.Core.Path.{_≡_, refl, ap, _∙_}
+use mathlib.Core.List.{List, [], _∷_}
+use Prim.Native.Nat.{ℕ, zero, suc, _+_, _-_, _*_, _/_, _<_}
+use native.Mathlib.Nat.{sub-zero, sub-self}
 use native.Mathlib.Omega.{arith}
-use lib.Dec.{T, leb, ltb, eqb}
 use lib.ListN.{length, getD, take, drop}
 use lib.Seq.{drop-drop, getD-take, getD-drop}
-use Rattle.records.specs.Lists.{count}
-use Rattle.records.specs.Bytes.{byte, cut, records, kind}
+use Rattle.records.specs.Bytes.{byte, cut, records}
 
 -- the record of a number
 abbrev pub recordAt : List ℕ → ℕ → List ℕ

@@ -1,5 +1,6 @@
 // Fields of byte slices, and the framing of files of 16-byte records.
 ghost use mathlib.Core.Path.{_≡_};
+ghost use mathlib.Core.Bool.{true};
 ghost use mathlib.Core.List.{map};
 ghost use Prim.Native.Nat.{_+_, _*_, _≤_, _<_, _^_};
 ghost use lib.ListN.{length, take, set, replicate};
@@ -15,6 +16,7 @@ pub fn byte_at(s: &[u8], at: usize) -> u8
     if at < s.len() { s[at] } else { 0 }
 }
 
+// The low half stands first.
 fn joined8(low: u8, high: u8) -> u16
     ensures { λ r. ⌜ r ≡ low + 256 * high ⌝ }
 {
@@ -108,6 +110,7 @@ pub fn put_u32(s: &mut [u8], at: usize, v: u32)
     }
 }
 
+// The bits of a number, by way of a number that is not negative, as a cast wants.
 fn unsigned16(z: i16) -> u16
     ensures { λ r. ⌜ r ≡ unsigned (2 ^ 15) z ⌝ }
 {
@@ -151,9 +154,19 @@ pub struct Frame {
     pub firsts: [usize; 9],
 }
 
+// What one pass over the kinds finds. The counts are the file's where it is not unordered.
 struct Tally {
     unordered: bool,
     counts: [usize; 9],
+}
+
+fn disordered() -> Tally
+    ensures { λ r. ⌜ r .unordered ≡ true ⌝ }
+{
+    Tally {
+        unordered: true,
+        counts: [0usize; 9],
+    }
 }
 
 // A format has nine kinds at most.
@@ -174,23 +187,14 @@ fn tally_of(s: &[u8], first: u8, most: &[u16]) -> Tally
     while i < s.len() / 16 {
         let kind = s[16 * i];
         if kind < first {
-            return Tally {
-                unordered: true,
-                counts,
-            };
+            return disordered();
         }
         let k = (kind - first) as usize;
         if kinds <= k {
-            return Tally {
-                unordered: true,
-                counts,
-            };
+            return disordered();
         }
         if k < last {
-            return Tally {
-                unordered: true,
-                counts,
-            };
+            return disordered();
         }
         counts[k] += 1;
         last = k;

@@ -1,6 +1,6 @@
 -- `records::byte_at` meets its contract: past the end the byte is 0. Assumes nothing.
 use borrow.Author.Needs.{needs}
-use mathlib.Core.Path.{_≡_, refl, sym, ap, _∙_}
+use mathlib.Core.Path.{sym}
 use Rattle.records.proofs.Fields.{byte-past}
 use Rattle.records.proofs.byte_at.Statement.{statement}
 use Rattle.records.proofs.byte_at.Tie as tie

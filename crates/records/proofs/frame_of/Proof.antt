@@ -1,8 +1,9 @@
 -- `records::frame_of` meets its contract: each return by the tests that led to it. Assumes nothing.
 use mathlib.Core.Path.{_≡_, refl, sym, ap, _∙_}
-use mathlib.Core.Bool.{Bool, true, false, not}
-use mathlib.Core.List.{List, map}
-use Prim.Native.Nat.{ℕ, _+_, _%_, _<_, _^_}
+use mathlib.Core.Bool.{false, not}
+use mathlib.Core.Option.{some, none}
+use mathlib.Core.List.{map}
+use Prim.Native.Nat.{_+_, _%_}
 use native.Mathlib.Omega.{arith}
 use borrow.Author.Needs.{needs}
 use borrow.Author.Tests.{eq-eqb, ne-eqb}
@@ -11,7 +12,7 @@ use Rattle.records.specs.Lists.{upto}
 use Rattle.records.specs.Refusal.{odd-length, unordered-kinds, wrong-amounts}
 use Rattle.records.specs.Framing.{oddLength, unorderedKinds, wrongAmounts, counts}
 use Rattle.records.specs.Frame.{framingOf, exceeds, sumTo}
-use Rattle.records.proofs.FramingLaws.{firsts-sum, firsts-are, firstOf-le, exceeds-is, is-odd, is-unordered, is-wrong, is-none, is-refused, is-framed}
+use Rattle.records.proofs.FramingLaws.{firsts-sum, firsts-are, firstOf-le, exceeds-is, is-odd, is-unordered, is-wrong, is-none, is-frame}
 use Rattle.records.proofs.frame_of.Statement.{statement}
 use Rattle.records.proofs.frame_of.Tie as tie
 
@@ -35,7 +36,7 @@ returns : tie.Need-returns
 returns c =
     let a = c .before .before .before .before .args in
     let r = c .refused in
-    is-refused (a .first) (a .most .now) (a .s .now) odd-length (r .result)
+    is-frame (a .first) (a .most .now) (a .s .now) (some odd-length) (r .result)
     (is-odd (a .first) (a .most .now) (a .s .now) (ap not (ne-eqb (length (a .s .now) % 16) 0 (c .before .if1 .taken))))
     (ap framingOf (r .ensures .0)) (r .ensures .1) (r .ensures .2)
 
@@ -49,7 +50,7 @@ returns-2 : tie.Need-returns-2
 returns-2 c =
     let a = c .before .before .before .before .before .before .args in
     let r = c .refused2 in
-    is-refused (a .first) (a .most .now) (a .s .now) unordered-kinds (r .result)
+    is-frame (a .first) (a .most .now) (a .s .now) (some unordered-kinds) (r .result)
     (is-unordered (a .first) (a .most .now) (a .s .now) (even (c .before .before .before)) (sym (c .before .before .tally-of .ensures .unordered) ∙ c .before .if2 .taken))
     (ap framingOf (r .ensures .0)) (r .ensures .1) (r .ensures .2)
 
@@ -64,7 +65,7 @@ returns-3 c =
     let a = c .before .before .before .before .before .before .before .before .before .args in
     let r = c .refused3 in
     let t = c .before .before .before .before in
-    is-refused (a .first) (a .most .now) (a .s .now) wrong-amounts (r .result)
+    is-frame (a .first) (a .most .now) (a .s .now) (some wrong-amounts) (r .result)
     (is-wrong (a .first) (a .most .now) (a .s .now) (even (t .before .before)) (ordered t) (sym (amounts (c .before .before)) ∙ c .before .if3 .taken))
     (ap framingOf (r .ensures .0)) (r .ensures .1) (r .ensures .2)
 
@@ -85,7 +86,7 @@ returns-4 c =
     let a = c .before .before .before .before .before .before .before .before .before .args in
     let t = c .before .before .before .before in
     let counted = t .before .tally-of .ensures .counts (t .if2 .left) in
-    is-framed (a .first) (a .most .now) (a .s .now) _
+    is-frame (a .first) (a .most .now) (a .s .now) none _
     (is-none (a .first) (a .most .now) (a .s .now) (even (t .before .before)) (ordered t) (sym (amounts (c .before .before)) ∙ c .before .if3 .left))
     refl
     counted

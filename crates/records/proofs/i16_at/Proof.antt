@@ -1,6 +1,6 @@
 -- `records::i16_at` meets its contract, by those of its two calls. Assumes nothing.
 use borrow.Author.Needs.{needs}
-use mathlib.Core.Path.{_≡_, refl, sym, ap, _∙_}
+use mathlib.Core.Path.{ap, _∙_}
 use mir.Facts.{toZ-ofZ}
 use mir.Syntax.{w16}
 use Prim.Native.Nat.{_^_}

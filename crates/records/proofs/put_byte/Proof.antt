@@ -1,5 +1,5 @@
 -- `records::put_byte` meets its contract. Assumes nothing.
-use mathlib.Core.Path.{_≡_, refl, sym, ap, _∙_}
+use mathlib.Core.Path.{sym}
 use borrow.Author.Needs.{needs}
 use lib.Seq.{set-out}
 use Rattle.records.proofs.put_byte.Statement.{statement}

@@ -1,5 +1,5 @@
 -- `records::put_i16` meets its contract, by those of its two calls. Assumes nothing.
-use mathlib.Core.Path.{_≡_, refl, sym, ap, _∙_}
+use mathlib.Core.Path.{ap, _∙_}
 use borrow.Author.Needs.{needs}
 use lib.Seq.{sets}
 use mir.Facts.{toZ-ofZ}

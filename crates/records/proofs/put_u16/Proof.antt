@@ -1,11 +1,10 @@
 -- `records::put_u16` meets its contract, by those of its two writes. Assumes nothing.
-use mathlib.Core.Path.{_≡_, refl, sym, ap, _∙_}
+use mathlib.Core.Path.{_≡_, sym, _∙_}
 use Prim.Native.Nat.{suc, _+_, _/_, _%_}
 use native.Mathlib.Omega.{arith}
 use borrow.Author.Needs.{needs}
 use lib.ListN.{set}
-use lib.Seq.{sets}
-use Rattle.records.specs.Bytes.{bytes2, bytes4}
+use Rattle.records.specs.Bytes.{bytes2}
 use Rattle.records.proofs.Fields.{sets-past}
 use Rattle.records.proofs.put_u16.Statement.{statement}
 use Rattle.records.proofs.put_u16.Tie as tie

@@ -1,18 +1,17 @@
 -- `records::tally_of` meets its contract. The invariant: refusal 2 of the file is that of the records left, from the latest kind on, and each count with those left is the file's. Assumes nothing.
 use mathlib.Core.Path.{_≡_, refl, sym, ap, _∙_}
-use mathlib.Core.Bool.{Bool, true, false}
-use mathlib.Core.List.{List, [], _∷_, map}
+use mathlib.Core.List.{List, map}
 use Prim.Native.Nat.{ℕ, _+_, _-_, _*_, _/_, _≤_, _<_}
 use native.Mathlib.Nat.{add-zero, zero-add}
 use native.Mathlib.Omega.{arith}
 use borrow.Author.Needs.{needs}
 use lib.Dec.{eqb}
-use lib.ListN.{length, getD, take, replicate, length-set, getD-replicate}
+use lib.ListN.{length, getD, replicate, length-set, getD-replicate}
 use Rattle.records.specs.Lists.{count}
 use Rattle.records.specs.Bytes.{byte, kind}
 use Rattle.records.specs.Framing.{howMany, unorderedKinds}
 use Rattle.records.proofs.Records.{rest, rest-all}
-use Rattle.records.proofs.FramingLaws.{impossible, disorder, disorder-first, howMany-le, is-table, known-not-below, known-not-above, known-within, at-unknown, at-descent, at-next, at-end, counted-next, counted-all}
+use Rattle.records.proofs.FramingLaws.{is-disordered, disorder, disorder-first, howMany-le, is-table, known-not-below, known-not-above, known-within, at-unknown, at-descent, at-next, at-end, counted-next, counted-all}
 use Rattle.records.proofs.tally_of.Statement.{statement}
 use Rattle.records.proofs.tally_of.Tie as tie
 
@@ -49,35 +48,38 @@ mul-kind c = search needs
 shared-slice-read-kind : tie.Need-shared-slice-read-kind Inv-loop μ-loop
 shared-slice-read-kind c = search needs
 
+disordered-requires : tie.Need-disordered-requires Inv-loop μ-loop
+disordered-requires c κs = search needs
+
 returns : tie.Need-returns Inv-loop μ-loop
 returns c =
-    let a = c .before .before .before .before .before .before .before .args in
-    let l = c .before .before .before .loop in
-    record {
-      unordered = sym (at-unknown (a .first) (a .most .now) (a .s .now) (a .first + l .last) (l .i) (l .inv .2) (c .before .before .loop-test .taken) (known-not-below (a .first) (a .most .now) (byte (a .s .now) (16 * l .i)) (c .if1 .taken)));
-      counts = impossible;
-    }
+    let a = c .before .before .before .before .before .before .before .before .args in
+    let l = c .before .before .before .before .loop in
+    is-disordered (a .first) (a .most .now) (a .s .now) (c .disordered .result) (c .disordered .ensures)
+    (at-unknown (a .first) (a .most .now) (a .s .now) (a .first + l .last) (l .i) (l .inv .2) (c .before .before .before .loop-test .taken) (known-not-below (a .first) (a .most .now) (byte (a .s .now) (16 * l .i)) (c .before .if1 .taken)))
 
 cast-k : tie.Need-cast-k Inv-loop μ-loop
 cast-k c = omega (arith, c .before .shared-slice-known3 .given (16 * c .before .before .before .loop .i))
 
+disordered-requires-2 : tie.Need-disordered-requires-2 Inv-loop μ-loop
+disordered-requires-2 c κs = search needs
+
 returns-2 : tie.Need-returns-2 Inv-loop μ-loop
 returns-2 c =
-    let a = c .before .before .before .before .before .before .before .before .args in
-    let l = c .before .before .before .before .loop in
-    record {
-      unordered = sym (at-unknown (a .first) (a .most .now) (a .s .now) (a .first + l .last) (l .i) (l .inv .2) (c .before .before .before .loop-test .taken) (known-not-above (a .first) (a .most .now) (byte (a .s .now) (16 * l .i)) (omega arith)));
-      counts = impossible;
-    }
+    let a = c .before .before .before .before .before .before .before .before .before .args in
+    let l = c .before .before .before .before .before .loop in
+    is-disordered (a .first) (a .most .now) (a .s .now) (c .disordered2 .result) (c .disordered2 .ensures)
+    (at-unknown (a .first) (a .most .now) (a .s .now) (a .first + l .last) (l .i) (l .inv .2) (c .before .before .before .before .loop-test .taken) (known-not-above (a .first) (a .most .now) (byte (a .s .now) (16 * l .i)) (omega arith)))
+
+disordered-requires-3 : tie.Need-disordered-requires-3 Inv-loop μ-loop
+disordered-requires-3 c κs = search needs
 
 returns-3 : tie.Need-returns-3 Inv-loop μ-loop
 returns-3 c =
-    let a = c .before .before .before .before .before .before .before .before .before .args in
-    let l = c .before .before .before .before .before .loop in
-    record {
-      unordered = sym (at-descent (a .first) (a .most .now) (a .s .now) (a .first + l .last) (l .i) (l .inv .2) (c .before .before .before .before .loop-test .taken) (omega arith));
-      counts = impossible;
-    }
+    let a = c .before .before .before .before .before .before .before .before .before .before .args in
+    let l = c .before .before .before .before .before .before .loop in
+    is-disordered (a .first) (a .most .now) (a .s .now) (c .disordered3 .result) (c .disordered3 .ensures)
+    (at-descent (a .first) (a .most .now) (a .s .now) (a .first + l .last) (l .i) (l .inv .2) (c .before .before .before .before .before .loop-test .taken) (omega arith))
 
 mul-counts : tie.Need-mul-counts Inv-loop μ-loop
 mul-counts c = search needs
@@ -135,9 +137,12 @@ tally-of-spec =
     loop-holds
     mul-kind
     shared-slice-read-kind
+    disordered-requires
     returns
     cast-k
+    disordered-requires-2
     returns-2
+    disordered-requires-3
     returns-3
     mul-counts
     array-read-counts

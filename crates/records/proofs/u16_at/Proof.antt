@@ -1,6 +1,6 @@
 -- `records::u16_at` meets its contract: past the end both bytes are 0. Assumes nothing.
 use borrow.Author.Needs.{needs}
-use mathlib.Core.Path.{_≡_, refl, sym, ap, _∙_}
+use mathlib.Core.Path.{sym}
 use Rattle.records.proofs.Fields.{two-past}
 use Rattle.records.proofs.u16_at.Statement.{statement}
 use Rattle.records.proofs.u16_at.Tie as tie

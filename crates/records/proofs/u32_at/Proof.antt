@@ -1,6 +1,6 @@
 -- `records::u32_at` meets its contract: past the end both halves are 0. Assumes nothing.
 use borrow.Author.Needs.{needs}
-use mathlib.Core.Path.{_≡_, refl, sym, ap, _∙_}
+use mathlib.Core.Path.{sym}
 use Rattle.records.proofs.Fields.{four-past}
 use Rattle.records.proofs.u32_at.Statement.{statement}
 use Rattle.records.proofs.u32_at.Tie as tie

@@ -1,6 +1,6 @@
 -- `records::unsigned16` meets its contract: what is cast is not negative, so the cast keeps its bits. Assumes nothing.
-use mathlib.Core.Path.{_≡_, refl, sym, ap, _∙_}
-use Prim.Native.Nat.{ℕ, _-_, _^_, _≤_, _<_}
+use mathlib.Core.Path.{_≡_, refl, _∙_}
+use Prim.Native.Nat.{_-_}
 use native.Mathlib.Omega.{arith}
 use mir.Facts.{fits-ofZ}
 use mir.Syntax.{w16}

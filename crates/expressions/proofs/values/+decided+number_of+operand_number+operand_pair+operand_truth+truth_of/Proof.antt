@@ -17,7 +17,8 @@ use Rattle.records.specs.Refusal.{Out, val, _>>=_, choose}
 use Rattle.expressions.specs.Nodes.{nodeAt}
 use Rattle.expressions.specs.Values.{compute, compare, computePair, comparePair, decide, operandNumber, operandTruth, operandPair}
 use Rattle.expressions.specs.Answers.{numberOf, truthOf, operatorOf, relationOf}
-use Rattle.expressions.proofs.Arms.{pair-bind, picked-one, decide-fault, decide-first, decide-second, number-arm, truth-arm, no-number, no-truth}
+use Rattle.expressions.proofs.Arms.{pair-bind, picked-one, decide-fault, decide-first, decide-second, number-arm, truth-arm}
+use Rattle.expressions.proofs.Tags.{no-number, no-truth}
 use Rattle.expressions.proofs.values.decided.Reads as decided
 use Rattle.expressions.proofs.values.decided.Kinds as decided-kinds
 use Rattle.expressions.proofs.values.+decided+number_of+operand_number+operand_pair+operand_truth+truth_of.Lts-decided as decided-lts
@@ -244,7 +245,7 @@ module _ (t : ℕ) where
       let s = now (c .before .before .before .args .nodes) in
       let v = now (c .before .before .before .args .vars) in
       let n = c .before .before .before .args .n in
-      no-number (operandNumber (nodeAt s) v n) (operandTruth (nodeAt s) v n) v (c .before .node-at .result) (c .match .keys5)
+      sym (no-number (operandNumber (nodeAt s) v n) (operandTruth (nodeAt s) v n) v (c .before .node-at .result) (c .match .keys5))
       ∙ number-arm s v n (λ i. c .before .node-at .result) (c .before .node-at .ensures)
 
   operand-number-number-of-requires : operand-number-lts.Need-number-of-requires (operand-number-calls t) (operand-number-at t) operand-number.Post
@@ -389,7 +390,7 @@ module _ (t : ℕ) where
       let s = now (c .before .before .before .args .nodes) in
       let v = now (c .before .before .before .args .vars) in
       let n = c .before .before .before .args .n in
-      no-truth (operandNumber (nodeAt s) v n) (operandTruth (nodeAt s) v n) v (c .before .node-at .result) (c .match .keys5)
+      sym (no-truth (operandNumber (nodeAt s) v n) (operandTruth (nodeAt s) v n) v (c .before .node-at .result) (c .match .keys5))
       ∙ truth-arm s v n (λ i. c .before .node-at .result) (c .before .node-at .ensures)
 
 pub +decided+number-of+operand-number+operand-pair+operand-truth+truth-of-spec : {M : Type 1} → statement M

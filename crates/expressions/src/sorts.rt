@@ -1,0 +1,195 @@
+// Sorts, order and use of nodes, which the checks of a file ask of.
+ghost use mathlib.Core.Path.{_≡_};
+ghost use Prim.Native.Nat.{_+_, min};
+ghost use lib.Dec.{ltb};
+ghost use Rattle.records.specs.Lists.{all};
+ghost use Rattle.expressions.specs.Nodes.{nodeAt};
+ghost use Rattle.expressions.specs.Sorts.{sortOf, isNumber, isTruth, sameSort, operands, variablesOf, nodeNamed, nodesNamed, operandFits, nodeFits, operandsFit};
+ghost use Rattle.expressions.specs.Uses.{operandNumbers, allOperands, addUse, addUses};
+ghost use Rattle.expressions.specs.Answers.{nodeFor, sortFor, operandsFor};
+use super::nodes::Node;
+use super::nodes::node_at;
+
+pub enum Sort {
+    Number,
+    Truth,
+}
+
+// The operands of a node, left to right, with the sort that each must have: of a choice a truth and two numbers.
+pub enum Operands {
+    Leaf,
+    One(Sort, u16),
+    Two(Sort, u16, u16),
+    Choice(u16, u16, u16),
+}
+
+pub fn is_number(nodes: &[u8], n: u16) -> bool
+    ensures { λ r. ⌜ r ≡ isNumber (sortOf (nodeAt (now (nodes .entry)) n)) ⌝ }
+{
+    match node_at(nodes, n) {
+        Node::Constant(_) | Node::Variable(_) | Node::Arithmetic(_, _, _) | Node::Choice(_, _, _) =>
+            true,
+        _ => false,
+    }
+}
+
+pub fn is_truth(nodes: &[u8], n: u16) -> bool
+    ensures { λ r. ⌜ r ≡ isTruth (sortOf (nodeAt (now (nodes .entry)) n)) ⌝ }
+{
+    match node_at(nodes, n) {
+        Node::Comparison(_, _, _) | Node::Negation(_) | Node::Both(_, _) | Node::Either(_, _) =>
+            true,
+        _ => false,
+    }
+}
+
+pub fn has_sort(nodes: &[u8], n: u16, sort: Sort) -> bool
+    ensures { λ r. ⌜ r ≡ sameSort (sortFor sort) (sortOf (nodeAt (now (nodes .entry)) n)) ⌝ }
+{
+    match sort {
+        Sort::Number => is_number(nodes, n),
+        Sort::Truth => is_truth(nodes, n),
+    }
+}
+
+fn operands_of(node: Node) -> Operands
+    ensures { λ r. ⌜ operandsFor r ≡ operands (nodeFor node) ⌝ }
+{
+    match node {
+        Node::Arithmetic(_, a, b) => Operands::Two(Sort::Number, a, b),
+        Node::Choice(t, a, b) => Operands::Choice(t, a, b),
+        Node::Comparison(_, a, b) => Operands::Two(Sort::Number, a, b),
+        Node::Negation(a) => Operands::One(Sort::Truth, a),
+        Node::Both(a, b) => Operands::Two(Sort::Truth, a, b),
+        Node::Either(a, b) => Operands::Two(Sort::Truth, a, b),
+        _ => Operands::Leaf,
+    }
+}
+
+fn operands_at(nodes: &[u8], n: u16) -> Operands
+    ensures { λ r. ⌜ operandsFor r ≡ operands (nodeAt (now (nodes .entry)) n) ⌝ }
+{
+    operands_of(node_at(nodes, n))
+}
+
+fn all_below(o: Operands, size: u16) -> bool
+    ensures { λ r. ⌜ r ≡ all (λ k. ltb (k .0) size) (operandsFor o) ⌝ }
+{
+    match o {
+        Operands::Leaf => true,
+        Operands::One(_, a) => a < size,
+        Operands::Two(_, a, b) => (a < size) & (b < size),
+        Operands::Choice(t, a, b) => (t < size) & (a < size) & (b < size),
+    }
+}
+
+fn variable_below(node: Node, variables: u16) -> bool
+    ensures { λ r. ⌜ r ≡ all (λ v. ltb v variables) (variablesOf (nodeFor node)) ⌝ }
+{
+    match node {
+        Node::Variable(v) => v < variables,
+        _ => true,
+    }
+}
+
+fn node_named(nodes: &[u8], n: u16, size: u16, variables: u16) -> bool
+    ensures { λ r. ⌜ r ≡ nodeNamed (nodeAt (now (nodes .entry))) size variables n ⌝ }
+{
+    all_below(operands_at(nodes, n), size) & variable_below(node_at(nodes, n), variables)
+}
+
+// Each operand is one of `size` nodes, and each variable one of `variables`.
+pub fn nodes_named(nodes: &[u8], size: u16, variables: u16) -> bool
+    ensures { λ r. ⌜ r ≡ nodesNamed (nodeAt (now (nodes .entry))) size variables ⌝ }
+{
+    let mut n = 0;
+    while n < size {
+        if !node_named(nodes, n, size, variables) {
+            return false;
+        }
+        n += 1;
+    }
+    true
+}
+
+fn operand_fits(nodes: &[u8], n: u16, k: u16, sort: Sort) -> bool
+    ensures { λ r. ⌜ r ≡ operandFits (nodeAt (now (nodes .entry))) n (k, sortFor sort) ⌝ }
+{
+    (k < n) & has_sort(nodes, k, sort)
+}
+
+fn node_fits(nodes: &[u8], n: u16) -> bool
+    ensures { λ r. ⌜ r ≡ nodeFits (nodeAt (now (nodes .entry))) n ⌝ }
+{
+    match operands_at(nodes, n) {
+        Operands::Leaf => true,
+        Operands::One(s, a) => operand_fits(nodes, n, a, s),
+        Operands::Two(s, a, b) => operand_fits(nodes, n, a, s) & operand_fits(nodes, n, b, s),
+        Operands::Choice(t, a, b) => {
+            operand_fits(nodes, n, t, Sort::Truth)
+                & operand_fits(nodes, n, a, Sort::Number)
+                & operand_fits(nodes, n, b, Sort::Number)
+        }
+    }
+}
+
+// Each operand of `size` nodes is lower than its node, and of the right sort.
+pub fn operands_fit(nodes: &[u8], size: u16) -> bool
+    ensures { λ r. ⌜ r ≡ operandsFit (nodeAt (now (nodes .entry))) size ⌝ }
+{
+    let mut n = 0;
+    while n < size {
+        if !node_fits(nodes, n) {
+            return false;
+        }
+        n += 1;
+    }
+    true
+}
+
+// Twice is as often as any test asks: more fits no byte.
+fn one_more(used: u8) -> u8
+    ensures { λ r. ⌜ r ≡ min 2 (used + 1) ⌝ }
+{
+    if used == 0 { 1 } else { 2 }
+}
+
+// A use of node k, where `uses` has a place for it.
+pub fn add_use(uses: &mut [u8], k: u16)
+    ensures { λ _. ⌜ now (uses .exit) ≡ addUse (now (uses .entry)) k ⌝ }
+{
+    let i = k as usize;
+    if i < uses.len() {
+        let used = uses[i];
+        uses[i] = one_more(used);
+    }
+}
+
+fn count_node(nodes: &[u8], n: u16, uses: &mut [u8])
+    ensures { λ _. ⌜ now (uses .exit) ≡ addUses (now (uses .entry)) (operandNumbers (nodeAt (now (nodes .entry)) n)) ⌝ }
+{
+    match operands_at(nodes, n) {
+        Operands::Leaf => {}
+        Operands::One(_, a) => add_use(uses, a),
+        Operands::Two(_, a, b) => {
+            add_use(uses, a);
+            add_use(uses, b);
+        }
+        Operands::Choice(t, a, b) => {
+            add_use(uses, t);
+            add_use(uses, a);
+            add_use(uses, b);
+        }
+    }
+}
+
+// The uses of nodes as operands of the first `size` nodes.
+pub fn count_operands(nodes: &[u8], size: u16, uses: &mut [u8])
+    ensures { λ _. ⌜ now (uses .exit) ≡ addUses (now (uses .entry)) (allOperands (nodeAt (now (nodes .entry))) size) ⌝ }
+{
+    let mut n = 0;
+    while n < size {
+        count_node(nodes, n, uses);
+        n += 1;
+    }
+}
