@@ -6,3 +6,4 @@ pub mod Arms
 pub mod Tags
 pub mod Loops
 pub mod Uses
+mod Examples

@@ -1,14 +1,13 @@
 -- Arithmetic of two 32-bit numbers in 64 bits: no sum, product or quotient leaves 64 bits, and the result's bits stand for the result. Assumes nothing.
 use mathlib.Core.Path.{_≡_, refl, sym, ap, _∙_, subst}
 use mathlib.Core.Bool.{Bool, true, false, cond, _&&_}
-use mathlib.Core.Logic.{_⊎_, inl, inr, ⊎-elim}
 use Prim.Native.Nat.{ℕ, zero, suc, _+_, _-_, _*_, _/_, _≤_, _<_, _^_}
 use native.Mathlib.Nat.{le-trans, mul-le-mul, div-le-self, le-antisymm, le-refl}
 use native.Mathlib.Omega.{arith}
-use borrow.Author.Tests.{ltb-true, ltb-false, leb-true, lt-ltb, le-ltb, ne-eqb, leb-false, eqb-true, eqb-false, le-leb}
+use borrow.Author.Tests.{leb-true, le-ltb, ne-eqb, leb-false, eqb-true, eqb-false, le-leb}
 use lib.Dec.{T, leb, ltb, eqb, eqb·suc-zero, leb→le}
 use lib.IntN.{ℤ, pos, negsuc, negℤ, subℕ, natAbs, _+ℤ_, _-ℤ_, _*ℤ_}
-use lib.Signed.{leZ, ltZ, mag, quotZ, remZ, mag-rem, natAbs-le}
+use lib.Signed.{leZ, mag, quotZ, remZ, mag-rem, natAbs-le}
 use mir.Facts.{toZ-ofZ, sfits-widen}
 use mir.Syntax.{w32, w64}
 use mir.Val.{SFits, toZ, ofZ}

@@ -1,10 +1,11 @@
 // Sorts, order and use of nodes, which the checks of a file ask of.
 ghost use mathlib.Core.Path.{_≡_};
+ghost use mathlib.Core.List.{map};
 ghost use Prim.Native.Nat.{_+_, min};
 ghost use lib.Dec.{ltb};
-ghost use Rattle.records.specs.Lists.{all};
+ghost use Rattle.records.specs.Lists.{all, upto};
 ghost use Rattle.expressions.specs.Nodes.{nodeAt};
-ghost use Rattle.expressions.specs.Sorts.{sortOf, isNumber, isTruth, sameSort, operands, variablesOf, nodeNamed, nodesNamed, operandFits, nodeFits, operandsFit};
+ghost use Rattle.expressions.specs.Sorts.{sortOf, isNumber, isTruth, sameSort, operands, variablesOf, nodeNamed, nodesNamed, operandFits, nodeFits, operandsFit, operandUses};
 ghost use Rattle.expressions.specs.Uses.{operandNumbers, allOperands, addUse, addUses};
 ghost use Rattle.expressions.specs.Answers.{nodeFor, sortFor, operandsFor};
 use super::nodes::Node;
@@ -192,4 +193,13 @@ pub fn count_operands(nodes: &[u8], size: u16, uses: &mut [u8])
         count_node(nodes, n, uses);
         n += 1;
     }
+}
+
+// The uses of nodes as operands, up to 2, of each node that a file may have.
+pub fn operand_uses(nodes: &[u8], size: u16) -> [u8; 1024]
+    ensures { λ r. ⌜ r ≡ map (λ k. min 2 (operandUses (nodeAt (now (nodes .entry))) size k)) (upto 1024) ⌝ }
+{
+    let mut uses = [0u8; 1024];
+    count_operands(nodes, size, &mut uses);
+    uses
 }

@@ -1,5 +1,5 @@
 -- `arithmetic::compare` meets its contract: what 32 bits hold of two numbers compares as the numbers do. Assumes nothing.
-use mathlib.Core.Path.{_≡_, sym, ap, _∙_}
+use mathlib.Core.Path.{sym, ap, _∙_}
 use lib.Signed.{ltZ, leZ}
 use borrow.Author.Needs.{needs}
 use mir.Facts.{toZ-ofZ}

@@ -1,6 +1,6 @@
 -- `arithmetic::in_range` meets its contract: its two comparisons are the range's one bound on `mag`. Assumes nothing.
-use mathlib.Core.Path.{_≡_, sym, ap, _∙_, subst}
-use mathlib.Core.Bool.{true, false}
+use mathlib.Core.Path.{_≡_, ap, _∙_, subst}
+use mathlib.Core.Bool.{false}
 use mathlib.Core.Logic.{⊎-elim}
 use Prim.Native.Nat.{_<_, _^_}
 use borrow.Author.Tests.{lt-ltb}

@@ -1,5 +1,5 @@
 -- `arithmetic::wide` meets its contract: 64 bits hold what 32 hold. Assumes nothing.
-use mathlib.Core.Path.{_≡_, _∙_}
+use mathlib.Core.Path.{_∙_}
 use mir.Facts.{toZ-ofZ, sfits-widen, sfits-toZ, fits-ofZ}
 use Rattle.expressions.proofs.arithmetic.wide.Statement.{statement}
 use Rattle.expressions.proofs.arithmetic.wide.Tie as tie

@@ -1,5 +1,5 @@
 -- `sorts::node_named` meets its contract: operands and variables of the node that is read. Assumes nothing.
-use mathlib.Core.Path.{_≡_, ap, _∙_}
+use mathlib.Core.Path.{ap, _∙_}
 use mathlib.Core.Bool.{_&&_}
 use borrow.Author.Needs.{needs}
 use lib.Dec.{ltb}

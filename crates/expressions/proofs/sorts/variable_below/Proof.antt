@@ -1,5 +1,5 @@
 -- `sorts::variable_below` meets its contract: a node that is no variable names none. Assumes nothing.
-use mathlib.Core.Path.{_≡_, sym, ap, _∙_}
+use mathlib.Core.Path.{sym, ap, _∙_}
 use borrow.Author.Needs.{needs}
 use lib.Dec.{ltb}
 use Rattle.records.specs.Lists.{all}

@@ -15,7 +15,7 @@ use mir.Syntax.{w32}
 use mir.Val.{toZ, ofZ}
 use Rattle.records.specs.Refusal.{Out, val, _>>=_, choose}
 use Rattle.expressions.specs.Nodes.{nodeAt}
-use Rattle.expressions.specs.Values.{compute, compare, computePair, comparePair, decide, operandNumber, operandTruth, operandPair}
+use Rattle.expressions.specs.Values.{compute, compare, computePair, comparePair, operandNumber, operandTruth}
 use Rattle.expressions.specs.Answers.{numberOf, truthOf, operatorOf, relationOf}
 use Rattle.expressions.proofs.Arms.{pair-bind, picked-one, decide-fault, decide-first, decide-second, number-arm, truth-arm}
 use Rattle.expressions.proofs.Tags.{no-number, no-truth}

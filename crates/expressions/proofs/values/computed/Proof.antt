@@ -3,7 +3,6 @@ use mathlib.Core.Path.{_≡_, sym, ap, _∙_}
 use borrow.Author.Needs.{needs}
 use mir.Syntax.{w32}
 use mir.Val.{toZ, ofZ}
-use Rattle.records.specs.Refusal.{val}
 use Rattle.expressions.specs.Values.{compute, computePair}
 use Rattle.expressions.specs.Answers.{pairOf, operatorOf}
 use Rattle.expressions.proofs.values.computed.Statement.{statement}

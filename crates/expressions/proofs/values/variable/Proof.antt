@@ -1,5 +1,5 @@
 -- `values::variable` meets its contract: 32 bits hold what 16 hold, and past the end is 0. Assumes nothing.
-use mathlib.Core.Path.{_≡_, sym, _∙_}
+use mathlib.Core.Path.{sym, _∙_}
 use borrow.Author.Needs.{needs}
 use denote.Ref.{now}
 use lib.IntN.{pos}

@@ -1,0 +1,10 @@
+//! Links the static libraries that `rt staticlib` wrote.
+use std::path::Path;
+
+fn main() {
+    let package = std::env::var("CARGO_MANIFEST_DIR").expect("cargo sets it");
+    let libraries = Path::new(&package).join("../../target/staticlib");
+    println!("cargo:rustc-link-search=native={}", libraries.display());
+    println!("cargo:rustc-link-lib=static=comparison");
+    println!("cargo:rerun-if-changed={}", libraries.join("libcomparison.a").display());
+}
