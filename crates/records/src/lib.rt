@@ -117,7 +117,7 @@ fn unsigned16(z: i16) -> u16
     if z < 0 { 65535 - (!z as u16) } else { z as u16 }
 }
 
-fn unsigned32(z: i32) -> u32
+pub fn unsigned32(z: i32) -> u32
     ensures { λ r. ⌜ r ≡ unsigned (2 ^ 31) z ⌝ }
 {
     if z < 0 {
