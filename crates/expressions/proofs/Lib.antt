@@ -6,4 +6,5 @@ pub mod Arms
 pub mod Tags
 pub mod Loops
 pub mod Uses
-mod Examples
+pub mod ExampleNodes
+mod ValueExamples

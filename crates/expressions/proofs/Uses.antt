@@ -21,7 +21,7 @@ adds-append u (x ∷ xs) ys = adds-append (addUse u x) xs ys
 pub adds-length : (u ks : List ℕ) → length (addUses u ks) ≡ length u
 unfolding addUses
 adds-length u [] = refl
-adds-length u (k ∷ ks) = adds-length (addUse u k) ks ∙ length-set u k (min 2 (getD u k 0 + 1))
+adds-length u (k ∷ ks) = adds-length (addUse u k) ks ∙ length-set u k _
 
 -- ---- what a place holds
 
@@ -39,7 +39,7 @@ module _ (k : ℕ) where
   unfolding addUses count
   adds-at u [] h l = omega arith
   adds-at u (x ∷ xs) h l =
-      go (eqb x k) refl (adds-at (addUse u x) xs (let e : length (addUse u x) ≡ length u = length-set u x (min 2 (getD u x 0 + 1)) in omega arith))
+      go (eqb x k) refl (adds-at (addUse u x) xs (let e : length (addUse u x) ≡ length u = length-set u x _ in omega arith))
     where
       go : (b : Bool) → eqb x k ≡ b → (getD (addUse u x) k 0 ≤ 2 → getD (addUses (addUse u x) xs) k 0 ≡ min 2 (getD (addUse u x) k 0 + times k xs)) →
           getD (addUses (addUse u x) xs) k 0 ≡ min 2 (getD u k 0 + cond b (suc (times k xs)) (times k xs))

@@ -1,12 +1,12 @@
 // Sums, products and comparisons of 32-bit numbers, worked out in 64 bits.
 ghost use mathlib.Core.Path.{_≡_};
-ghost use Rattle.expressions.specs.Nodes.{sum, difference, product, quotient, remainder as remainder-of};
-ghost use Rattle.expressions.specs.Values.{inRange, compute as computed, compare as compared};
+ghost use Rattle.expressions.specs.Nodes.{sum, difference, product, quotient, remainder};
+ghost use Rattle.expressions.specs.Values.{inRange, compute, compare};
 ghost use Rattle.expressions.specs.Answers.{numberOf, operatorOf, relationOf};
 use super::nodes::Operator;
 use super::nodes::Relation;
 
-// Why a value has no answer.
+// Why there is no value.
 pub enum Reason {
     Range,
     Divisor,
@@ -34,6 +34,7 @@ fn wide(x: i32) -> i64
     x as i64
 }
 
+// The end of every operation: the one place where a number is refused for its size.
 fn in_range(z: i64) -> Number
     ensures { λ r. ⌜ numberOf r ≡ inRange z ⌝ }
 {
@@ -45,25 +46,25 @@ fn in_range(z: i64) -> Number
 }
 
 pub fn add(a: i32, b: i32) -> Number
-    ensures { λ r. ⌜ numberOf r ≡ computed sum a b ⌝ }
+    ensures { λ r. ⌜ numberOf r ≡ compute sum a b ⌝ }
 {
     in_range(wide(a) + wide(b))
 }
 
 pub fn subtract(a: i32, b: i32) -> Number
-    ensures { λ r. ⌜ numberOf r ≡ computed difference a b ⌝ }
+    ensures { λ r. ⌜ numberOf r ≡ compute difference a b ⌝ }
 {
     in_range(wide(a) - wide(b))
 }
 
 pub fn multiply(a: i32, b: i32) -> Number
-    ensures { λ r. ⌜ numberOf r ≡ computed product a b ⌝ }
+    ensures { λ r. ⌜ numberOf r ≡ compute product a b ⌝ }
 {
     in_range(wide(a) * wide(b))
 }
 
 pub fn divide(a: i32, b: i32) -> Number
-    ensures { λ r. ⌜ numberOf r ≡ computed quotient a b ⌝ }
+    ensures { λ r. ⌜ numberOf r ≡ compute quotient a b ⌝ }
 {
     if b == 0 {
         Number::Fault(Reason::Divisor)
@@ -73,7 +74,7 @@ pub fn divide(a: i32, b: i32) -> Number
 }
 
 pub fn remainder(a: i32, b: i32) -> Number
-    ensures { λ r. ⌜ numberOf r ≡ computed remainder-of a b ⌝ }
+    ensures { λ r. ⌜ numberOf r ≡ compute remainder a b ⌝ }
 {
     if b == 0 {
         Number::Fault(Reason::Divisor)
@@ -83,7 +84,7 @@ pub fn remainder(a: i32, b: i32) -> Number
 }
 
 pub fn compute(o: Operator, a: i32, b: i32) -> Number
-    ensures { λ r. ⌜ numberOf r ≡ computed (operatorOf o) a b ⌝ }
+    ensures { λ r. ⌜ numberOf r ≡ compute (operatorOf o) a b ⌝ }
 {
     match o {
         Operator::Sum => add(a, b),
@@ -95,7 +96,7 @@ pub fn compute(o: Operator, a: i32, b: i32) -> Number
 }
 
 pub fn compare(o: Relation, a: i32, b: i32) -> bool
-    ensures { λ r. ⌜ r ≡ compared (relationOf o) a b ⌝ }
+    ensures { λ r. ⌜ r ≡ compare (relationOf o) a b ⌝ }
 {
     match o {
         Relation::Equal => a == b,

@@ -148,7 +148,7 @@ pub fn operands_fit(nodes: &[u8], size: u16) -> bool
     true
 }
 
-// Twice is as often as any test asks: more fits no byte.
+// A count stops at 2: tests ask for none, once or more, and the count then fits its byte.
 fn one_more(used: u8) -> u8
     ensures { λ r. ⌜ r ≡ min 2 (used + 1) ⌝ }
 {

@@ -10,7 +10,8 @@ use Rattle.model.specs.Outcome.{Outcome}
 use Rattle.model.specs.Runs.{Run}
 use Rattle.model.specs.Calls.{chartSets, startCall, turnCall, cycleCall, numbered, answerCode}
 use Rattle.model.specs.Replay.{Replayed, replay, Replay}
-use Rattle.model.proofs.ExampleSets.{Agree, ascii, inputOf, blank, assigning, grouped, raising, timing, dividing, overstepping, zeroWatch}
+use Rattle.records.proofs.Tables.{Agree}
+use Rattle.model.proofs.ExampleSets.{ascii, inputOf, blank, assigning, grouped, raising, timing, dividing, overstepping, zeroWatch}
 
 -- the lines printed, then the number of the refusal that ended it, or 0
 abbrev ending : Option Refusal → ℕ

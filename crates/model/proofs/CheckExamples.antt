@@ -9,7 +9,8 @@ use Rattle.model.specs.Runs.{Run}
 use Rattle.model.specs.Translation.{twinBytes, Translation}
 use Rattle.model.specs.AutomataFile.{AutomataFile}
 use Rattle.model.specs.Calls.{Format, chartSets, automataTables, turnCall, numbered, answerCode}
-use Rattle.model.proofs.ExampleSets.{Agree, timing, waiting}
+use Rattle.records.proofs.Tables.{Agree}
+use Rattle.model.proofs.ExampleSets.{timing, waiting}
 
 -- a run of `timing`: its first two states and ages, its first variables, the rest zero
 abbrev run : (at timers : List ℕ) (vars : List ℤ) (events position cycles : ℕ) → Run

@@ -1,20 +1,13 @@
 -- Files for the examples: records of each kind, text, and chart sets as bytes. Assumes nothing: these are definitions.
-use mathlib.Core.Path.{_≡_}
 use mathlib.Core.List.{List, [], _∷_, _++_, map}
 use Prim.Native.Nat.{ℕ}
 use Prim.Native.Char.{code}
 use Prim.Native.String.{String, len, charAt}
 use lib.IntN.{ℤ, pos}
 use Rattle.model.specs.Runs.{Run}
-use Rattle.records.specs.Lists.{gather, padded, upto}
+use Rattle.records.specs.Lists.{gather, upto}
 use Rattle.records.specs.Bytes.{bytes2, bytes4}
-
--- ---- tables of examples
-
--- of a table's rows, each what the definitions give and what is right: every row agrees
-abbrev pub Agree : {A : Type 0} → List (A × A) → Type 0
-Agree [] = Unit
-Agree (row ∷ rows) = (row .0 ≡ row .1) × Agree rows
+use Rattle.expressions.proofs.ExampleNodes.{rec16, node, constant, read, binary}
 
 -- ---- text
 
@@ -25,9 +18,6 @@ ascii t = map (λ i. code (charAt t i)) (upto (len t))
 -- masks as standard input has them
 abbrev pub inputOf : List ℕ → List ℕ
 inputOf masks = gather bytes4 masks
-
-abbrev pub rec16 : List ℕ → List ℕ
-rec16 body = padded 16 0 body
 
 -- ---- records; a negative number is given by its code, as 65535 for −1
 
@@ -52,18 +42,6 @@ timed trigger s t ms = transition 1 s t trigger 0 ms 65535
 
 abbrev pub variable : (lowest highest start : ℕ) → List ℕ
 variable lo hi z = rec16 (4 ∷ 0 ∷ bytes2 lo ++ bytes2 hi ++ bytes2 z)
-
-abbrev pub node : (operator a b c constant : ℕ) → List ℕ
-node o a b c z = rec16 (5 ∷ o ∷ bytes2 a ++ bytes2 b ++ bytes2 c ++ bytes4 z)
-
-abbrev pub constant : ℕ → List ℕ
-constant z = node 1 0 0 0 z
-
-abbrev pub read : (variable : ℕ) → List ℕ
-read v = node 2 v 0 0 0
-
-abbrev pub binary : (operator a b : ℕ) → List ℕ
-binary o a b = node o a b 0 0
 
 abbrev pub action : (place owner deed x node : ℕ) → List ℕ
 action place owner deed x n = rec16 (6 ∷ place ∷ bytes2 owner ++ (deed ∷ x ∷ bytes2 n))

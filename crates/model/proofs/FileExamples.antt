@@ -9,7 +9,9 @@ use Rattle.records.specs.Refusal.{Refusal, refusalNumber}
 use Rattle.model.specs.ChartFile.{chartsRefusal, ChartFile}
 use Rattle.model.specs.AutomataFile.{automataRefusal, AutomataFile}
 use Rattle.model.specs.Translation.{twinBytes, Translation}
-use Rattle.model.proofs.ExampleSets.{Agree, chart, state, freely, timed, constant, action, zeroWatch, waiting, raising}
+use Rattle.records.proofs.Tables.{Agree}
+use Rattle.expressions.proofs.ExampleNodes.{constant}
+use Rattle.model.proofs.ExampleSets.{chart, state, freely, timed, action, zeroWatch, waiting, raising}
 
 -- bytes put in at places
 abbrev edited : List ℕ → List (ℕ × ℕ) → List ℕ

@@ -1,8 +1,8 @@
 pub mod Traces
 pub mod ExampleSets
-pub mod MarkedExamples
-pub mod ChartExamples
-pub mod CheckExamples
-pub mod PathExamples
-pub mod FileExamples
-pub mod TwinExamples
+mod MarkedExamples
+mod ChartExamples
+mod CheckExamples
+mod PathExamples
+mod FileExamples
+mod TwinExamples

@@ -15,7 +15,9 @@ use Rattle.model.specs.ChartFile.{chartsRefusal}
 use Rattle.model.specs.Translation.{translate, Translation}
 use Rattle.model.specs.Calls.{chartSets, check, startCall, turnCall, numbered, answerCode}
 use Rattle.model.specs.Replay.{Replayed, replay, Replay}
-use Rattle.model.proofs.ExampleSets.{Agree, ascii, inputOf, blank, constant, binary, zeroWatch, waiting, assigning}
+use Rattle.records.proofs.Tables.{Agree}
+use Rattle.expressions.proofs.ExampleNodes.{constant, binary}
+use Rattle.model.proofs.ExampleSets.{ascii, inputOf, blank, zeroWatch, waiting, assigning}
 
 abbrev text : List ℕ → List ℤ
 text bytes = map pos bytes

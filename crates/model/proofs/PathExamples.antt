@@ -10,7 +10,8 @@ use Rattle.model.specs.Translation.{twinBytes, translate}
 use Rattle.model.specs.PathBack.{pathBack, PathBack}
 use Rattle.model.specs.AutomataFile.{AutomataFile}
 use Rattle.model.specs.Calls.{automataTables, startCall, cycleCall, callTrace, numbered, answerCode}
-use Rattle.model.proofs.ExampleSets.{Agree, blank, zeroWatch, waiting, raising}
+use Rattle.records.proofs.Tables.{Agree}
+use Rattle.model.proofs.ExampleSets.{blank, zeroWatch, waiting, raising}
 
 -- ---- the twin's own path: the edges that it takes, 65,535 for time
 

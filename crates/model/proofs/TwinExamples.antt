@@ -11,7 +11,9 @@ use Rattle.model.specs.Runs.{Run}
 use Rattle.model.specs.Translation.{twinBytes, Translation}
 use Rattle.model.specs.AutomataFile.{AutomataFile}
 use Rattle.model.specs.Calls.{automataTables, startCall, turnCall, numbered, answerCode}
-use Rattle.model.proofs.ExampleSets.{Agree, blank, rec16, chart, state, transition, freely, onEvent, variable, constant, read, binary, action}
+use Rattle.records.proofs.Tables.{Agree}
+use Rattle.expressions.proofs.ExampleNodes.{rec16, constant, read, binary}
+use Rattle.model.proofs.ExampleSets.{blank, chart, state, transition, freely, onEvent, variable, action}
 
 -- ---- the translation
 

@@ -3,3 +3,4 @@ pub mod Records
 pub mod RoundTrips
 pub mod FramingLaws
 pub mod Framed
+pub mod Tables
