@@ -5,6 +5,7 @@ use crate::automata::{self, AutomataTable};
 use crate::charts::{self, ChartSet};
 use crate::path_back;
 use crate::refusals::Refusal;
+use crate::runs::Machine;
 use crate::runs::{Answer, AutomataRun, ChartsRun};
 use crate::translation;
 

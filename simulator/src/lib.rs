@@ -32,4 +32,4 @@ pub mod variables;
 pub use automata::AutomataTable;
 pub use charts::ChartSet;
 pub use random::Random;
-pub use runs::{Answer, AutomataRun, ChartsRun};
+pub use runs::{Answer, AutomataRun, ChartsRun, Machine};

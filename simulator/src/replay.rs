@@ -2,6 +2,7 @@
 
 use crate::charts::ChartSet;
 use crate::refusals::Refusal;
+use crate::runs::Machine;
 use crate::runs::{Answer, ChartsRun};
 
 pub struct Replay {

@@ -94,3 +94,47 @@ pub fn chart_in_turn(n: usize, position: u32) -> Option<usize> {
     let index = usize::try_from(position).expect("a position is small") - 1;
     (index < n).then_some(index)
 }
+
+/// Charts or automata, as calls see them: what is said once of both.
+pub trait Machine {
+    type Run: Copy;
+
+    /// Refusals 12, 13 and 14.
+    fn check_before_turn(&self, run: &Self::Run, events: u32) -> Result<(), Refusal>;
+
+    /// The run with the input events, which are given at position 1.
+    fn with_events(run: &Self::Run, events: u32) -> Self::Run;
+
+    /// The turn of the present position, unchecked; after a fault the run is of no use.
+    fn advance(&self, run: &mut Self::Run) -> Result<Answer, Refusal>;
+
+    /// One turn; a refusal or fault leaves the run as it was.
+    fn turn(&self, run: &mut Self::Run, events: u32) -> Result<Answer, Refusal> {
+        self.check_before_turn(run, events)?;
+        let mut next = Self::with_events(run, events);
+        let answer = self.advance(&mut next)?;
+        *run = next;
+        Ok(answer)
+    }
+
+    /// The turns from the present position up to n + 1; a refusal or fault leaves the run as it was.
+    fn cycle(&self, run: &mut Self::Run, events: u32) -> Result<(), Refusal> {
+        self.check_before_turn(run, events)?;
+        let mut next = Self::with_events(run, events);
+        while self.advance(&mut next)? != Answer::Time {}
+        *run = next;
+        Ok(())
+    }
+
+    /// One cycle for each mask, until one is refused or faults; a number only if that is the first.
+    fn play(&self, run: &mut Self::Run, masks: &[u32]) -> Result<usize, Refusal> {
+        for (played, events) in masks.iter().enumerate() {
+            match self.cycle(run, *events) {
+                Err(number) if played == 0 => return Err(number),
+                Err(_) => return Ok(played),
+                Ok(()) => {}
+            }
+        }
+        Ok(masks.len())
+    }
+}

@@ -10,6 +10,7 @@ use simulator::operators::*;
 use simulator::records::*;
 use simulator::timing::{Clock, Timing};
 use simulator::variables::Variable;
+use simulator::Machine;
 use simulator::{Answer, AutomataRun, Random};
 use std::collections::BTreeMap;
 

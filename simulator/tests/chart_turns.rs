@@ -9,6 +9,7 @@ use simulator::records::*;
 use simulator::replay::replay;
 use simulator::variables::Variable;
 use simulator::Answer;
+use simulator::Machine;
 
 /// The answers of all charts' turns, cycle by cycle.
 fn answers(set: &[u8], masks: &[u32]) -> Vec<Vec<Answer>> {

@@ -9,6 +9,7 @@ use simulator::generate::paths::{broken, walk, whole_run, BREAKS};
 use simulator::generate::sets::{any_valid_set, valid_set, Size};
 use simulator::path_back::{path_back, rows_of};
 use simulator::translation::twin;
+use simulator::Machine;
 use simulator::{Answer, Random};
 
 const TIME: u16 = 65_535;

@@ -8,6 +8,7 @@ use simulator::generate::states::*;
 use simulator::generate::tables::any_table;
 use simulator::runs::{AutomataRun, ChartsRun};
 use simulator::translation::twin;
+use simulator::Machine;
 use simulator::{Answer, Random};
 
 #[test]

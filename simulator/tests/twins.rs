@@ -9,6 +9,7 @@ use simulator::generate::states::late_count;
 use simulator::runs::{Answer, AutomataRun, ChartsRun};
 use simulator::timing::Timing;
 use simulator::translation::twin;
+use simulator::Machine;
 use simulator::{chart_sets, Random};
 use std::collections::BTreeMap;
 

@@ -8,6 +8,7 @@ use simulator::records::*;
 use simulator::replay::replay;
 use simulator::timing::ticks;
 use simulator::translation::translate;
+use simulator::Machine;
 use simulator::{automata, charts, Answer, AutomataTable};
 
 fn masks(list: &[u32]) -> Vec<u8> {

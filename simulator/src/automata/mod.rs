@@ -9,7 +9,7 @@ pub use raw::{RawEdge, RawLiteral, RawTable, RawUpdate};
 pub use tables::{AutomataTable, Edge, Literal, LiteralTrigger};
 
 use crate::refusals::Refusal;
-use crate::runs::{Answer, AutomataRun};
+use crate::runs::{Answer, AutomataRun, Machine};
 
 /// 0 for an accepted table, else 11.
 pub fn check(table: &[u8]) -> u32 {

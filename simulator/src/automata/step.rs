@@ -4,8 +4,38 @@ use super::tables::{AutomataTable, Edge, Literal, LiteralTrigger};
 use crate::deeds::Scene;
 use crate::expressions::Evaluator;
 use crate::refusals::{Refusal, IMPOSSIBLE_STATE, NO_EDGE_OPEN, SEVERAL_EDGES_OPEN};
-use crate::runs::{chart_in_turn, check_input, course_possible, Answer, AutomataRun};
+use crate::runs::{chart_in_turn, check_input, course_possible, Answer, AutomataRun, Machine};
 use crate::variables::{start_values, values_possible};
+
+impl Machine for AutomataTable {
+    type Run = AutomataRun;
+
+    fn check_before_turn(&self, run: &AutomataRun, events: u32) -> Result<(), Refusal> {
+        if !self.possible(run) {
+            return Err(IMPOSSIBLE_STATE);
+        }
+        check_input(run.position, run.cycles, events)
+    }
+
+    fn with_events(run: &AutomataRun, events: u32) -> AutomataRun {
+        AutomataRun { events: run.events | events, ..*run }
+    }
+
+    fn advance(&self, run: &mut AutomataRun) -> Result<Answer, Refusal> {
+        match chart_in_turn(self.automata(), run.position) {
+            Some(automaton) => {
+                let edge = self.one_open_edge(run, automaton)?;
+                self.take(run, automaton, edge)?;
+                run.position += 1;
+                Ok(Answer::Taken(edge))
+            }
+            None => {
+                self.pass_time(run);
+                Ok(Answer::Time)
+            }
+        }
+    }
+}
 
 impl AutomataTable {
     /// Initial locations, variables at start, no events, clocks and count 0, position 1.
@@ -14,14 +44,6 @@ impl AutomataTable {
             AutomataRun { variables: start_values(&self.variables), position: 1, ..AutomataRun::ZERO };
         run.locations[..self.automata()].copy_from_slice(&self.initial);
         run
-    }
-
-    /// Refusals 12, 13 and 14.
-    pub fn check_before_turn(&self, run: &AutomataRun, events: u32) -> Result<(), Refusal> {
-        if !self.possible(run) {
-            return Err(IMPOSSIBLE_STATE);
-        }
-        check_input(run.position, run.cycles, events)
     }
 
     /// Check 12: whether a run of any content is possible for this table.
@@ -39,55 +61,6 @@ impl AutomataTable {
             && unused_clocks.iter().all(|clock| *clock == 0)
             && values_possible(&self.variables, &run.variables)
             && course_possible(self.automata(), run.position, run.cycles, run.events)
-    }
-
-    /// One turn; a refusal or fault leaves the run as it was.
-    pub fn turn(&self, run: &mut AutomataRun, events: u32) -> Result<Answer, Refusal> {
-        let mut next = self.given(run, events)?;
-        let answer = self.advance(&mut next)?;
-        *run = next;
-        Ok(answer)
-    }
-
-    /// The turns from the present position up to n + 1; a refusal or fault leaves the run as it was.
-    pub fn cycle(&self, run: &mut AutomataRun, events: u32) -> Result<(), Refusal> {
-        let mut next = self.given(run, events)?;
-        while self.advance(&mut next)? != Answer::Time {}
-        *run = next;
-        Ok(())
-    }
-
-    /// One cycle for each mask, until one is refused or faults; a number only if that is the first.
-    pub fn play(&self, run: &mut AutomataRun, masks: &[u32]) -> Result<usize, Refusal> {
-        for (played, events) in masks.iter().enumerate() {
-            match self.cycle(run, *events) {
-                Err(number) if played == 0 => return Err(number),
-                Err(_) => return Ok(played),
-                Ok(()) => {}
-            }
-        }
-        Ok(masks.len())
-    }
-
-    /// A copy of the run to work on, with the input events, which are given at position 1.
-    fn given(&self, run: &AutomataRun, events: u32) -> Result<AutomataRun, Refusal> {
-        self.check_before_turn(run, events)?;
-        Ok(AutomataRun { events: run.events | events, ..*run })
-    }
-
-    fn advance(&self, run: &mut AutomataRun) -> Result<Answer, Refusal> {
-        match chart_in_turn(self.automata(), run.position) {
-            Some(automaton) => {
-                let edge = self.one_open_edge(run, automaton)?;
-                self.take(run, automaton, edge)?;
-                run.position += 1;
-                Ok(Answer::Taken(edge))
-            }
-            None => {
-                self.pass_time(run);
-                Ok(Answer::Time)
-            }
-        }
     }
 
     /// All leaving edges are read before any is counted: a fault comes before 18 and 19.

@@ -9,7 +9,7 @@ pub use raw::{RawAction, RawSet, RawTransition};
 pub use tables::{ChartSet, Transition, Trigger};
 
 use crate::refusals::Refusal;
-use crate::runs::{Answer, ChartsRun};
+use crate::runs::{Answer, ChartsRun, Machine};
 
 /// 0 for an accepted set, else the lowest refusal number that applies.
 pub fn check(set: &[u8]) -> u32 {

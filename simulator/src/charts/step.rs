@@ -4,9 +4,34 @@ use super::tables::{ChartSet, Trigger};
 use crate::deeds::Scene;
 use crate::expressions::Evaluator;
 use crate::refusals::{Refusal, IMPOSSIBLE_STATE};
-use crate::runs::{chart_in_turn, check_input, course_possible, Answer, ChartsRun};
+use crate::runs::{chart_in_turn, check_input, course_possible, Answer, ChartsRun, Machine};
 use crate::timing::timing_holds;
 use crate::variables::{start_values, values_possible};
+
+impl Machine for ChartSet {
+    type Run = ChartsRun;
+
+    fn check_before_turn(&self, run: &ChartsRun, events: u32) -> Result<(), Refusal> {
+        if !self.possible(run) {
+            return Err(IMPOSSIBLE_STATE);
+        }
+        check_input(run.position, run.cycles, events)
+    }
+
+    fn with_events(run: &ChartsRun, events: u32) -> ChartsRun {
+        ChartsRun { events: run.events | events, ..*run }
+    }
+
+    fn advance(&self, run: &mut ChartsRun) -> Result<Answer, Refusal> {
+        match chart_in_turn(self.charts(), run.position) {
+            Some(chart) => self.chart_turn(run, chart),
+            None => {
+                self.pass_time(run);
+                Ok(Answer::Time)
+            }
+        }
+    }
+}
 
 impl ChartSet {
     /// Initial states, variables at start, no events, ages and count 0, position 1.
@@ -14,14 +39,6 @@ impl ChartSet {
         let mut run = ChartsRun { variables: start_values(&self.variables), position: 1, ..ChartsRun::ZERO };
         run.states[..self.charts()].copy_from_slice(&self.initial);
         run
-    }
-
-    /// Refusals 12, 13 and 14.
-    pub fn check_before_turn(&self, run: &ChartsRun, events: u32) -> Result<(), Refusal> {
-        if !self.possible(run) {
-            return Err(IMPOSSIBLE_STATE);
-        }
-        check_input(run.position, run.cycles, events)
     }
 
     /// Check 12: whether a run of any content is possible for this set.
@@ -37,50 +54,6 @@ impl ChartSet {
             && unused_ages.iter().all(|age| *age == 0)
             && values_possible(&self.variables, &run.variables)
             && course_possible(self.charts(), run.position, run.cycles, run.events)
-    }
-
-    /// One turn; a refusal or fault leaves the run as it was.
-    pub fn turn(&self, run: &mut ChartsRun, events: u32) -> Result<Answer, Refusal> {
-        let mut next = self.given(run, events)?;
-        let answer = self.advance(&mut next)?;
-        *run = next;
-        Ok(answer)
-    }
-
-    /// The turns from the present position up to n + 1; a refusal or fault leaves the run as it was.
-    pub fn cycle(&self, run: &mut ChartsRun, events: u32) -> Result<(), Refusal> {
-        let mut next = self.given(run, events)?;
-        while self.advance(&mut next)? != Answer::Time {}
-        *run = next;
-        Ok(())
-    }
-
-    /// One cycle for each mask, until one is refused or faults; a number only if that is the first.
-    pub fn play(&self, run: &mut ChartsRun, masks: &[u32]) -> Result<usize, Refusal> {
-        for (played, events) in masks.iter().enumerate() {
-            match self.cycle(run, *events) {
-                Err(number) if played == 0 => return Err(number),
-                Err(_) => return Ok(played),
-                Ok(()) => {}
-            }
-        }
-        Ok(masks.len())
-    }
-
-    /// A copy of the run to work on, with the input events, which are given at position 1.
-    fn given(&self, run: &ChartsRun, events: u32) -> Result<ChartsRun, Refusal> {
-        self.check_before_turn(run, events)?;
-        Ok(ChartsRun { events: run.events | events, ..*run })
-    }
-
-    fn advance(&self, run: &mut ChartsRun) -> Result<Answer, Refusal> {
-        match chart_in_turn(self.charts(), run.position) {
-            Some(chart) => self.chart_turn(run, chart),
-            None => {
-                self.pass_time(run);
-                Ok(Answer::Time)
-            }
-        }
     }
 
     fn chart_turn(&self, run: &mut ChartsRun, chart: usize) -> Result<Answer, Refusal> {

@@ -5,6 +5,7 @@ use crate::charts::{ChartSet, Trigger};
 use crate::deeds::Deed;
 use crate::random::Random;
 use crate::refusals::Refusal;
+use crate::runs::Machine;
 use crate::runs::{Answer, AutomataRun, ChartsRun};
 
 #[derive(Clone, Copy, Debug, PartialEq, Eq)]

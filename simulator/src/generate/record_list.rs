@@ -111,6 +111,7 @@ pub struct Damage {
 pub mod shared {
     use super::{not_zero, RecordList};
     use crate::random::Random;
+    use crate::records::{write_i16, Record};
 
     pub fn partial_record(random: &mut Random, list: &mut RecordList) -> bool {
         list.rest = (0..1 + random.below(15)).map(|_| random.u8()).collect();
@@ -145,5 +146,46 @@ pub mod shared {
     pub fn stray(random: &mut Random, record: &mut [u8; 16], bytes: &[usize]) {
         let at = random.pick(bytes);
         record[at] = not_zero(random);
+    }
+
+    pub fn any(_: &Record) -> bool {
+        true
+    }
+
+    pub fn unnamed(random: &mut Random, list: &mut RecordList, kind: u8, bytes: &[usize]) -> bool {
+        list.change(random, kind, any, |random, record| stray(random, record, bytes))
+    }
+
+    /// A byte that is not used under one of the codes.
+    pub fn unused(
+        random: &mut Random,
+        list: &mut RecordList,
+        kind: u8,
+        at: usize,
+        codes: &[u8],
+        bytes: &[usize],
+    ) -> bool {
+        list.change(random, kind, |r| codes.contains(&r[at]), |random, record| stray(random, record, bytes))
+    }
+
+    pub fn byte(
+        random: &mut Random,
+        list: &mut RecordList,
+        kind: u8,
+        fits: fn(&Record) -> bool,
+        at: usize,
+        values: &[u8],
+    ) -> bool {
+        list.change(random, kind, fits, |random, record| record[at] = random.pick(values))
+    }
+
+    /// A variable's lowest, highest and start.
+    pub fn range(random: &mut Random, list: &mut RecordList, kind: u8, values: &[(i16, i16, i16)]) -> bool {
+        list.change(random, kind, any, |random, record| {
+            let (lowest, highest, start) = random.pick(values);
+            write_i16(record, 2, lowest);
+            write_i16(record, 4, highest);
+            write_i16(record, 6, start);
+        })
     }
 }

@@ -1,5 +1,6 @@
 //! Damaged chart sets: every clause of refusals 1 to 9, one at a time or two together.
 
+use super::record_list::shared::{any, byte, range, unnamed, unused};
 use super::record_list::{not_zero, shared, Damage, RecordList};
 use crate::assemble;
 use crate::deeds::Deed;
@@ -102,10 +103,10 @@ pub const DAMAGES: &[Damage] = damages! {
     5 "too many milliseconds"
         |random, list| milliseconds(random, list, &[3_600_001, 3_600_049, 1 << 31, u32::MAX]);
     5 "start below lowest"
-        |random, list| range(random, list, &[(0, 5, -1), (-1, 5, -2), (300, 400, 299), (-32_767, 0, -32_768)]);
+        |random, list| range(random, list, VARIABLE, &[(0, 5, -1), (-1, 5, -2), (300, 400, 299), (-32_767, 0, -32_768)]);
     5 "start above highest"
-        |random, list| range(random, list, &[(0, 5, 6), (-5, -3, -2), (-5, -1, 0), (-400, 300, 301), (0, 32_766, 32_767)]);
-    5 "lowest above highest" |random, list| range(random, list, &[(5, -5, 0), (1, 0, 1), (1, 0, 0)]);
+        |random, list| range(random, list, VARIABLE, &[(0, 5, 6), (-5, -3, -2), (-5, -1, 0), (-400, 300, 301), (0, 32_766, 32_767)]);
+    5 "lowest above highest" |random, list| range(random, list, VARIABLE, &[(5, -5, 0), (1, 0, 1), (1, 0, 0)]);
     5 "unknown operator" |random, list| byte(random, list, NODE, any, 1, &[0, 9, 15, 22, 255]);
     5 "unknown operator, bytes passed over"
         |random, list| unknown_code(random, list, NODE, 1, &[2, 3, 4, 5, 6, 7, 8, 9, 10, 11]);
@@ -158,10 +159,6 @@ pub const DAMAGES: &[Damage] = damages! {
     9 "timing trigger of 0 ticks" |random, list| milliseconds(random, list, &[1, 2, 25, 48, 49]);
 };
 
-fn any(_: &Record) -> bool {
-    true
-}
-
 fn unknown_kind(random: &mut Random, list: &mut RecordList) -> bool {
     if list.records.is_empty() {
         return false;
@@ -181,27 +178,6 @@ fn unknown_kind_last(random: &mut Random, list: &mut RecordList) -> bool {
     record[0] = random.u8_between(7, 255);
     list.records.push(record);
     true
-}
-
-fn unnamed(random: &mut Random, list: &mut RecordList, kind: u8, bytes: &[usize]) -> bool {
-    list.change(random, kind, any, |random, record| shared::stray(random, record, bytes))
-}
-
-/// A byte that is not used under one of the codes.
-fn unused(
-    random: &mut Random,
-    list: &mut RecordList,
-    kind: u8,
-    at: usize,
-    codes: &[u8],
-    bytes: &[usize],
-) -> bool {
-    list.change(
-        random,
-        kind,
-        |r| codes.contains(&r[at]),
-        |random, record| shared::stray(random, record, bytes),
-    )
 }
 
 /// An unknown code together with a byte other than zero.
@@ -225,29 +201,9 @@ fn raise_of_unknown_place(random: &mut Random, list: &mut RecordList) -> bool {
     )
 }
 
-fn byte(
-    random: &mut Random,
-    list: &mut RecordList,
-    kind: u8,
-    fits: fn(&Record) -> bool,
-    at: usize,
-    values: &[u8],
-) -> bool {
-    list.change(random, kind, fits, |random, record| record[at] = random.pick(values))
-}
-
 fn milliseconds(random: &mut Random, list: &mut RecordList, values: &[u32]) -> bool {
     let timed = |r: &Record| r[6] == AFTER || r[6] == EVERY;
     list.change(random, TRANSITION, timed, |random, record| write_u32(record, 8, random.pick(values)))
-}
-
-fn range(random: &mut Random, list: &mut RecordList, values: &[(i16, i16, i16)]) -> bool {
-    list.change(random, VARIABLE, any, |random, record| {
-        let (lowest, highest, start) = random.pick(values);
-        write_i16(record, 2, lowest);
-        write_i16(record, 4, highest);
-        write_i16(record, 6, start);
-    })
 }
 
 /// A 16-bit number that names no record of a kind: the first past them, or a far one.

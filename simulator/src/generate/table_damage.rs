@@ -1,5 +1,6 @@
 //! Damaged automata files: every clause of refusal 11.
 
+use super::record_list::shared::{any, byte, range, unnamed, unused};
 use super::record_list::{shared, Damage, RecordList};
 use crate::random::Random;
 use crate::records::*;
@@ -56,7 +57,7 @@ pub const DAMAGES: &[Damage] = damages! {
     "0 ticks" |random, list| word(random, list, CLOCK, any, 2, &[0]);
     "too many ticks" |random, list| word(random, list, CLOCK, any, 2, &[36_001, 40_000, 65_535]);
     "start outside its range"
-        |random, list| range(random, list, &[(0, 5, -1), (0, 5, 6), (5, -5, 0), (-5, -3, 0)]);
+        |random, list| range(random, list, TWIN_VARIABLE, &[(0, 5, -1), (0, 5, 6), (5, -5, 0), (-5, -3, 0)]);
     "unknown operator" |random, list| byte(random, list, TWIN_NODE, any, 1, &[0, 9, 15, 22, 255]);
     "unknown deed" |random, list| byte(random, list, UPDATE, any, 1, &[0, 3, 255]);
     "raised event above 31" |random, list| byte(random, list, UPDATE, |r| r[1] == RAISE, 4, &[32, 64, 255]);
@@ -93,10 +94,6 @@ pub const DAMAGES: &[Damage] = damages! {
     "operand of two nodes" operand_of_two;
 };
 
-fn any(_: &Record) -> bool {
-    true
-}
-
 fn unknown_kind(random: &mut Random, list: &mut RecordList) -> bool {
     let at = random.below(list.records.len());
     list.records[at][0] = random.pick(&[0, 1, 6, 32, 42, 255]);
@@ -114,37 +111,6 @@ fn too_many_nodes(_: &mut Random, list: &mut RecordList) -> bool {
     true
 }
 
-fn unnamed(random: &mut Random, list: &mut RecordList, kind: u8, bytes: &[usize]) -> bool {
-    list.change(random, kind, any, |random, record| shared::stray(random, record, bytes))
-}
-
-fn unused(
-    random: &mut Random,
-    list: &mut RecordList,
-    kind: u8,
-    at: usize,
-    codes: &[u8],
-    bytes: &[usize],
-) -> bool {
-    list.change(
-        random,
-        kind,
-        |r| codes.contains(&r[at]),
-        |random, record| shared::stray(random, record, bytes),
-    )
-}
-
-fn byte(
-    random: &mut Random,
-    list: &mut RecordList,
-    kind: u8,
-    fits: fn(&Record) -> bool,
-    at: usize,
-    values: &[u8],
-) -> bool {
-    list.change(random, kind, fits, |random, record| record[at] = random.pick(values))
-}
-
 fn word(
     random: &mut Random,
     list: &mut RecordList,
@@ -154,15 +120,6 @@ fn word(
     values: &[u16],
 ) -> bool {
     list.change(random, kind, fits, |random, record| write_u16(record, at, random.pick(values)))
-}
-
-fn range(random: &mut Random, list: &mut RecordList, values: &[(i16, i16, i16)]) -> bool {
-    list.change(random, TWIN_VARIABLE, any, |random, record| {
-        let (lowest, highest, start) = random.pick(values);
-        write_i16(record, 2, lowest);
-        write_i16(record, 4, highest);
-        write_i16(record, 6, start);
-    })
 }
 
 fn names_none(
