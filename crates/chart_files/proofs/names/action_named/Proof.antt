@@ -1,0 +1,33 @@
+-- `names::action_named` meets its contract: its fields are those of the action. Assumes nothing.
+use mathlib.Core.Path.{ap, _∙_}
+use mathlib.Core.Bool.{not, _&&_, _||_}
+use lib.Dec.{ltb, eqb}
+use Rattle.model.specs.ChartFile.{deedNamed}
+use borrow.Author.Needs.{needs}
+use Rattle.chart_files.proofs.names.action_named.Statement.{statement}
+use Rattle.chart_files.proofs.names.action_named.Tie as tie
+
+place-of-requires : tie.Need-place-of-requires
+place-of-requires c κs = search needs
+
+owner-of-requires : tie.Need-owner-of-requires
+owner-of-requires c κs = search needs
+
+deed-of-requires : tie.Need-deed-of-requires
+deed-of-requires c κs = search needs
+
+deed-named-requires : tie.Need-deed-named-requires
+deed-named-requires c κs = search needs
+
+returns : tie.Need-returns
+returns c =
+    let a = c .before .before .before .before .before .args in
+    λ i.
+    not (eqb (c .before .before .before .place-of .ensures i) (a .place))
+    || (ltb (c .before .before .owner-of .ensures i) (a .owners)
+    && (c .deed-named .ensures ∙ ap (deedNamed (a .shape .variables) (a .shape .nodes)) (c .before .deed-of .ensures)) i)
+
+pub action-named-spec : {M : Type 1} → statement M
+action-named-spec =
+    tie.close
+    (tie.spec place-of-requires owner-of-requires deed-of-requires deed-named-requires returns)

@@ -1,0 +1,151 @@
+-- `shape_of` meets its contract: each answer is that of the frame. Assumes nothing.
+use mathlib.Core.Path.{_≡_, sym, ap, _∙_, subst}
+use mathlib.Core.Option.{some, none}
+use mathlib.Core.List.{List}
+use Prim.Native.Nat.{ℕ, _+_, _≤_, _<_}
+use native.Mathlib.Omega.{arith}
+use borrow.Author.Needs.{needs}
+use lib.ListN.{getD}
+use Rattle.records.specs.Framing.{howMany}
+use Rattle.records.specs.Frame.{framingOf, IsFrame}
+use Rattle.records.specs.declared.Frame.{Frame}
+use Rattle.records.specs.declared.Framing.the-variants.{Framed}
+use Rattle.records.proofs.Framed.{framed-most, frame-framed, frame-count}
+use Rattle.model.specs.ChartFile.{chartLimits}
+use Rattle.chart_files.specs.Shape.{IsShape, IsShaped, refusalFor}
+use Rattle.chart_files.specs.declared.Shape.{Shape}
+use Rattle.chart_files.specs.declared.Refusal.{Refusal}
+use Rattle.chart_files.specs.declared.Checked.the-variants.{Accepted, Refused}
+use Rattle.chart_files.proofs.shape_of.Statement.{statement}
+use Rattle.chart_files.proofs.shape_of.Tie as tie
+
+module _ (s : List ℕ) (r : Frame) (is : IsFrame 1 chartLimits s r) where
+  refused : (w : Refusal) → framingOf (r .answer) ≡ some (refusalFor w) → IsShaped s (Refused w)
+  refused w e = record { answer = sym e ∙ is .answer; shape = λ sh q. let z : _≡_ {A = ℕ} 0 1 = cc in absurd (omega arith) }
+
+  module _ (answer : r .answer ≡ Framed) where
+    low : (j : ℕ) → j < 6 → getD (r .counts) j 0 ≤ getD chartLimits j 0
+    low j h = omega (arith, frame-count 1 chartLimits s r is answer j (omega arith), framed-most 1 chartLimits s (frame-framed 1 chartLimits s r is answer) j (omega arith) h)
+
+    abbrev counted : Shape
+    counted = record {
+      charts = getD (r .counts) 0 0;
+      states = getD (r .counts) 1 0;
+      transitions = getD (r .counts) 2 0;
+      variables = getD (r .counts) 3 0;
+      nodes = getD (r .counts) 4 0;
+      actions = getD (r .counts) 5 0;
+    }
+
+    is-counted : IsShape s counted
+    is-counted = record {
+      framed = frame-framed 1 chartLimits s r is answer;
+      charts = frame-count 1 chartLimits s r is answer 0 (omega arith);
+      states = frame-count 1 chartLimits s r is answer 1 (omega arith);
+      transitions = frame-count 1 chartLimits s r is answer 2 (omega arith);
+      variables = frame-count 1 chartLimits s r is answer 3 (omega arith);
+      nodes = frame-count 1 chartLimits s r is answer 4 (omega arith);
+      actions = frame-count 1 chartLimits s r is answer 5 (omega arith);
+    }
+
+    accepted : IsShaped s (Accepted counted)
+    accepted = record {
+      answer = sym (frame-framed 1 chartLimits s r is answer);
+      shape = λ sh q. let e : counted ≡ sh = cc in subst (IsShape s) e is-counted;
+    }
+
+slice-aggregate-frame-of : tie.Need-slice-aggregate-frame-of
+slice-aggregate-frame-of c = search needs
+
+frame-of-requires : tie.Need-frame-of-requires
+frame-of-requires c κs = search needs
+
+enum-told : tie.Need-enum-told
+enum-told c = search needs
+
+enum-told-2 : tie.Need-enum-told-2
+enum-told-2 c = search needs
+
+enum-told-3 : tie.Need-enum-told-3
+enum-told-3 c = search needs
+
+enum-told-4 : tie.Need-enum-told-4
+enum-told-4 c = search needs
+
+array-read-t15 : tie.Need-array-read-t15
+array-read-t15 c = search needs
+
+within : (c : tie.After-counts) (j : ℕ) → j < 6 → getD (c .before .before .before .frame-of .result .counts) j 0 ≤ getD chartLimits j 0
+within c = low _ _ (c .before .before .before .frame-of .ensures) (c .before .enum-told4 .given .1)
+
+cast-t16 : tie.Need-cast-t16
+cast-t16 c = omega (arith, within c 0 (omega arith))
+
+array-read-t19 : tie.Need-array-read-t19
+array-read-t19 c = search needs
+
+cast-t20 : tie.Need-cast-t20
+cast-t20 c = omega (arith, within c 1 (omega arith))
+
+array-read-t23 : tie.Need-array-read-t23
+array-read-t23 c = search needs
+
+cast-t24 : tie.Need-cast-t24
+cast-t24 c = omega (arith, within c 2 (omega arith))
+
+array-read-t27 : tie.Need-array-read-t27
+array-read-t27 c = search needs
+
+cast-t28 : tie.Need-cast-t28
+cast-t28 c = omega (arith, within c 3 (omega arith))
+
+array-read-t31 : tie.Need-array-read-t31
+array-read-t31 c = search needs
+
+cast-t32 : tie.Need-cast-t32
+cast-t32 c = omega (arith, within c 4 (omega arith))
+
+array-read-t35 : tie.Need-array-read-t35
+array-read-t35 c = search needs
+
+cast-t36 : tie.Need-cast-t36
+cast-t36 c = omega (arith, within c 5 (omega arith))
+
+returns : tie.Need-returns
+returns c = refused _ _ (c .before .before .frame-of .ensures) _ (ap framingOf (c .enum-told .given .1))
+
+returns-2 : tie.Need-returns-2
+returns-2 c = refused _ _ (c .before .before .frame-of .ensures) _ (ap framingOf (c .enum-told2 .given .1))
+
+returns-3 : tie.Need-returns-3
+returns-3 c = refused _ _ (c .before .before .frame-of .ensures) _ (ap framingOf (c .enum-told3 .given .1))
+
+returns-4 : tie.Need-returns-4
+returns-4 c = accepted _ _ (c .before .before .before .frame-of .ensures) (c .before .enum-told4 .given .1)
+
+pub shape-of-spec : {M : Type 1} → statement M
+shape-of-spec =
+    tie.close
+    (tie.spec
+    slice-aggregate-frame-of
+    frame-of-requires
+    enum-told
+    enum-told-2
+    enum-told-3
+    enum-told-4
+    array-read-t15
+    cast-t16
+    array-read-t19
+    cast-t20
+    array-read-t23
+    cast-t24
+    array-read-t27
+    cast-t28
+    array-read-t31
+    cast-t32
+    array-read-t35
+    cast-t36
+    returns
+    returns-2
+    returns-3
+    returns-4)

@@ -1,0 +1,45 @@
+-- `uses::count_assignment` meets its contract: a use for the node, if one is assigned. Assumes nothing.
+use mathlib.Core.Path.{_≡_, sym, ap, _∙_}
+use mathlib.Core.List.{List}
+use Prim.Native.Nat.{ℕ}
+use borrow.Author.Needs.{needs}
+use denote.Ref.{now}
+use Rattle.expressions.specs.Uses.{addUses}
+use Rattle.model.specs.Runs as M
+use Rattle.model.specs.ChartFile.{assignedNodes}
+use Rattle.chart_files.specs.declared.fields.Deed.{Deed}
+use Rattle.chart_files.specs.Parts.{deedFor}
+use Rattle.chart_files.proofs.uses.count_assignment.Statement.{statement}
+use Rattle.chart_files.proofs.uses.count_assignment.Tie as tie
+
+-- the use by the node that an arm has
+told : (u : List ℕ) {o x : Deed} {d : M.Deed} → o ≡ x → deedFor o ≡ d → addUses u (assignedNodes (deedFor x)) ≡ addUses u (assignedNodes d)
+told u e h = ap (λ d. addUses u (assignedNodes d)) (ap deedFor (sym e) ∙ h)
+
+deed-of-requires : tie.Need-deed-of-requires
+deed-of-requires c κs = search needs
+
+enum-known-n : tie.Need-enum-known-n
+enum-known-n c = search needs
+
+add-use-requires : tie.Need-add-use-requires
+add-use-requires c κs = search needs
+
+enum-told : tie.Need-enum-told
+enum-told c = search needs
+
+same-length : tie.Need-same-length
+same-length c = search needs
+
+returns : tie.Need-returns
+unfolding addUses
+returns c =
+    c .before .before .add-use .ensures
+    ∙ told (now (c .before .before .before .before .before .before .before .before .before .before .args .uses)) (c .before .before .before .before .before .n .given .1) (c .before .before .before .before .before .before .before .deed-of .ensures)
+
+returns-2 : tie.Need-returns-2
+unfolding addUses
+returns-2 c = told (now (c .before .before .before .before .before .args .uses)) (c .enum-told .given .1) (c .before .before .deed-of .ensures)
+
+pub count-assignment-spec : {M : Type 1} → statement M
+count-assignment-spec = tie.close (tie.spec deed-of-requires enum-known-n add-use-requires enum-told same-length returns returns-2)

@@ -1,0 +1,25 @@
+-- Refusal 6 of one thing, by its number. Assumes nothing: these are definitions.
+use mathlib.Core.Bool.{Bool, not, _&&_, _||_}
+use mathlib.Core.List.{List}
+use Prim.Native.Nat.{ℕ}
+use lib.Dec.{ltb, eqb}
+use Rattle.model.specs.ChartFile.{guardNamed, deedNamed}
+use Rattle.chart_files.specs.declared.Shape.{Shape}
+use Rattle.chart_files.specs.Places.{initialAt, homeAt, transitionAt, placeAt, actionAt}
+
+module _ (s : List ℕ) (sh : Shape) where
+  abbrev pub initialNamed : ℕ → Bool
+  initialNamed c = ltb (initialAt s sh c) (sh .states)
+
+  abbrev pub homeNamed : ℕ → Bool
+  homeNamed n = ltb (homeAt s sh n) (sh .charts)
+
+  abbrev pub transitionNamed : ℕ → Bool
+  transitionNamed t =
+      ltb (transitionAt s sh t .source) (sh .states) && ltb (transitionAt s sh t .target) (sh .states) && guardNamed (sh .nodes) (transitionAt s sh t .guard)
+
+  -- of an action of that place, with so many owners; one of another place passes
+  abbrev pub actionNamed : ℕ → ℕ → ℕ → Bool
+  actionNamed place owners i =
+      not (eqb (placeAt s sh i) place)
+      || (ltb (actionAt s sh i .0) owners && deedNamed (sh .variables) (sh .nodes) (actionAt s sh i .1))

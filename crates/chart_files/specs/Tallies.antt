@@ -1,0 +1,15 @@
+-- Tallies: counts in places, none of which is to come above a limit. Assumes nothing: these are definitions.
+use mathlib.Core.Bool.{Bool, true, _&&_}
+use mathlib.Core.List.{List, [], _∷_}
+use Prim.Native.Nat.{ℕ, _+_}
+use lib.Dec.{ltb}
+use lib.ListN.{getD, set}
+
+-- one more at place k; a place past the end is none
+abbrev pub addOne : List ℕ → ℕ → List ℕ
+addOne c k = set c k (getD c k 0 + 1)
+
+-- of places counted one after the other, none comes above `most`
+unfoldable pub within : ℕ → List ℕ → List ℕ → Bool
+within most c [] = true
+within most c (k ∷ ks) = ltb (getD c k 0) most && within most (addOne c k) ks

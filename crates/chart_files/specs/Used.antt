@@ -1,0 +1,25 @@
+-- Refusal 8, one transition and one action at a time. Assumes nothing: these are definitions.
+use mathlib.Core.Bool.{Bool}
+use mathlib.Core.List.{List}
+use Prim.Native.Nat.{ℕ}
+use Rattle.records.specs.Lists.{all}
+use Rattle.expressions.specs.Nodes.{Node}
+use Rattle.expressions.specs.Sorts.{sortOf, isNumber, isTruth}
+use Rattle.model.specs.ChartFile.{guardNodes, assignedNodes}
+use Rattle.chart_files.specs.declared.Shape.{Shape}
+use Rattle.chart_files.specs.Places.{transitionAt, actionAt}
+
+-- the node that transition t has as its guard, and that action i assigns, if there is one
+module _ (s : List ℕ) (sh : Shape) where
+  abbrev pub guardAt : ℕ → List ℕ
+  guardAt t = guardNodes (transitionAt s sh t .guard)
+
+  abbrev pub assignedAt : ℕ → List ℕ
+  assignedAt i = assignedNodes (actionAt s sh i .1)
+
+module _ (node : ℕ → Node) where
+  abbrev pub truths : List ℕ → Bool
+  truths ns = all (λ n. isTruth (sortOf (node n))) ns
+
+  abbrev pub numbers : List ℕ → Bool
+  numbers ns = all (λ n. isNumber (sortOf (node n))) ns

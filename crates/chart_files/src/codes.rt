@@ -1,0 +1,86 @@
+// Refusal 5: codes and ranges, record by record.
+ghost use mathlib.Core.Path.{_≡_};
+ghost use mathlib.Core.Bool.{true};
+ghost use mathlib.Core.List.{[], _∷_};
+ghost use Rattle.records.specs.Lists.{all, caseOf};
+ghost use Rattle.records.specs.Bytes.{records};
+ghost use Rattle.model.specs.ChartFile.{isEvent, isDuration, transitionInCode, variableInCode, nodeInCode, deedInCode, actionInCode, inCode};
+use records::byte_at;
+use records::i16_at;
+use records::u32_at;
+
+fn trigger_in_code(code: u8, event: u8, ms: u32) -> bool
+    ensures { λ r. ⌜ r ≡ caseOf code ((1, isEvent event) ∷ (2, isDuration ms) ∷ (3, isDuration ms) ∷ []) true ⌝ }
+{
+    match code {
+        1 => event <= 31,
+        2 => (1 <= ms) & (ms <= 3600000),
+        3 => (1 <= ms) & (ms <= 3600000),
+        _ => true,
+    }
+}
+
+fn transition_in_code(r: &[u8]) -> bool
+    ensures { λ t. ⌜ t ≡ transitionInCode (now (r .entry)) ⌝ }
+{
+    let priority = byte_at(r, 1);
+    let code = byte_at(r, 6);
+    (1 <= priority)
+        & (priority <= 16)
+        & (code <= 3)
+        & trigger_in_code(code, byte_at(r, 7), u32_at(r, 8))
+}
+
+fn variable_in_code(r: &[u8]) -> bool
+    ensures { λ t. ⌜ t ≡ variableInCode (now (r .entry)) ⌝ }
+{
+    let start = i16_at(r, 6);
+    (i16_at(r, 2) <= start) & (start <= i16_at(r, 4))
+}
+
+fn node_in_code(r: &[u8]) -> bool
+    ensures { λ t. ⌜ t ≡ nodeInCode (now (r .entry)) ⌝ }
+{
+    let operator = byte_at(r, 1);
+    ((1 <= operator) & (operator <= 8)) | ((16 <= operator) & (operator <= 21))
+}
+
+fn deed_in_code(code: u8, x: u8) -> bool
+    ensures { λ t. ⌜ t ≡ deedInCode code x ⌝ }
+{
+    (1 <= code) & (code <= 2) & ((code != 2) | (x <= 31))
+}
+
+fn action_in_code(r: &[u8]) -> bool
+    ensures { λ t. ⌜ t ≡ actionInCode (now (r .entry)) ⌝ }
+{
+    let place = byte_at(r, 1);
+    (1 <= place) & (place <= 3) & deed_in_code(byte_at(r, 4), byte_at(r, 5))
+}
+
+fn in_code(r: &[u8]) -> bool
+    ensures { λ t. ⌜ t ≡ inCode (now (r .entry)) ⌝ }
+{
+    match byte_at(r, 0) {
+        3 => transition_in_code(r),
+        4 => variable_in_code(r),
+        5 => node_in_code(r),
+        6 => action_in_code(r),
+        _ => true,
+    }
+}
+
+pub fn all_in_code(s: &[u8]) -> bool
+    ensures { λ r. ⌜ r ≡ all inCode (records (now (s .entry))) ⌝ }
+{
+    let mut i: usize = 0;
+    while i < s.len() / 16 {
+        let at = 16 * i;
+        let end = at + 16;
+        if !in_code(&s[at..end]) {
+            return false;
+        }
+        i += 1;
+    }
+    true
+}

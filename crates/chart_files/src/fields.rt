@@ -1,0 +1,249 @@
+// The fields of a chart file's things, by their numbers. A byte past the end counts as 0, so every function takes any bytes.
+ghost use mathlib.Core.Path.{_≡_};
+ghost use Prim.Native.Nat.{_+_, _*_, _<_, _^_};
+ghost use Rattle.records.specs.Bytes.{byte, two, four, two±};
+ghost use Rattle.chart_files.specs.Places.{firstTransition, firstVariable, firstNode, firstAction, initialAt, homeAt, transitionAt, variableAt, placeAt, actionAt, nodePart};
+ghost use Rattle.chart_files.specs.Shape.{IsShape};
+ghost use Rattle.chart_files.specs.Parts.{triggerFor, guardFor, deedFor};
+use super::Shape;
+use records::byte_at;
+use records::i16_at;
+use records::u16_at;
+use records::u32_at;
+
+pub enum Trigger {
+    Always,
+    Event(u8),
+    After(u32),
+    Every(u32),
+}
+
+pub enum Guard {
+    Free,
+    Node(u16),
+}
+
+// A variable and the node assigned to it, or an event.
+pub enum Deed {
+    Assign(u8, u16),
+    Raise(u8),
+}
+
+// The numbers of the first records of the kinds.
+pub fn first_transition(shape: Shape) -> usize
+    ensures { λ r. ⌜ r ≡ firstTransition shape ⌝ }
+{
+    (shape.charts as usize) + (shape.states as usize)
+}
+
+pub fn first_variable(shape: Shape) -> usize
+    ensures { λ r. ⌜ r ≡ firstVariable shape ⌝ }
+{
+    (shape.charts as usize) + (shape.states as usize) + (shape.transitions as usize)
+}
+
+pub fn first_node(shape: Shape) -> usize
+    ensures { λ r. ⌜ r ≡ firstNode shape ⌝ }
+{
+    first_variable(shape) + (shape.variables as usize)
+}
+
+pub fn first_action(shape: Shape) -> usize
+    ensures { λ r. ⌜ r ≡ firstAction shape ⌝ }
+{
+    first_node(shape) + (shape.nodes as usize)
+}
+
+// A field of record n, from its byte k on.
+fn byte_in(s: &[u8], n: usize, k: usize) -> u8
+    requires { ⌜ (n < 2 ^ 20) × (k < 16) ⌝ }
+    ensures { λ r. ⌜ r ≡ byte (now (s .entry)) (16 * n + k) ⌝ }
+{
+    byte_at(s, 16 * n + k)
+}
+
+fn u16_in(s: &[u8], n: usize, k: usize) -> u16
+    requires { ⌜ (n < 2 ^ 20) × (k < 16) ⌝ }
+    ensures { λ r. ⌜ r ≡ two (now (s .entry)) (16 * n + k) ⌝ }
+{
+    u16_at(s, 16 * n + k)
+}
+
+fn u32_in(s: &[u8], n: usize, k: usize) -> u32
+    requires { ⌜ (n < 2 ^ 20) × (k < 16) ⌝ }
+    ensures { λ r. ⌜ r ≡ four (now (s .entry)) (16 * n + k) ⌝ }
+{
+    u32_at(s, 16 * n + k)
+}
+
+fn i16_in(s: &[u8], n: usize, k: usize) -> i16
+    requires { ⌜ (n < 2 ^ 20) × (k < 16) ⌝ }
+    ensures { λ r. ⌜ r ≡ two± (now (s .entry)) (16 * n + k) ⌝ }
+{
+    i16_at(s, 16 * n + k)
+}
+
+pub fn initial_of(s: &[u8], chart: u16) -> u16
+    ensures { λ r. ⌜ r ≡ two (now (s .entry)) (16 * chart + 2) ⌝ }
+{
+    u16_at(s, 16 * (chart as usize) + 2)
+}
+
+pub fn home_of(s: &[u8], shape: Shape, state: u16) -> u8
+    ensures { λ r. ⌜ r ≡ homeAt (now (s .entry)) shape state ⌝ }
+{
+    byte_in(s, (shape.charts as usize) + (state as usize), 1)
+}
+
+pub fn priority_of(s: &[u8], shape: Shape, t: u16) -> u8
+    ensures { λ r. ⌜ r ≡ transitionAt (now (s .entry)) shape t .priority ⌝ }
+{
+    byte_in(
+        s,
+        (shape.charts as usize) + (shape.states as usize) + (t as usize),
+        1,
+    )
+}
+
+pub fn source_of(s: &[u8], shape: Shape, t: u16) -> u16
+    ensures { λ r. ⌜ r ≡ transitionAt (now (s .entry)) shape t .source ⌝ }
+{
+    u16_in(
+        s,
+        (shape.charts as usize) + (shape.states as usize) + (t as usize),
+        2,
+    )
+}
+
+pub fn target_of(s: &[u8], shape: Shape, t: u16) -> u16
+    ensures { λ r. ⌜ r ≡ transitionAt (now (s .entry)) shape t .target ⌝ }
+{
+    u16_in(
+        s,
+        (shape.charts as usize) + (shape.states as usize) + (t as usize),
+        4,
+    )
+}
+
+pub fn trigger_of(s: &[u8], shape: Shape, t: u16) -> Trigger
+    ensures { λ r. ⌜ triggerFor r ≡ transitionAt (now (s .entry)) shape t .trigger ⌝ }
+{
+    let n = (shape.charts as usize) + (shape.states as usize) + (t as usize);
+    match byte_in(s, n, 6) {
+        1 => Trigger::Event(byte_in(s, n, 7)),
+        2 => Trigger::After(u32_in(s, n, 8)),
+        3 => Trigger::Every(u32_in(s, n, 8)),
+        _ => Trigger::Always,
+    }
+}
+
+pub fn guard_of(s: &[u8], shape: Shape, t: u16) -> Guard
+    ensures { λ r. ⌜ guardFor r ≡ transitionAt (now (s .entry)) shape t .guard ⌝ }
+{
+    let n = u16_in(
+        s,
+        (shape.charts as usize) + (shape.states as usize) + (t as usize),
+        12,
+    );
+    if n == 65535 {
+        Guard::Free
+    } else {
+        Guard::Node(n)
+    }
+}
+
+pub fn lowest_of(s: &[u8], shape: Shape, v: u16) -> i16
+    ensures { λ r. ⌜ r ≡ variableAt (now (s .entry)) shape v .lowest ⌝ }
+{
+    i16_in(
+        s,
+        (shape.charts as usize)
+            + (shape.states as usize)
+            + (shape.transitions as usize)
+            + (v as usize),
+        2,
+    )
+}
+
+pub fn highest_of(s: &[u8], shape: Shape, v: u16) -> i16
+    ensures { λ r. ⌜ r ≡ variableAt (now (s .entry)) shape v .highest ⌝ }
+{
+    i16_in(
+        s,
+        (shape.charts as usize)
+            + (shape.states as usize)
+            + (shape.transitions as usize)
+            + (v as usize),
+        4,
+    )
+}
+
+pub fn start_of(s: &[u8], shape: Shape, v: u16) -> i16
+    ensures { λ r. ⌜ r ≡ variableAt (now (s .entry)) shape v .start ⌝ }
+{
+    i16_in(
+        s,
+        (shape.charts as usize)
+            + (shape.states as usize)
+            + (shape.transitions as usize)
+            + (v as usize),
+        6,
+    )
+}
+
+// The place of action i: 1 entry, 2 exit, 3 transition.
+pub fn place_of(s: &[u8], shape: Shape, i: u16) -> u8
+    ensures { λ r. ⌜ r ≡ placeAt (now (s .entry)) shape i ⌝ }
+{
+    byte_in(
+        s,
+        (shape.charts as usize)
+            + (shape.states as usize)
+            + (shape.transitions as usize)
+            + (shape.variables as usize)
+            + (shape.nodes as usize)
+            + (i as usize),
+        1,
+    )
+}
+
+pub fn owner_of(s: &[u8], shape: Shape, i: u16) -> u16
+    ensures { λ r. ⌜ r ≡ actionAt (now (s .entry)) shape i .0 ⌝ }
+{
+    u16_in(
+        s,
+        (shape.charts as usize)
+            + (shape.states as usize)
+            + (shape.transitions as usize)
+            + (shape.variables as usize)
+            + (shape.nodes as usize)
+            + (i as usize),
+        2,
+    )
+}
+
+pub fn deed_of(s: &[u8], shape: Shape, i: u16) -> Deed
+    ensures { λ r. ⌜ deedFor r ≡ actionAt (now (s .entry)) shape i .1 ⌝ }
+{
+    let n = (shape.charts as usize)
+        + (shape.states as usize)
+        + (shape.transitions as usize)
+        + (shape.variables as usize)
+        + (shape.nodes as usize)
+        + (i as usize);
+    if byte_in(s, n, 4) == 2 {
+        Deed::Raise(byte_in(s, n, 5))
+    } else {
+        Deed::Assign(byte_in(s, n, 5), u16_in(s, n, 6))
+    }
+}
+
+// The part of a file that has the nodes' records, one after the other.
+pub fn node_records(s: &[u8], shape: Shape) -> &[u8]
+    requires { ⌜ IsShape (now s) shape ⌝ }
+    ensures { λ r. ⌜ now r ≡ nodePart (now (s .entry)) shape ⌝ }
+{
+    let a = 16 * first_node(shape);
+    let e = a + 16 * (shape.nodes as usize);
+    &s[a..e]
+}

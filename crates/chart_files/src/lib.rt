@@ -1,0 +1,113 @@
+// The reader of chart files: the framing, the checks on what the records say, and the refusal of a file.
+ghost use mathlib.Core.Path.{_≡_};
+ghost use Rattle.chart_files.specs.Shape.{IsShape, IsShaped, IsChecked};
+
+pub mod codes;
+pub mod fields;
+pub mod names;
+pub mod structure;
+pub mod timing;
+pub mod unused;
+pub mod uses;
+
+use codes::all_in_code;
+use names::all_named;
+use records::Framing;
+use records::frame_of;
+use structure::structured;
+use timing::all_ticking;
+use unused::all_unused;
+use uses::nodes_fit;
+
+// How many records a framed chart file has of each kind, from kind 1 on.
+pub struct Shape {
+    pub charts: u16,
+    pub states: u16,
+    pub transitions: u16,
+    pub variables: u16,
+    pub nodes: u16,
+    pub actions: u16,
+}
+
+// The refusals of a chart file, 1 to 9.
+pub enum Refusal {
+    OddLength,
+    UnorderedKinds,
+    WrongAmounts,
+    StrayByte,
+    BrokenCode,
+    DanglingNumber,
+    BrokenStructure,
+    BrokenNode,
+    ZeroTicks,
+}
+
+// A file that passes is known by its shape.
+pub enum Checked {
+    Accepted(Shape),
+    Refused(Refusal),
+}
+
+// The most of each kind.
+const MOST: [u16; 6] = [8, 128, 256, 64, 1024, 512];
+
+// Refusals 1 to 3.
+pub fn shape_of(s: &[u8]) -> Checked
+    ensures { λ r. ⌜ IsShaped (now (s .entry)) r ⌝ }
+{
+    let most = MOST;
+    let frame = frame_of(s, 1, &most);
+    let answer = frame.answer;
+    match answer {
+        Framing::OddLength => Checked::Refused(Refusal::OddLength),
+        Framing::UnorderedKinds => Checked::Refused(Refusal::UnorderedKinds),
+        Framing::WrongAmounts => Checked::Refused(Refusal::WrongAmounts),
+        Framing::Framed => {
+            let counts = frame.counts;
+            Checked::Accepted(Shape {
+                charts: counts[0] as u16,
+                states: counts[1] as u16,
+                transitions: counts[2] as u16,
+                variables: counts[3] as u16,
+                nodes: counts[4] as u16,
+                actions: counts[5] as u16,
+            })
+        }
+    }
+}
+
+// Refusals 4 to 9 of a framed file, in their order.
+fn check_framed(s: &[u8], shape: Shape) -> Checked
+    requires { ⌜ IsShape (now s) shape ⌝ }
+    ensures { λ r. ⌜ IsChecked (now (s .entry)) r ⌝ }
+{
+    if !all_unused(s) {
+        return Checked::Refused(Refusal::StrayByte);
+    }
+    if !all_in_code(s) {
+        return Checked::Refused(Refusal::BrokenCode);
+    }
+    if !all_named(s, shape) {
+        return Checked::Refused(Refusal::DanglingNumber);
+    }
+    if !structured(s, shape) {
+        return Checked::Refused(Refusal::BrokenStructure);
+    }
+    if !nodes_fit(s, shape) {
+        return Checked::Refused(Refusal::BrokenNode);
+    }
+    if !all_ticking(s, shape) {
+        return Checked::Refused(Refusal::ZeroTicks);
+    }
+    Checked::Accepted(shape)
+}
+
+// The reader: a file's refusal, the lowest that applies, or its shape.
+pub fn check(s: &[u8]) -> Checked
+    ensures { λ r. ⌜ IsChecked (now (s .entry)) r ⌝ }
+{
+    match shape_of(s) {
+        Checked::Accepted(shape) => check_framed(s, shape),
+        Checked::Refused(refusal) => Checked::Refused(refusal),
+    }
+}

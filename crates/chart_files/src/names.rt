@@ -1,0 +1,121 @@
+// Refusal 6: numbers that name nothing.
+ghost use mathlib.Core.Path.{_≡_};
+ghost use Rattle.records.specs.Lists.{all, upto};
+ghost use Rattle.model.specs.ChartSet.{readCharts};
+ghost use Rattle.model.specs.ChartFile.{guardNamed, deedNamed, allNamed};
+ghost use Rattle.chart_files.specs.Shape.{IsShape};
+ghost use Rattle.chart_files.specs.Parts.{guardFor, deedFor};
+ghost use Rattle.chart_files.specs.Names.{initialNamed, homeNamed, transitionNamed, actionNamed};
+use super::Shape;
+use super::fields::Deed;
+use super::fields::Guard;
+use super::fields::deed_of;
+use super::fields::guard_of;
+use super::fields::home_of;
+use super::fields::initial_of;
+use super::fields::node_records;
+use super::fields::owner_of;
+use super::fields::place_of;
+use super::fields::source_of;
+use super::fields::target_of;
+use expressions::sorts::nodes_named;
+
+fn initials_named(s: &[u8], shape: Shape) -> bool
+    ensures { λ r. ⌜ r ≡ all (initialNamed (now (s .entry)) shape) (upto (shape .charts)) ⌝ }
+{
+    let mut c = 0;
+    while c < shape.charts {
+        if shape.states <= initial_of(s, c) {
+            return false;
+        }
+        c += 1;
+    }
+    true
+}
+
+fn homes_named(s: &[u8], shape: Shape) -> bool
+    ensures { λ r. ⌜ r ≡ all (homeNamed (now (s .entry)) shape) (upto (shape .states)) ⌝ }
+{
+    let mut n = 0;
+    while n < shape.states {
+        if shape.charts <= (home_of(s, shape, n) as u16) {
+            return false;
+        }
+        n += 1;
+    }
+    true
+}
+
+fn guard_named(guard: Guard, nodes: u16) -> bool
+    ensures { λ r. ⌜ r ≡ guardNamed nodes (guardFor guard) ⌝ }
+{
+    match guard {
+        Guard::Free => true,
+        Guard::Node(n) => n < nodes,
+    }
+}
+
+fn transition_named(s: &[u8], shape: Shape, t: u16) -> bool
+    ensures { λ r. ⌜ r ≡ transitionNamed (now (s .entry)) shape t ⌝ }
+{
+    (source_of(s, shape, t) < shape.states)
+        & (target_of(s, shape, t) < shape.states)
+        & guard_named(guard_of(s, shape, t), shape.nodes)
+}
+
+fn transitions_named(s: &[u8], shape: Shape) -> bool
+    ensures { λ r. ⌜ r ≡ all (transitionNamed (now (s .entry)) shape) (upto (shape .transitions)) ⌝ }
+{
+    let mut t = 0;
+    while t < shape.transitions {
+        if !transition_named(s, shape, t) {
+            return false;
+        }
+        t += 1;
+    }
+    true
+}
+
+fn deed_named(deed: Deed, variables: u16, nodes: u16) -> bool
+    ensures { λ r. ⌜ r ≡ deedNamed variables nodes (deedFor deed) ⌝ }
+{
+    match deed {
+        Deed::Assign(v, n) => ((v as u16) < variables) & (n < nodes),
+        Deed::Raise(_) => true,
+    }
+}
+
+// An action of another place passes.
+fn action_named(s: &[u8], shape: Shape, place: u8, owners: u16, i: u16) -> bool
+    ensures { λ r. ⌜ r ≡ actionNamed (now (s .entry)) shape place owners i ⌝ }
+{
+    (place_of(s, shape, i) != place)
+        | ((owner_of(s, shape, i) < owners)
+            & deed_named(deed_of(s, shape, i), shape.variables, shape.nodes))
+}
+
+fn actions_named(s: &[u8], shape: Shape, place: u8, owners: u16) -> bool
+    ensures { λ r. ⌜ r ≡ all (actionNamed (now (s .entry)) shape place owners) (upto (shape .actions)) ⌝ }
+{
+    let mut i = 0;
+    while i < shape.actions {
+        if !action_named(s, shape, place, owners, i) {
+            return false;
+        }
+        i += 1;
+    }
+    true
+}
+
+pub fn all_named(s: &[u8], shape: Shape) -> bool
+    requires { ⌜ IsShape (now s) shape ⌝ }
+    ensures { λ r. ⌜ r ≡ allNamed (readCharts (now (s .entry))) ⌝ }
+{
+    initials_named(s, shape)
+        & homes_named(s, shape)
+        & transitions_named(s, shape)
+        & nodes_named(node_records(s, shape), shape.nodes, shape.variables)
+        & actions_named(s, shape, 1, shape.states)
+        & actions_named(s, shape, 2, shape.states)
+        & actions_named(s, shape, 3, shape.transitions)
+}

@@ -1,0 +1,287 @@
+// Refusal 7: transitions inside charts, initial states, priorities, and at most eight actions an owner.
+ghost use mathlib.Core.Path.{_≡_};
+ghost use mathlib.Core.Bool.{true, _&&_, not};
+ghost use mathlib.Core.List.{map, _++_};
+ghost use Prim.Native.Nat.{_+_, _*_, _≤_, _<_};
+ghost use lib.Dec.{eqb, ltb};
+ghost use lib.ListN.{length, getD};
+ghost use Rattle.records.specs.Lists.{all, any, upto};
+ghost use Rattle.records.specs.Bytes.{records};
+ghost use Rattle.model.specs.ChartSet.{readCharts};
+ghost use Rattle.model.specs.ChartFile as file;
+ghost use Rattle.chart_files.specs.Shape.{IsShape};
+ghost use Rattle.chart_files.specs.Places.{transitionAt};
+ghost use Rattle.chart_files.specs.Tallies.{addOne, within};
+ghost use Rattle.chart_files.specs.Structure.{insideChart, isFree, apart, idle, pairAt, ownerAt};
+use super::Shape;
+use super::fields::Guard;
+use super::fields::Trigger;
+use super::fields::guard_of;
+use super::fields::home_of;
+use super::fields::initial_of;
+use super::fields::owner_of;
+use super::fields::place_of;
+use super::fields::priority_of;
+use super::fields::source_of;
+use super::fields::target_of;
+use super::fields::trigger_of;
+
+// The chart of a state; a number that names no state has chart 0.
+fn chart_of(s: &[u8], shape: Shape, state: u16) -> u8
+    requires { ⌜ IsShape (now s) shape ⌝ }
+    ensures { λ r. ⌜ r ≡ file.home (readCharts (now (s .entry))) state ⌝ }
+{
+    if state < shape.states {
+        home_of(s, shape, state)
+    } else {
+        0
+    }
+}
+
+fn inside_chart(s: &[u8], shape: Shape, t: u16) -> bool
+    requires { ⌜ IsShape (now s) shape ⌝ }
+    ensures { λ r. ⌜ r ≡ insideChart (now (s .entry)) shape t ⌝ }
+{
+    let from = chart_of(s, shape, source_of(s, shape, t));
+    let to = chart_of(s, shape, target_of(s, shape, t));
+    from == to
+}
+
+fn inside_charts(s: &[u8], shape: Shape) -> bool
+    requires { ⌜ IsShape (now s) shape ⌝ }
+    ensures { λ r. ⌜ r ≡ file.insideCharts (readCharts (now (s .entry))) ⌝ }
+{
+    let n = shape.transitions;
+    let mut t = 0;
+    while t < n {
+        if !inside_chart(s, shape, t) {
+            return false;
+        }
+        t += 1;
+    }
+    true
+}
+
+fn free(s: &[u8], shape: Shape, t: u16) -> bool
+    ensures { λ r. ⌜ r ≡ isFree (transitionAt (now (s .entry)) shape t .guard) ⌝ }
+{
+    match guard_of(s, shape, t) {
+        Guard::Free => true,
+        Guard::Node(_) => false,
+    }
+}
+
+// Neither trigger nor guard.
+fn unconditional(s: &[u8], shape: Shape, t: u16) -> bool
+    ensures { λ r. ⌜ r ≡ file.unconditional (transitionAt (now (s .entry)) shape t .trigger) (transitionAt (now (s .entry)) shape t .guard) ⌝ }
+{
+    match trigger_of(s, shape, t) {
+        Trigger::Always => free(s, shape, t),
+        Trigger::Event(_) => false,
+        Trigger::After(_) => false,
+        Trigger::Every(_) => false,
+    }
+}
+
+fn leaves(s: &[u8], shape: Shape, state: u16, t: u16) -> bool
+    ensures { λ r. ⌜ r ≡ eqb (transitionAt (now (s .entry)) shape t .source) state ⌝ }
+{
+    source_of(s, shape, t) == state
+}
+
+fn leaving(s: &[u8], shape: Shape, state: u16) -> u16
+    requires { ⌜ IsShape (now s) shape ⌝ }
+    ensures { λ r. ⌜ r ≡ length (file.leavingState (readCharts (now (s .entry))) state) ⌝ }
+{
+    let size = shape.transitions;
+    let mut n: u16 = 0;
+    let mut t = 0;
+    while t < size {
+        if leaves(s, shape, state, t) {
+            n += 1;
+        }
+        t += 1;
+    }
+    n
+}
+
+// A transition does not enter an initial state, and leaves it, if it does, unconditionally.
+fn kept_apart(s: &[u8], shape: Shape, state: u16, t: u16) -> bool
+    ensures { λ r. ⌜ r ≡ apart (now (s .entry)) shape state t ⌝ }
+{
+    let target = target_of(s, shape, t);
+    (target != state) & (!leaves(s, shape, state, t) | unconditional(s, shape, t))
+}
+
+fn all_apart(s: &[u8], shape: Shape, state: u16) -> bool
+    ensures { λ r. ⌜ r ≡ all (apart (now (s .entry)) shape state) (upto (shape .transitions)) ⌝ }
+{
+    let n = shape.transitions;
+    let mut t = 0;
+    while t < n {
+        if !kept_apart(s, shape, state, t) {
+            return false;
+        }
+        t += 1;
+    }
+    true
+}
+
+// Action i is neither an entry nor an exit action of a state.
+fn is_idle(s: &[u8], shape: Shape, state: u16, i: u16) -> bool
+    ensures { λ r. ⌜ r ≡ idle (now (s .entry)) shape state i ⌝ }
+{
+    let place = place_of(s, shape, i);
+    let owner = owner_of(s, shape, i);
+    !((1 <= place) & (place <= 2) & (owner == state))
+}
+
+fn all_idle(s: &[u8], shape: Shape, state: u16) -> bool
+    ensures { λ r. ⌜ r ≡ all (idle (now (s .entry)) shape state) (upto (shape .actions)) ⌝ }
+{
+    let n = shape.actions;
+    let mut i = 0;
+    while i < n {
+        if !is_idle(s, shape, state, i) {
+            return false;
+        }
+        i += 1;
+    }
+    true
+}
+
+// An initial state is one of its chart's, is left once and unconditionally, is never entered, and does nothing.
+fn initial_fits(s: &[u8], shape: Shape, chart: u16) -> bool
+    requires { ⌜ IsShape (now s) shape × (chart < shape .charts) ⌝ }
+    ensures { λ r. ⌜ r ≡ file.initialFits (readCharts (now (s .entry))) chart ⌝ }
+{
+    let state = initial_of(s, chart);
+    let home = chart_of(s, shape, state) as u16;
+    (home == chart)
+        & (leaving(s, shape, state) == 1)
+        & all_apart(s, shape, state)
+        & all_idle(s, shape, state)
+}
+
+fn initials_fit(s: &[u8], shape: Shape) -> bool
+    requires { ⌜ IsShape (now s) shape ⌝ }
+    ensures { λ r. ⌜ r ≡ all (file.initialFits (readCharts (now (s .entry)))) (upto (shape .charts)) ⌝ }
+{
+    let n = shape.charts;
+    let mut c = 0;
+    while c < n {
+        if !initial_fits(s, shape, c) {
+            return false;
+        }
+        c += 1;
+    }
+    true
+}
+
+// One more at place k, unless it has as many as it may. A place past the end is none.
+fn count_within(counts: &mut [u8], k: usize, most: u8) -> bool
+    requires { ⌜ 0 < most ⌝ }
+    ensures { λ r. ⌜ (r ≡ ltb (getD (now (counts .entry)) k 0) most) × (r ≡ true → now (counts .exit) ≡ addOne (now (counts .entry)) k) ⌝ }
+{
+    if counts.len() <= k {
+        return true;
+    }
+    let n = counts[k];
+    if n < most {
+        counts[k] = n + 1;
+        return true;
+    }
+    false
+}
+
+// The number of a transition's source with its priority: 16 for each state.
+fn pair(s: &[u8], shape: Shape, t: u16) -> usize
+    requires { ⌜ 1 ≤ transitionAt (now s) shape t .priority ⌝ }
+    ensures { λ r. ⌜ r ≡ pairAt (now (s .entry)) shape t ⌝ }
+{
+    let source = source_of(s, shape, t) as usize;
+    let priority = priority_of(s, shape, t) as usize;
+    16 * source + (priority - 1)
+}
+
+fn pairs_within(s: &[u8], shape: Shape, seen: &mut [u8]) -> bool
+    requires { ⌜ IsShape (now s) shape × (all file.inCode (records (now s)) ≡ true) ⌝ }
+    ensures { λ r. ⌜ r ≡ within 1 (now (seen .entry)) (map (pairAt (now (s .entry)) shape) (upto (shape .transitions))) ⌝ }
+{
+    let n = shape.transitions;
+    let mut t = 0;
+    while t < n {
+        if !count_within(seen, pair(s, shape, t), 1) {
+            return false;
+        }
+        t += 1;
+    }
+    true
+}
+
+fn priorities_differ(s: &[u8], shape: Shape) -> bool
+    requires { ⌜ IsShape (now s) shape × (all file.inCode (records (now s)) ≡ true) ⌝ }
+    ensures { λ r. ⌜ r ≡ all (file.prioritiesDiffer (readCharts (now (s .entry)))) (upto (length (readCharts (now (s .entry)) .homes))) ⌝ }
+{
+    let mut seen = [0u8; 2048];
+    let n = 16 * (shape.states as usize);
+    pairs_within(s, shape, &mut seen[..n])
+}
+
+// The owner of action i, if its place is one from `low` to `high`; else 65,535, which owns nothing.
+fn owner_at(s: &[u8], shape: Shape, low: u8, high: u8, i: u16) -> u16
+    ensures { λ r. ⌜ r ≡ ownerAt (now (s .entry)) shape low high i ⌝ }
+{
+    let place = place_of(s, shape, i);
+    if low <= place {
+        if place <= high {
+            return owner_of(s, shape, i);
+        }
+    }
+    65535
+}
+
+fn owners_within(s: &[u8], shape: Shape, low: u8, high: u8, counts: &mut [u8]) -> bool
+    ensures { λ r. ⌜ r ≡ within 8 (now (counts .entry)) (map (ownerAt (now (s .entry)) shape low high) (upto (shape .actions))) ⌝ }
+{
+    let n = shape.actions;
+    let mut i = 0;
+    while i < n {
+        if !count_within(counts, owner_at(s, shape, low, high, i) as usize, 8) {
+            return false;
+        }
+        i += 1;
+    }
+    true
+}
+
+// A state's entry and exit actions count together.
+fn states_act(s: &[u8], shape: Shape) -> bool
+    requires { ⌜ IsShape (now s) shape ⌝ }
+    ensures { λ r. ⌜ r ≡ all (file.atMostEight (readCharts (now (s .entry)) .entries ++ readCharts (now (s .entry)) .exits)) (upto (length (readCharts (now (s .entry)) .homes))) ⌝ }
+{
+    let mut counts = [0u8; 128];
+    let n = shape.states as usize;
+    owners_within(s, shape, 1, 2, &mut counts[..n])
+}
+
+fn transitions_act(s: &[u8], shape: Shape) -> bool
+    requires { ⌜ IsShape (now s) shape ⌝ }
+    ensures { λ r. ⌜ r ≡ all (file.atMostEight (readCharts (now (s .entry)) .transition-actions)) (upto (length (readCharts (now (s .entry)) .transitions))) ⌝ }
+{
+    let mut counts = [0u8; 256];
+    let n = shape.transitions as usize;
+    owners_within(s, shape, 3, 3, &mut counts[..n])
+}
+
+// Of a framed file whose codes and ranges are kept.
+pub fn structured(s: &[u8], shape: Shape) -> bool
+    requires { ⌜ IsShape (now s) shape × (all file.inCode (records (now s)) ≡ true) ⌝ }
+    ensures { λ r. ⌜ r ≡ file.structured (readCharts (now (s .entry))) ⌝ }
+{
+    inside_charts(s, shape)
+        & initials_fit(s, shape)
+        & priorities_differ(s, shape)
+        & states_act(s, shape)
+        & transitions_act(s, shape)
+}

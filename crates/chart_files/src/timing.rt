@@ -1,0 +1,36 @@
+// Refusal 9: timing triggers of 0 ticks.
+ghost use mathlib.Core.Path.{_≡_};
+ghost use Rattle.records.specs.Lists.{all};
+ghost use Rattle.model.specs.ChartSet.{readCharts};
+ghost use Rattle.model.specs.ChartFile as F;
+ghost use Rattle.chart_files.specs.Shape.{IsShape};
+ghost use Rattle.chart_files.specs.Parts.{triggerFor};
+use super::Shape;
+use super::fields::Trigger;
+use super::fields::trigger_of;
+
+// Ticks are milliseconds / 100 to the nearest, halves up: from 50 on there is one at least.
+fn ticking(t: Trigger) -> bool
+    ensures { λ r. ⌜ r ≡ F.ticking (triggerFor t) ⌝ }
+{
+    match t {
+        Trigger::Always => true,
+        Trigger::Event(_) => true,
+        Trigger::After(ms) => 50 <= ms,
+        Trigger::Every(ms) => 50 <= ms,
+    }
+}
+
+pub fn all_ticking(s: &[u8], shape: Shape) -> bool
+    requires { ⌜ IsShape (now s) shape ⌝ }
+    ensures { λ r. ⌜ r ≡ all (λ t. F.ticking (t .trigger)) (readCharts (now (s .entry)) .transitions) ⌝ }
+{
+    let mut t = 0;
+    while t < shape.transitions {
+        if !ticking(trigger_of(s, shape, t)) {
+            return false;
+        }
+        t += 1;
+    }
+    true
+}
