@@ -18,6 +18,6 @@ truthCode (val true) = pos 1
 truthCode (val false) = pos 0
 truthCode (fault w) = reasonCode w
 
-abbrev pub framingNumber : Option Refusal → ℕ
-framingNumber none = 0
-framingNumber (some w) = refusalNumber w
+abbrev pub refusalCode : Option Refusal → ℕ
+refusalCode none = 0
+refusalCode (some w) = refusalNumber w

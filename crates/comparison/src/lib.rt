@@ -9,7 +9,12 @@ ghost use Rattle.expressions.specs.Uses.{addUses, allOperands};
 ghost use Rattle.expressions.specs.Answers.{reasonOf};
 ghost use Rattle.records.specs.Framing.{framing as framingBy, counts as countsBy, firsts as firstsBy};
 ghost use Rattle.records.specs.Frame.{framingOf, unlessRefused};
-ghost use Rattle.comparison.specs.Codes.{numberCode, truthCode, reasonCode, framingNumber};
+ghost use Rattle.records.specs.Refusal.{refusalNumber};
+ghost use Rattle.model.specs.ChartFile.{chartsRefusal};
+ghost use Rattle.chart_files.specs.Shape.{refusalFor};
+ghost use Rattle.comparison.specs.Codes.{numberCode, truthCode, reasonCode, refusalCode};
+use chart_files::Checked;
+use chart_files::Refusal;
 use expressions::arithmetic::Number;
 use expressions::arithmetic::Reason;
 use expressions::arithmetic::Truth;
@@ -143,7 +148,7 @@ pub extern "C" fn write_i32(s: &mut [u8], at: usize, v: i32)
 }
 
 fn framing_number(answer: Framing) -> u8
-    ensures { λ r. ⌜ r ≡ framingNumber (framingOf answer) ⌝ }
+    ensures { λ r. ⌜ r ≡ refusalCode (framingOf answer) ⌝ }
 {
     match answer {
         Framing::Framed => 0,
@@ -162,7 +167,7 @@ pub extern "C" fn framing(
     counts: &mut [usize; 9],
     firsts: &mut [usize; 9],
 ) -> u8
-    ensures { λ r. ⌜ r ≡ framingNumber (framingBy first (now (most .entry)) (now (s .entry))) ⌝ }
+    ensures { λ r. ⌜ r ≡ refusalCode (framingBy first (now (most .entry)) (now (s .entry))) ⌝ }
     ensures { λ _. ⌜ now (counts .exit) ≡ unlessRefused (framingBy first (now (most .entry)) (now (s .entry))) (countsBy first (now (most .entry)) (now (s .entry))) ⌝ }
     ensures { λ _. ⌜ now (firsts .exit) ≡ unlessRefused (framingBy first (now (most .entry)) (now (s .entry))) (firstsBy first (now (most .entry)) (now (s .entry))) ⌝ }
 {
@@ -173,4 +178,31 @@ pub extern "C" fn framing(
     *firsts = d;
     let a = f.answer;
     framing_number(a)
+}
+
+fn chart_refusal_number(w: Refusal) -> u8
+    ensures { λ r. ⌜ r ≡ refusalNumber (refusalFor w) ⌝ }
+{
+    match w {
+        Refusal::OddLength => 1,
+        Refusal::UnorderedKinds => 2,
+        Refusal::WrongAmounts => 3,
+        Refusal::StrayByte => 4,
+        Refusal::BrokenCode => 5,
+        Refusal::DanglingNumber => 6,
+        Refusal::BrokenStructure => 7,
+        Refusal::BrokenNode => 8,
+        Refusal::ZeroTicks => 9,
+    }
+}
+
+// The refusal's number, or 0.
+#[no_mangle]
+pub extern "C" fn chart_refusal(s: &[u8]) -> u8
+    ensures { λ r. ⌜ r ≡ refusalCode (chartsRefusal (now (s .entry))) ⌝ }
+{
+    match chart_files::check(s) {
+        Checked::Accepted(_) => 0,
+        Checked::Refused(w) => chart_refusal_number(w),
+    }
 }

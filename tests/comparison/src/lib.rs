@@ -31,6 +31,7 @@ mod exported {
             counts: *mut [usize; 9],
             firsts: *mut [usize; 9],
         ) -> u8;
+        pub fn chart_refusal(bytes: *const u8, len: usize) -> u8;
     }
 }
 
@@ -122,4 +123,9 @@ pub fn framing(bytes: &[u8], first: u8, most: &[u16]) -> (u8, [usize; 9], [usize
         )
     };
     (number, counts, firsts)
+}
+
+/// The refusal of a chart file, or 0.
+pub fn chart_refusal(bytes: &[u8]) -> u8 {
+    unsafe { exported::chart_refusal(bytes.as_ptr(), bytes.len()) }
 }

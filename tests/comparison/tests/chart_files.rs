@@ -1,0 +1,61 @@
+//! The reader of chart files: accepted, and refused by 1 to 9, on valid, damaged and doubly damaged files and on any bytes.
+
+use comparison::chart_refusal;
+use simulator::chart_sets::zero_watch;
+use simulator::charts;
+use simulator::generate::{set_damage, sets};
+use simulator::Random;
+
+fn compare(bytes: &[u8], met: &mut [usize; 10]) {
+    let right = charts::check(bytes);
+    assert_eq!(u32::from(chart_refusal(bytes)), right, "{bytes:?}");
+    met[right as usize] += 1;
+}
+
+#[test]
+fn damaged_once_in_each_way() {
+    let mut random = Random::new(11);
+    let mut met = [0; 10];
+    let mut damaged = vec![0; set_damage::DAMAGES.len()];
+    for round in 0..14_000 {
+        let set = sets::any_valid_set(&mut random);
+        compare(&set, &mut met);
+        let way = round % damaged.len();
+        if let Some(bad) = set_damage::damage(&mut random, &set, &set_damage::DAMAGES[way]) {
+            compare(&bad.bytes, &mut met);
+            damaged[way] += 1;
+        }
+    }
+    println!("files by number: {met:?}");
+    assert!(met.iter().all(|n| *n > 100), "{met:?}");
+    assert!(damaged.iter().all(|n| *n > 0), "{damaged:?}");
+}
+
+#[test]
+fn damaged_twice() {
+    let mut random = Random::new(12);
+    let mut met = [0; 10];
+    for _ in 0..6_000 {
+        let set = sets::any_valid_set(&mut random);
+        if let Some(bad) = set_damage::damage_twice(&mut random, &set) {
+            compare(&bad.bytes, &mut met);
+        }
+    }
+    assert!(met[1..9].iter().all(|n| *n > 5), "{met:?}");
+}
+
+/// Single bytes changed, and bytes of no form at all.
+#[test]
+fn any_bytes() {
+    let mut random = Random::new(13);
+    let mut met = [0; 10];
+    for _ in 0..20_000 {
+        let mut bytes = zero_watch();
+        let at = random.below(bytes.len());
+        bytes[at] = random.pick(&[0, 1, 2, 3, 4, 7, 16, 17, 31, 32, 128, 255]);
+        compare(&bytes, &mut met);
+        let noise: Vec<u8> = (0..random.below(200)).map(|_| random.pick(&[0, 0, 1, 2, 3, 4, 5, 6])).collect();
+        compare(&noise, &mut met);
+    }
+    assert!(met[..9].iter().all(|n| *n > 0), "{met:?}");
+}
