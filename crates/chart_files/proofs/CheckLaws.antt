@@ -10,7 +10,7 @@ use Rattle.records.specs.Refusal.{Refusal, stray-byte, broken-code, dangling-nu
 use Rattle.records.specs.Bytes.{records}
 use Rattle.records.specs.Framing.{framing, framingTests}
 use Rattle.model.specs.ChartSet.{readCharts}
-use Rattle.model.specs.ChartFile.{chartLimits, chartTests, chartsRefusal, unused, unusedAreZero, inCode, allNamed, structured, nodesFit, ticking}
+use Rattle.model.specs.ChartFile.{chartLimits, chartsRefusal, unused, unusedAreZero, inCode, allNamed, structured, nodesFit, ticking}
 use Rattle.chart_files.specs.Shape.{IsShape, refusalFor, IsChecked}
 use Rattle.chart_files.specs.declared.Shape.{Shape}
 use Rattle.chart_files.specs.declared.Refusal as declared-refusal

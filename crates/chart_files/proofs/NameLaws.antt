@@ -1,6 +1,6 @@
 -- Refusal 6, by the numbers of the things. Assumes nothing.
-use mathlib.Core.Path.{_≡_, refl, sym, ap, _∙_}
-use mathlib.Core.Bool.{Bool, _&&_}
+use mathlib.Core.Path.{_≡_, _∙_}
+use mathlib.Core.Bool.{_&&_}
 use mathlib.Core.List.{List}
 use Prim.Native.Nat.{ℕ}
 use lib.Dec.{ltb}
@@ -12,7 +12,7 @@ use Rattle.model.specs.ChartSet.{readActions, readCharts}
 use Rattle.model.specs.ChartFile.{guardNamed, deedNamed, allNamed}
 use Rattle.chart_files.specs.declared.Shape.{Shape}
 use Rattle.chart_files.specs.Shape.{IsShape}
-use Rattle.chart_files.specs.Places.{initialAt, homeAt, transitionAt, actionAt, nodePart}
+use Rattle.chart_files.specs.Places.{initialAt, homeAt, transitionAt, nodePart}
 use Rattle.chart_files.specs.Names.{initialNamed, homeNamed, transitionNamed, actionNamed}
 use Rattle.chart_files.proofs.ListLaws.{all-map}
 use Rattle.chart_files.proofs.Readings.{length-initial, length-homes, length-transitions, length-variables, length-nodes, initial-are, homes-are, transitions-are, lookup-is, all-actions}

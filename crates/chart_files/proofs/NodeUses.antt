@@ -1,26 +1,24 @@
 -- Refusal 8 of a framed file, by its transitions' and its actions' numbers; and uses counted up to 2. Assumes nothing.
 use mathlib.Core.Path.{_≡_, refl, sym, ap, _∙_}
-use mathlib.Core.Bool.{Bool, true, false, cond, _&&_}
-use mathlib.Core.List.{List, [], _∷_, _++_, map, append-assoc, append-nil}
+use mathlib.Core.Bool.{Bool, true, cond, _&&_}
+use mathlib.Core.List.{List, [], _∷_, _++_, append-assoc, append-nil}
 use Prim.Native.Nat.{ℕ, zero, suc, _+_, _-_, min, _≤_, _<_}
 use native.Mathlib.Nat.{sub-zero}
 use native.Mathlib.Omega.{arith}
-use borrow.Author.Tests.{eqb-true, eqb-false}
 use lib.Dec.{eqb}
 use lib.ListN.{length, getD, replicate, length-replicate, getD-replicate}
 use Rattle.records.specs.Lists.{all, count, gather, from, upto}
 use Rattle.records.specs.Bytes.{records}
-use Rattle.expressions.specs.Nodes.{Node, nodeOf, nodeAt}
+use Rattle.expressions.specs.Nodes.{nodeOf, nodeAt}
 use Rattle.expressions.specs.Sorts.{sortOf, isNumber, isTruth}
 use Rattle.expressions.specs.Uses.{addUses, allOperands}
 use Rattle.expressions.proofs.Loops.{left-more, left-none}
 use Rattle.expressions.proofs.Uses.{times, adds-append, adds-length, adds-at, once}
-use Rattle.model.specs.Runs.{Deed}
 use Rattle.model.specs.ChartSet.{readCharts, readActions}
 use Rattle.model.specs.ChartFile.{inCode, guardNodes, assignedNodes, guards, assigned, uses}
 use Rattle.chart_files.specs.declared.Shape.{Shape}
 use Rattle.chart_files.specs.Shape.{IsShape}
-use Rattle.chart_files.specs.Places.{transitionAt, placeAt, actionAt, nodePart}
+use Rattle.chart_files.specs.Places.{transitionAt, placeAt, nodePart}
 use Rattle.chart_files.specs.Used.{guardAt, assignedAt, truths, numbers}
 use Rattle.chart_files.proofs.ListLaws.{gather-map, alike-upto}
 use Rattle.chart_files.proofs.Readings.{transitions-are, gather-actions, lookup-is, length-nodes, most-nodes}

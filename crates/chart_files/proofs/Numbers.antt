@@ -1,13 +1,11 @@
 -- Tests and counts over the numbers below a size, and over lists made of them. Assumes nothing.
 use mathlib.Core.Path.{_≡_, refl, sym, ap, _∙_}
 use mathlib.Core.Bool.{Bool, true, false, not, cond, _&&_, _||_}
-use mathlib.Core.List.{List, [], _∷_, _++_, map}
+use mathlib.Core.List.{List, [], _∷_, _++_}
 use Prim.Native.Nat.{ℕ, zero, suc, _+_, _-_, _≤_, _<_}
 use native.Mathlib.Nat.{zero-add, sub-zero}
 use native.Mathlib.Omega.{arith}
-use lib.Dec.{eqb, leb}
-use lib.ListN.{length}
-use Rattle.records.specs.Lists.{all, any, count, keep, gather, from, upto}
+use Rattle.records.specs.Lists.{all, any, count, from, upto}
 use Rattle.records.proofs.FramingLaws.{impossible, and-true}
 use Rattle.expressions.proofs.Loops.{left-more, left-none}
 use Rattle.chart_files.proofs.ListLaws.{all-map, count-map, alike-upto}

@@ -2,12 +2,12 @@
 use mathlib.Core.Path.{_≡_, refl, sym, ap, _∙_}
 use mathlib.Core.Bool.{Bool, true, false, not, cond, _&&_, _||_}
 use mathlib.Core.List.{List, [], _∷_, map}
-use Prim.Native.Nat.{ℕ, zero, suc, _+_, _-_, _*_, _/_, _%_, _≤_, _<_}
+use Prim.Native.Nat.{ℕ, suc, _+_, _-_, _*_, _/_, _%_, _≤_, _<_}
 use native.Mathlib.Omega.{arith}
 use borrow.Author.Tests.{le-leb, leb-true, leb-false, eqb-true, eqb-false, eq-eqb, ne-eqb}
 use lib.Dec.{leb, eqb, eqb·suc-zero}
 use lib.ListN.{replicate}
-use Rattle.records.specs.Lists.{all, count, keep, mem, distinct, from, upto}
+use Rattle.records.specs.Lists.{all, count, keep, mem, distinct, upto}
 use Rattle.records.proofs.FramingLaws.{and-true}
 use Rattle.expressions.proofs.Uses.{times}
 use Rattle.chart_files.specs.Tallies.{within}

@@ -1,31 +1,30 @@
 -- What a framed chart file says, as reads of its bytes: each list of `readCharts` by its things' numbers. Assumes nothing.
-use mathlib.Core.Path.{_≡_, refl, sym, ap, _∙_, subst}
+use mathlib.Core.Path.{_≡_, refl, sym, ap, _∙_}
 use mathlib.Core.Bool.{Bool, true, false, not, cond, _&&_, _||_}
 use mathlib.Core.Option.{none}
 use mathlib.Core.List.{List, [], _∷_, map}
-use Prim.Native.Nat.{ℕ, zero, suc, _+_, _-_, _*_, _/_, _^_, _≤_, _<_}
+use Prim.Native.Nat.{ℕ, suc, _+_, _-_, _*_, _^_, _≤_, _<_}
 use native.Mathlib.Nat.{zero-add}
 use native.Mathlib.Omega.{arith}
-use borrow.Author.Tests.{leb-true, leb-false, le-ltb, ltb-true, ltb-false}
+use borrow.Author.Tests.{leb-true, le-ltb, ltb-true, ltb-false}
 use lib.Dec.{leb, ltb, eqb}
-use lib.ListN.{length, getD, take, drop, length-map, length-take, length-drop, List·getD-map, List·getD-eq-default, drop-of-length-le}
-use lib.Seq.{getD-take, getD-drop, drop-drop}
-use lib.IntN.{ℤ}
+use lib.ListN.{length, getD, drop, length-map, length-take, List·getD-eq-default, drop-of-length-le}
+use lib.Seq.{getD-take, getD-drop}
 use Rattle.records.specs.Lists.{all, any, count, keep, gather, upto, caseOf}
-use Rattle.records.specs.Bytes.{byte, two, four, signed, two±, four±, records, kind, ofKind}
-use Rattle.records.specs.Framing.{known, howMany, firstOf, kinds, framing}
+use Rattle.records.specs.Bytes.{byte, two, four, signed, records, kind, ofKind}
+use Rattle.records.specs.Framing.{known, howMany, firstOf, framing}
 use Rattle.records.proofs.Records.{recordAt, byte-record}
 use Rattle.records.proofs.RoundTrips.{two-record, four-record, two-alike, four-alike}
 use Rattle.records.proofs.FramingLaws.{and-true, below-next, is-table, getD-upto}
-use Rattle.records.proofs.Framed.{length-ofKind, first-and-many, framed-length, framed-known, framed-one, framed-most, framed-thing}
-use Rattle.expressions.specs.Nodes.{Node, unknown, nodeBy, readNode, nodeOf, nodeAt}
+use Rattle.records.proofs.Framed.{length-ofKind, first-and-many, framed-known, framed-one, framed-most, framed-thing}
+use Rattle.expressions.specs.Nodes.{unknown, nodeBy, readNode, nodeOf, nodeAt}
 use Rattle.model.specs.Owned.{of}
 use Rattle.model.specs.Runs.{Variable, Deed}
-use Rattle.model.specs.ChartSet.{Transition, event, after, every, always, noTransition, transition, readGuard, readDeed, readTransition, readVariable, readActions, readCharts}
+use Rattle.model.specs.ChartSet.{event, after, every, always, noTransition, transition, readGuard, readDeed, readTransition, readVariable, readActions, readCharts}
 use Rattle.model.specs.ChartFile.{chartLimits}
 use Rattle.chart_files.specs.declared.Shape.{Shape}
 use Rattle.chart_files.specs.Shape.{IsShape}
-use Rattle.chart_files.specs.Places.{firstState, firstTransition, firstVariable, firstNode, firstAction, triggerIn, transitionIn, variableIn, placeIn, actionIn, initialAt, homeAt, transitionAt, variableAt, placeAt, actionAt, nodePart}
+use Rattle.chart_files.specs.Places.{firstState, firstTransition, firstVariable, firstNode, firstAction, transitionIn, variableIn, actionIn, initialAt, homeAt, transitionAt, variableAt, placeAt, actionAt, nodePart}
 use Rattle.chart_files.proofs.ListLaws.{all-map, any-map, count-map, keep-map, map-map, gather-map, all-keep, any-keep, count-keep, keep-keep, gather-keep, alike-upto}
 
 -- ---- what record n says, read where it stands

@@ -6,9 +6,9 @@ use Prim.Native.Nat.{ℕ, zero, suc, _+_, _-_, _*_, _/_, _≤_, _<_}
 use native.Mathlib.Numerals.{add-one}
 use native.Mathlib.Omega.{arith}
 use lib.Dec.{eqb}
-use lib.ListN.{length, getD, take, drop}
+use lib.ListN.{length, take, drop}
 use lib.Seq.{take-nil, drop-nil}
-use Rattle.records.specs.Lists.{all, caseOf}
+use Rattle.records.specs.Lists.{all}
 use Rattle.records.specs.Bytes.{byte, records}
 use Rattle.expressions.proofs.Loops.{and-one, and-two}
 use Rattle.model.specs.ChartFile.{zeros, unusedAreZero}

@@ -1,12 +1,12 @@
 -- Refusal 7 of a framed file, by its transitions' and its actions' numbers. Assumes nothing.
 use mathlib.Core.Path.{_≡_, refl, sym, ap, _∙_}
 use mathlib.Core.Bool.{Bool, true, false, not, cond, _&&_, _||_}
-use mathlib.Core.List.{List, [], _∷_, _++_, map}
-use Prim.Native.Nat.{ℕ, zero, suc, _+_, _-_, _*_, _≤_, _<_}
+use mathlib.Core.List.{List, _++_, map}
+use Prim.Native.Nat.{ℕ, zero, suc, _+_, _*_, _≤_, _<_}
 use native.Mathlib.Omega.{arith}
 use borrow.Author.Tests.{lt-leb, le-leb, eqb-true, ne-eqb}
 use lib.Dec.{leb, eqb}
-use lib.ListN.{length, getD, replicate}
+use lib.ListN.{length, replicate}
 use Rattle.records.specs.Lists.{all, any, count, keep, upto, distinct}
 use Rattle.records.proofs.FramingLaws.{length-keep}
 use Rattle.expressions.proofs.Uses.{times}

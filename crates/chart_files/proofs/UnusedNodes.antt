@@ -47,7 +47,37 @@ module _ (k a b c : ℕ) (z : ℤ) where
   -- by the code: each that the tables have, and the others
   pub ranges-are : rangesOf (N.nodeBy k a b c z) ≡ caseOf k nodeRanges []
   unfolding caseOf
-  ranges-are = is 1 refl (λ n1. is 2 refl (λ n2. is 8 refl (λ n8. is 19 refl (λ n19. is 3 refl (λ n3. is 4 refl (λ n4. is 5 refl (λ n5. is 6 refl (λ n6. is 7 refl (λ n7. is 16 refl (λ n16. is 17 refl (λ n17. is 18 refl (λ n18. is 20 refl (λ n20. is 21 refl (λ n21. rw (ne-eqb k 1 n1, ne-eqb k 2 n2, ne-eqb k 8 n8, ne-eqb k 19 n19, ne-eqb k 3 n3, ne-eqb k 4 n4, ne-eqb k 5 n5, ne-eqb k 6 n6, ne-eqb k 7 n7, ne-eqb k 16 n16, ne-eqb k 17 n17, ne-eqb k 18 n18, ne-eqb k 20 n20, ne-eqb k 21 n21)))))))))))))))
+  ranges-are =
+      is 1 refl (λ n1.
+      is 2 refl (λ n2.
+      is 8 refl (λ n8.
+      is 19 refl (λ n19.
+      is 3 refl (λ n3.
+      is 4 refl (λ n4.
+      is 5 refl (λ n5.
+      is 6 refl (λ n6.
+      is 7 refl (λ n7.
+      is 16 refl (λ n16.
+      is 17 refl (λ n17.
+      is 18 refl (λ n18.
+      is 20 refl (λ n20.
+      is 21 refl (λ n21.
+      rw (
+        ne-eqb k 1 n1,
+        ne-eqb k 2 n2,
+        ne-eqb k 8 n8,
+        ne-eqb k 19 n19,
+        ne-eqb k 3 n3,
+        ne-eqb k 4 n4,
+        ne-eqb k 5 n5,
+        ne-eqb k 6 n6,
+        ne-eqb k 7 n7,
+        ne-eqb k 16 n16,
+        ne-eqb k 17 n17,
+        ne-eqb k 18 n18,
+        ne-eqb k 20 n20,
+        ne-eqb k 21 n21,
+      )))))))))))))))
 
 has-key : (ks : List ℕ) (k : ℕ) → OneOf ks k → T (hasKey ks k)
 has-key ks k h = go (hasKey ks k) (λ t. miss ks k t h)

@@ -3,8 +3,8 @@ use mathlib.Core.Bool.{Bool, true, false, not, cond, _&&_, _||_}
 use mathlib.Core.Option.{Option, some, none}
 use mathlib.Core.List.{List}
 use Prim.Native.Nat.{ℕ, _+_, _-_, _*_}
-use lib.Dec.{leb, eqb}
-use Rattle.model.specs.ChartSet.{readCharts, Transition}
+use lib.Dec.{eqb}
+use Rattle.model.specs.ChartSet.{readCharts}
 use Rattle.model.specs.ChartFile.{between, home, unconditional}
 use Rattle.chart_files.specs.declared.Shape.{Shape}
 use Rattle.chart_files.specs.Places.{transitionAt, placeAt, actionAt}

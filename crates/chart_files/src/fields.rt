@@ -2,7 +2,7 @@
 ghost use mathlib.Core.Path.{_≡_};
 ghost use Prim.Native.Nat.{_+_, _*_, _<_, _^_};
 ghost use Rattle.records.specs.Bytes.{byte, two, four, two±};
-ghost use Rattle.chart_files.specs.Places.{firstTransition, firstVariable, firstNode, firstAction, initialAt, homeAt, transitionAt, variableAt, placeAt, actionAt, nodePart};
+ghost use Rattle.chart_files.specs.Places.{firstTransition, firstVariable, firstNode, firstAction, homeAt, transitionAt, variableAt, placeAt, actionAt, nodePart};
 ghost use Rattle.chart_files.specs.Shape.{IsShape};
 ghost use Rattle.chart_files.specs.Parts.{triggerFor, guardFor, deedFor};
 use super::Shape;

@@ -1,5 +1,4 @@
 // The reader of chart files: the framing, the checks on what the records say, and the refusal of a file.
-ghost use mathlib.Core.Path.{_≡_};
 ghost use Rattle.chart_files.specs.Shape.{IsShape, IsShaped, IsChecked};
 
 pub mod codes;
@@ -16,7 +15,7 @@ use records::Framing;
 use records::frame_of;
 use structure::structured;
 use timing::all_ticking;
-use unused::all_unused;
+use unused::all_clean;
 use uses::nodes_fit;
 
 // How many records a framed chart file has of each kind, from kind 1 on.
@@ -81,7 +80,7 @@ fn check_framed(s: &[u8], shape: Shape) -> Checked
     requires { ⌜ IsShape (now s) shape ⌝ }
     ensures { λ r. ⌜ IsChecked (now (s .entry)) r ⌝ }
 {
-    if !all_unused(s) {
+    if !all_clean(s) {
         return Checked::Refused(Refusal::StrayByte);
     }
     if !all_in_code(s) {

@@ -1,11 +1,11 @@
 // Refusal 7: transitions inside charts, initial states, priorities, and at most eight actions an owner.
 ghost use mathlib.Core.Path.{_≡_};
-ghost use mathlib.Core.Bool.{true, _&&_, not};
+ghost use mathlib.Core.Bool.{true};
 ghost use mathlib.Core.List.{map, _++_};
 ghost use Prim.Native.Nat.{_+_, _*_, _≤_, _<_};
 ghost use lib.Dec.{eqb, ltb};
 ghost use lib.ListN.{length, getD};
-ghost use Rattle.records.specs.Lists.{all, any, upto};
+ghost use Rattle.records.specs.Lists.{all, upto};
 ghost use Rattle.records.specs.Bytes.{records};
 ghost use Rattle.model.specs.ChartSet.{readCharts};
 ghost use Rattle.model.specs.ChartFile as file;
@@ -38,6 +38,7 @@ fn chart_of(s: &[u8], shape: Shape, state: u16) -> u8
     }
 }
 
+// The source and the target are of one chart.
 fn inside_chart(s: &[u8], shape: Shape, t: u16) -> bool
     requires { ⌜ IsShape (now s) shape ⌝ }
     ensures { λ r. ⌜ r ≡ insideChart (now (s .entry)) shape t ⌝ }
@@ -62,6 +63,7 @@ fn inside_charts(s: &[u8], shape: Shape) -> bool
     true
 }
 
+// No guard.
 fn free(s: &[u8], shape: Shape, t: u16) -> bool
     ensures { λ r. ⌜ r ≡ isFree (transitionAt (now (s .entry)) shape t .guard) ⌝ }
 {
@@ -89,6 +91,7 @@ fn leaves(s: &[u8], shape: Shape, state: u16, t: u16) -> bool
     source_of(s, shape, t) == state
 }
 
+// How many transitions leave a state.
 fn leaving(s: &[u8], shape: Shape, state: u16) -> u16
     requires { ⌜ IsShape (now s) shape ⌝ }
     ensures { λ r. ⌜ r ≡ length (file.leavingState (readCharts (now (s .entry))) state) ⌝ }
@@ -204,6 +207,7 @@ fn pair(s: &[u8], shape: Shape, t: u16) -> usize
     16 * source + (priority - 1)
 }
 
+// No pair comes twice, from what is seen on.
 fn pairs_within(s: &[u8], shape: Shape, seen: &mut [u8]) -> bool
     requires { ⌜ IsShape (now s) shape × (all file.inCode (records (now s)) ≡ true) ⌝ }
     ensures { λ r. ⌜ r ≡ within 1 (now (seen .entry)) (map (pairAt (now (s .entry)) shape) (upto (shape .transitions))) ⌝ }
@@ -241,6 +245,7 @@ fn owner_at(s: &[u8], shape: Shape, low: u8, high: u8, i: u16) -> u16
     65535
 }
 
+// No owner in these places comes more than eight times, from what is counted on.
 fn owners_within(s: &[u8], shape: Shape, low: u8, high: u8, counts: &mut [u8]) -> bool
     ensures { λ r. ⌜ r ≡ within 8 (now (counts .entry)) (map (ownerAt (now (s .entry)) shape low high) (upto (shape .actions))) ⌝ }
 {

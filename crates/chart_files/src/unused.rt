@@ -1,4 +1,4 @@
-// Refusal 4: bytes that no field names, or that a record's codes leave unused, record by record.
+// Refusal 4: a record is clean if the bytes that no field names, or that its codes leave unused, are zero.
 ghost use mathlib.Core.Path.{_≡_};
 ghost use Rattle.records.specs.Lists.{all};
 ghost use Rattle.records.specs.Bytes.{records};
@@ -21,7 +21,7 @@ fn zeros(r: &[u8], a: usize, e: usize) -> bool
     true
 }
 
-fn transition_unused(r: &[u8]) -> bool
+fn transition_clean(r: &[u8]) -> bool
     ensures { λ t. ⌜ t ≡ F.unusedAreZero (F.unusedTransition (now (r .entry))) (now (r .entry)) ⌝ }
 {
     let rest = zeros(r, 14, 16);
@@ -34,7 +34,7 @@ fn transition_unused(r: &[u8]) -> bool
     }
 }
 
-fn node_unused(r: &[u8]) -> bool
+fn node_clean(r: &[u8]) -> bool
     ensures { λ t. ⌜ t ≡ F.unusedAreZero (F.unusedNode (now (r .entry))) (now (r .entry)) ⌝ }
 {
     let rest = zeros(r, 12, 16);
@@ -48,7 +48,7 @@ fn node_unused(r: &[u8]) -> bool
     }
 }
 
-fn action_unused(r: &[u8]) -> bool
+fn action_clean(r: &[u8]) -> bool
     ensures { λ t. ⌜ t ≡ F.unusedAreZero (F.unusedAction (now (r .entry))) (now (r .entry)) ⌝ }
 {
     let rest = zeros(r, 8, 16);
@@ -58,28 +58,28 @@ fn action_unused(r: &[u8]) -> bool
     }
 }
 
-fn record_unused(r: &[u8]) -> bool
+fn record_clean(r: &[u8]) -> bool
     ensures { λ t. ⌜ t ≡ F.unusedAreZero (F.unused (now (r .entry))) (now (r .entry)) ⌝ }
 {
     match byte_at(r, 0) {
         1 => zeros(r, 1, 2) & zeros(r, 4, 16),
         2 => zeros(r, 2, 16),
-        3 => transition_unused(r),
+        3 => transition_clean(r),
         4 => zeros(r, 1, 2) & zeros(r, 8, 16),
-        5 => node_unused(r),
-        6 => action_unused(r),
+        5 => node_clean(r),
+        6 => action_clean(r),
         _ => true,
     }
 }
 
-pub fn all_unused(s: &[u8]) -> bool
+pub fn all_clean(s: &[u8]) -> bool
     ensures { λ t. ⌜ t ≡ all (λ r. F.unusedAreZero (F.unused r) r) (records (now (s .entry))) ⌝ }
 {
     let mut i: usize = 0;
     while i < s.len() / 16 {
         let at = 16 * i;
         let end = at + 16;
-        if !record_unused(&s[at..end]) {
+        if !record_clean(&s[at..end]) {
             return false;
         }
         i += 1;

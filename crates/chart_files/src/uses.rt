@@ -24,6 +24,7 @@ use expressions::sorts::is_number;
 use expressions::sorts::is_truth;
 use expressions::sorts::operands_fit;
 
+// A guard is a truth.
 fn guard_fits(s: &[u8], shape: Shape, nodes: &[u8], t: u16) -> bool
     ensures { λ r. ⌜ r ≡ truths (nodeAt (now (nodes .entry))) (guardAt (now (s .entry)) shape t) ⌝ }
 {
@@ -49,6 +50,7 @@ fn guards_fit(s: &[u8], shape: Shape) -> bool
     true
 }
 
+// An assigned node is a number.
 fn assigned_fits(s: &[u8], shape: Shape, nodes: &[u8], i: u16) -> bool
     ensures { λ r. ⌜ r ≡ numbers (nodeAt (now (nodes .entry))) (assignedAt (now (s .entry)) shape i) ⌝ }
 {
@@ -115,6 +117,7 @@ fn count_assignments(s: &[u8], shape: Shape, uses: &mut [u8])
     }
 }
 
+// Each of the first `size` nodes is used once.
 fn all_once(uses: &[u8], size: u16) -> bool
     requires { ⌜ size ≤ length (now uses) ⌝ }
     ensures { λ r. ⌜ r ≡ all (λ n. eqb (getD (now (uses .entry)) n 0) 1) (upto size) ⌝ }

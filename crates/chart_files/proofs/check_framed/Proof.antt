@@ -14,7 +14,7 @@ use Rattle.chart_files.proofs.check_framed.Statement.{statement}
 use Rattle.chart_files.proofs.check_framed.Tie as tie
 
 zeros-hold : (c : tie.Else1) → all (λ r. unusedAreZero (unused r) r) (records (c .before .before .before .args .s .now)) ≡ true
-zeros-hold c = sym (c .before .all-unused .ensures) ∙ not-false _ (c .if1 .left)
+zeros-hold c = sym (c .before .all-clean .ensures) ∙ not-false _ (c .if1 .left)
 
 codes-hold : (c : tie.Else2) → all inCode (records (c .before .before .before .before .before .args .s .now)) ≡ true
 codes-hold c = sym (c .before .all-in-code .ensures) ∙ not-false _ (c .if2 .left)
@@ -31,14 +31,21 @@ nodes-hold c = sym (c .before .nodes-fit .ensures) ∙ not-false _ (c .if5 .left
 ticks-hold : (c : tie.Else6) → all (λ t. ticking (t .trigger)) (readCharts (c .before .before .before .before .before .before .before .before .before .before .before .before .before .args .s .now) .transitions) ≡ true
 ticks-hold c = sym (c .before .all-ticking .ensures) ∙ not-false _ (c .if6 .left)
 
-all-unused-requires : tie.Need-all-unused-requires
-all-unused-requires c κs = search needs
+all-clean-requires : tie.Need-all-clean-requires
+all-clean-requires c κs = search needs
 
 returns : tie.Need-returns
 unfolding lowest
 returns c =
     let k = c .before .before .before in
-    refused (k .args .s .now) StrayByte (refusal-is (k .args .s .now) (k .pre .framed) (sym (c .before .all-unused .ensures) ∙ not-true _ (c .if1 .taken)) refl refl refl refl refl)
+    refused (k .args .s .now) StrayByte
+    (refusal-is (k .args .s .now) (k .pre .framed)
+    (sym (c .before .all-clean .ensures) ∙ not-true _ (c .if1 .taken))
+    refl
+    refl
+    refl
+    refl
+    refl)
 
 all-in-code-requires : tie.Need-all-in-code-requires
 all-in-code-requires c κs = search needs
@@ -47,7 +54,14 @@ returns-2 : tie.Need-returns-2
 unfolding lowest
 returns-2 c =
     let k = c .before .before .before .before .before in
-    refused (k .args .s .now) BrokenCode (refusal-is (k .args .s .now) (k .pre .framed) (zeros-hold (c .before .before)) (sym (c .before .all-in-code .ensures) ∙ not-true _ (c .if2 .taken)) refl refl refl refl)
+    refused (k .args .s .now) BrokenCode
+    (refusal-is (k .args .s .now) (k .pre .framed)
+    (zeros-hold (c .before .before))
+    (sym (c .before .all-in-code .ensures) ∙ not-true _ (c .if2 .taken))
+    refl
+    refl
+    refl
+    refl)
 
 all-named-requires : tie.Need-all-named-requires
 all-named-requires c κs = search needs
@@ -56,7 +70,14 @@ returns-3 : tie.Need-returns-3
 unfolding lowest
 returns-3 c =
     let k = c .before .before .before .before .before .before .before in
-    refused (k .args .s .now) DanglingNumber (refusal-is (k .args .s .now) (k .pre .framed) (zeros-hold (c .before .before .before .before)) (codes-hold (c .before .before)) (sym (c .before .all-named .ensures) ∙ not-true _ (c .if3 .taken)) refl refl refl)
+    refused (k .args .s .now) DanglingNumber
+    (refusal-is (k .args .s .now) (k .pre .framed)
+    (zeros-hold (c .before .before .before .before))
+    (codes-hold (c .before .before))
+    (sym (c .before .all-named .ensures) ∙ not-true _ (c .if3 .taken))
+    refl
+    refl
+    refl)
 
 structured-requires : tie.Need-structured-requires
 structured-requires c κs = (c .before .before .before .before .before .before .before .pre, codes-hold (c .before .before))
@@ -65,7 +86,14 @@ returns-4 : tie.Need-returns-4
 unfolding lowest
 returns-4 c =
     let k = c .before .before .before .before .before .before .before .before .before in
-    refused (k .args .s .now) BrokenStructure (refusal-is (k .args .s .now) (k .pre .framed) (zeros-hold (c .before .before .before .before .before .before)) (codes-hold (c .before .before .before .before)) (names-hold (c .before .before)) (sym (c .before .structured .ensures) ∙ not-true _ (c .if4 .taken)) refl refl)
+    refused (k .args .s .now) BrokenStructure
+    (refusal-is (k .args .s .now) (k .pre .framed)
+    (zeros-hold (c .before .before .before .before .before .before))
+    (codes-hold (c .before .before .before .before))
+    (names-hold (c .before .before))
+    (sym (c .before .structured .ensures) ∙ not-true _ (c .if4 .taken))
+    refl
+    refl)
 
 nodes-fit-requires : tie.Need-nodes-fit-requires
 nodes-fit-requires c κs = (c .before .before .before .before .before .before .before .before .before .pre, codes-hold (c .before .before .before .before))
@@ -74,7 +102,14 @@ returns-5 : tie.Need-returns-5
 unfolding lowest
 returns-5 c =
     let k = c .before .before .before .before .before .before .before .before .before .before .before in
-    refused (k .args .s .now) BrokenNode (refusal-is (k .args .s .now) (k .pre .framed) (zeros-hold (c .before .before .before .before .before .before .before .before)) (codes-hold (c .before .before .before .before .before .before)) (names-hold (c .before .before .before .before)) (shaped-hold (c .before .before)) (sym (c .before .nodes-fit .ensures) ∙ not-true _ (c .if5 .taken)) refl)
+    refused (k .args .s .now) BrokenNode
+    (refusal-is (k .args .s .now) (k .pre .framed)
+    (zeros-hold (c .before .before .before .before .before .before .before .before))
+    (codes-hold (c .before .before .before .before .before .before))
+    (names-hold (c .before .before .before .before))
+    (shaped-hold (c .before .before))
+    (sym (c .before .nodes-fit .ensures) ∙ not-true _ (c .if5 .taken))
+    refl)
 
 all-ticking-requires : tie.Need-all-ticking-requires
 all-ticking-requires c κs = search needs
@@ -83,19 +118,33 @@ returns-6 : tie.Need-returns-6
 unfolding lowest
 returns-6 c =
     let k = c .before .before .before .before .before .before .before .before .before .before .before .before .before in
-    refused (k .args .s .now) ZeroTicks (refusal-is (k .args .s .now) (k .pre .framed) (zeros-hold (c .before .before .before .before .before .before .before .before .before .before)) (codes-hold (c .before .before .before .before .before .before .before .before)) (names-hold (c .before .before .before .before .before .before)) (shaped-hold (c .before .before .before .before)) (nodes-hold (c .before .before)) (sym (c .before .all-ticking .ensures) ∙ not-true _ (c .if6 .taken)))
+    refused (k .args .s .now) ZeroTicks
+    (refusal-is (k .args .s .now) (k .pre .framed)
+    (zeros-hold (c .before .before .before .before .before .before .before .before .before .before))
+    (codes-hold (c .before .before .before .before .before .before .before .before))
+    (names-hold (c .before .before .before .before .before .before))
+    (shaped-hold (c .before .before .before .before))
+    (nodes-hold (c .before .before))
+    (sym (c .before .all-ticking .ensures) ∙ not-true _ (c .if6 .taken)))
 
 returns-7 : tie.Need-returns-7
 unfolding lowest
 returns-7 c =
     let k = c .before .before .before .before .before .before .before .before .before .before .before .before .before in
-    accepted (k .args .s .now) (k .args .shape) (k .pre) (refusal-is (k .args .s .now) (k .pre .framed) (zeros-hold (c .before .before .before .before .before .before .before .before .before .before)) (codes-hold (c .before .before .before .before .before .before .before .before)) (names-hold (c .before .before .before .before .before .before)) (shaped-hold (c .before .before .before .before)) (nodes-hold (c .before .before)) (ticks-hold c))
+    accepted (k .args .s .now) (k .args .shape) (k .pre)
+    (refusal-is (k .args .s .now) (k .pre .framed)
+    (zeros-hold (c .before .before .before .before .before .before .before .before .before .before))
+    (codes-hold (c .before .before .before .before .before .before .before .before))
+    (names-hold (c .before .before .before .before .before .before))
+    (shaped-hold (c .before .before .before .before))
+    (nodes-hold (c .before .before))
+    (ticks-hold c))
 
 pub check-framed-spec : {M : Type 1} → statement M
 check-framed-spec =
     tie.close
     (tie.spec
-    all-unused-requires
+    all-clean-requires
     returns
     all-in-code-requires
     returns-2

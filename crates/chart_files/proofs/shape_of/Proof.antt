@@ -1,12 +1,11 @@
 -- `shape_of` meets its contract: each answer is that of the frame. Assumes nothing.
 use mathlib.Core.Path.{_≡_, sym, ap, _∙_, subst}
-use mathlib.Core.Option.{some, none}
+use mathlib.Core.Option.{some}
 use mathlib.Core.List.{List}
-use Prim.Native.Nat.{ℕ, _+_, _≤_, _<_}
+use Prim.Native.Nat.{ℕ, _≤_, _<_}
 use native.Mathlib.Omega.{arith}
 use borrow.Author.Needs.{needs}
 use lib.ListN.{getD}
-use Rattle.records.specs.Framing.{howMany}
 use Rattle.records.specs.Frame.{framingOf, IsFrame}
 use Rattle.records.specs.declared.Frame.{Frame}
 use Rattle.records.specs.declared.Framing.the-variants.{Framed}

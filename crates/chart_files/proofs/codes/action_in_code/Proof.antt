@@ -1,5 +1,5 @@
 -- `codes::action_in_code` meets its contract: its fields are those of the record. Assumes nothing.
-use mathlib.Core.Path.{_≡_, _∙_}
+use mathlib.Core.Path.{_∙_}
 use mathlib.Core.Bool.{_&&_}
 use lib.Dec.{leb}
 use Rattle.model.specs.ChartFile.{deedInCode}

@@ -1,5 +1,4 @@
 -- `codes::node_in_code` meets its contract: the operator is that of the record. Assumes nothing.
-use mathlib.Core.Path.{_≡_}
 use mathlib.Core.Bool.{_&&_, _||_}
 use lib.Dec.{leb}
 use borrow.Author.Needs.{needs}

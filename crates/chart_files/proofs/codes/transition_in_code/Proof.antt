@@ -1,6 +1,6 @@
 -- `codes::transition_in_code` meets its contract: its fields are those of the record. Assumes nothing.
-use mathlib.Core.Path.{_≡_, _∙_}
-use mathlib.Core.Bool.{Bool, true, _&&_}
+use mathlib.Core.Path.{_∙_}
+use mathlib.Core.Bool.{true, _&&_}
 use mathlib.Core.List.{[], _∷_}
 use lib.Dec.{leb}
 use Rattle.records.specs.Lists.{caseOf}

@@ -7,7 +7,6 @@ use borrow.Author.Tests.{ne-eqb}
 use Rattle.records.specs.Lists.{caseOf}
 use Rattle.model.specs.ChartFile.{isEvent, isDuration}
 use Rattle.chart_files.proofs.ListLaws.{entry}
-use borrow.Author.Needs.{needs}
 use Rattle.chart_files.proofs.codes.trigger_in_code.Statement.{statement}
 use Rattle.chart_files.proofs.codes.trigger_in_code.Tie as tie
 

@@ -3,7 +3,6 @@ use mathlib.Core.Path.{_≡_}
 use Prim.Native.Nat.{_+_, _-_, _*_}
 use native.Mathlib.Omega.{arith}
 use lib.ListN.{take, drop}
-use Rattle.chart_files.specs.Places.{firstNode}
 use Rattle.chart_files.proofs.Readings.{inside}
 use borrow.Author.Needs.{needs}
 use Rattle.chart_files.proofs.fields.node_records.Statement.{statement}

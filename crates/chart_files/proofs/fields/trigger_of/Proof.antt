@@ -1,5 +1,5 @@
 -- `fields::trigger_of` meets its contract: each arm is the table's entry of its code, and the last what no entry has. Assumes nothing.
-use mathlib.Core.Path.{_≡_, refl, sym, ap, _∙_}
+use mathlib.Core.Path.{_≡_, refl, sym, _∙_}
 use mathlib.Core.List.{List}
 use Prim.Native.Nat.{ℕ, _+_, _*_}
 use borrow.Author.Tests.{ne-eqb}

@@ -1,7 +1,6 @@
 -- `names::actions_named` meets its contract: the invariant is that those below i passed. Assumes nothing.
-use mathlib.Core.Path.{sym, ap, _∙_}
+use mathlib.Core.Path.{sym, _∙_}
 use Prim.Native.Nat.{_-_}
-use native.Mathlib.Omega.{arith}
 use borrow.Author.Tests.{not-true, not-false}
 use Rattle.expressions.proofs.Loops.{Passed, passed-none, passed-more, passed-all, passed-not}
 use Rattle.chart_files.specs.Names.{actionNamed}

@@ -1,7 +1,6 @@
 -- `names::initials_named` meets its contract: the invariant is that those below c passed. Assumes nothing.
 use mathlib.Core.Path.{sym, ap, _∙_}
 use Prim.Native.Nat.{_-_}
-use native.Mathlib.Omega.{arith}
 use borrow.Author.Tests.{le-ltb, lt-ltb}
 use lib.Dec.{ltb}
 use Rattle.expressions.proofs.Loops.{Passed, passed-none, passed-more, passed-all, passed-not}

@@ -1,0 +1,114 @@
+-- `unused::record_clean` meets its contract: each arm is the table's entry of its kind. Assumes nothing.
+use mathlib.Core.Path.{_≡_, refl, sym, ap, _∙_}
+use mathlib.Core.List.{List, [], _∷_}
+use Prim.Native.Nat.{ℕ}
+use borrow.Author.Tests.{ne-eqb}
+use Rattle.records.specs.Lists.{all, caseOf}
+use Rattle.model.specs.ChartFile.{unusedTransition, unusedVariable, unusedNode, unusedAction, unusedAreZero}
+use Rattle.chart_files.proofs.ListLaws.{entry}
+use Rattle.chart_files.proofs.RecordLoops.{unused-one, unused-two}
+use borrow.Author.Needs.{needs}
+use Rattle.chart_files.proofs.unused.record_clean.Statement.{statement}
+use Rattle.chart_files.proofs.unused.record_clean.Tie as tie
+
+abbrev table : List ℕ → List (ℕ × List (ℕ × ℕ))
+table r =
+    (1, (1, 2) ∷ (4, 16) ∷ [])
+    ∷ (2, (2, 16) ∷ [])
+    ∷ (3, unusedTransition r)
+    ∷ (4, unusedVariable)
+    ∷ (5, unusedNode r)
+    ∷ (6, unusedAction r)
+    ∷ []
+
+byte-at-requires : tie.Need-byte-at-requires
+byte-at-requires c κs = search needs
+
+zeros-requires : tie.Need-zeros-requires
+zeros-requires c κs = search needs
+
+zeros-requires-2 : tie.Need-zeros-requires-2
+zeros-requires-2 c κs = search needs
+
+zeros-requires-3 : tie.Need-zeros-requires-3
+zeros-requires-3 c κs = search needs
+
+transition-clean-requires : tie.Need-transition-clean-requires
+transition-clean-requires c κs = search needs
+
+zeros-requires-4 : tie.Need-zeros-requires-4
+zeros-requires-4 c κs = search needs
+
+zeros-requires-5 : tie.Need-zeros-requires-5
+zeros-requires-5 c κs = search needs
+
+node-clean-requires : tie.Need-node-clean-requires
+node-clean-requires c κs = search needs
+
+action-clean-requires : tie.Need-action-clean-requires
+action-clean-requires c κs = search needs
+
+returns : tie.Need-returns
+unfolding all caseOf
+returns c =
+    let r = c .before .before .before .before .before .args .r .now in
+    unused-two r (1, 2) (4, 16) ((4, 16) ∷ []) (c .before .zeros .ensures) (c .zeros2 .ensures) refl ∙ ap (λ l. unusedAreZero l r) (entry (table r) [] 1 (c .before .before .match .keys1) (c .before .before .before .byte-at .ensures))
+
+returns-2 : tie.Need-returns-2
+unfolding all caseOf
+returns-2 c =
+    let r = c .before .before .before .before .args .r .now in
+    unused-one r (2, 16) [] (c .zeros3 .ensures) refl ∙ ap (λ l. unusedAreZero l r) (entry (table r) [] 2 (c .before .match .keys2) (c .before .before .byte-at .ensures))
+
+returns-3 : tie.Need-returns-3
+unfolding all caseOf
+returns-3 c =
+    let r = c .before .before .before .before .args .r .now in
+    c .transition-clean .ensures ∙ ap (λ l. unusedAreZero l r) (entry (table r) [] 3 (c .before .match .keys3) (c .before .before .byte-at .ensures))
+
+returns-4 : tie.Need-returns-4
+unfolding all caseOf
+returns-4 c =
+    let r = c .before .before .before .before .before .args .r .now in
+    unused-two r (1, 2) (8, 16) ((8, 16) ∷ []) (c .before .zeros4 .ensures) (c .zeros5 .ensures) refl ∙ ap (λ l. unusedAreZero l r) (entry (table r) [] 4 (c .before .before .match .keys4) (c .before .before .before .byte-at .ensures))
+
+returns-5 : tie.Need-returns-5
+unfolding all caseOf
+returns-5 c =
+    let r = c .before .before .before .before .args .r .now in
+    c .node-clean .ensures ∙ ap (λ l. unusedAreZero l r) (entry (table r) [] 5 (c .before .match .keys5) (c .before .before .byte-at .ensures))
+
+returns-6 : tie.Need-returns-6
+unfolding all caseOf
+returns-6 c =
+    let r = c .before .before .before .before .args .r .now in
+    c .action-clean .ensures ∙ ap (λ l. unusedAreZero l r) (entry (table r) [] 6 (c .before .match .keys6) (c .before .before .byte-at .ensures))
+
+returns-7 : tie.Need-returns-7
+unfolding all caseOf
+returns-7 c =
+    let r = c .before .before .before .args .r .now in
+    let k = c .before .byte-at .result in
+    let none : caseOf k (table r) [] ≡ [] = rw (ne-eqb k 1 (c .match .rest .0 .0 .0 .0 .0 .1), ne-eqb k 2 (c .match .rest .0 .0 .0 .0 .1), ne-eqb k 3 (c .match .rest .0 .0 .0 .1), ne-eqb k 4 (c .match .rest .0 .0 .1), ne-eqb k 5 (c .match .rest .0 .1), ne-eqb k 6 (c .match .rest .1)) in
+    ap (λ l. unusedAreZero l r) (sym none ∙ entry (table r) [] k refl (c .before .byte-at .ensures))
+
+pub record-clean-spec : {M : Type 1} → statement M
+record-clean-spec =
+    tie.close
+    (tie.spec
+    byte-at-requires
+    zeros-requires
+    zeros-requires-2
+    zeros-requires-3
+    transition-clean-requires
+    zeros-requires-4
+    zeros-requires-5
+    node-clean-requires
+    action-clean-requires
+    returns
+    returns-2
+    returns-3
+    returns-4
+    returns-5
+    returns-6
+    returns-7)

@@ -1,0 +1,165 @@
+-- A chart's turn: the first that holds, place by place of a row, and the deeds of a transition. Assumes nothing.
+use mathlib.Core.Path.{_≡_, refl, sym, ap, _∙_, subst}
+use mathlib.Core.Logic.{_⊎_, inl, inr}
+use mathlib.Core.Bool.{Bool, true, false, cond, _&&_}
+use mathlib.Core.Option.{Option, some, none}
+use mathlib.Core.List.{List, [], _∷_, _++_, map}
+use Prim.Native.Nat.{ℕ, zero, suc, _+_, _-_, _≤_, _<_}
+use native.Mathlib.Nat.{sub-zero}
+use native.Mathlib.Omega.{arith}
+use borrow.Author.Tests.{eq-eqb, ne-eqb, eqb-true, eqb-false}
+use lib.Dec.{eqb}
+use lib.ListN.{length}
+use Rattle.records.specs.Lists.{keep, gather, from, upto, sorted, caseOf}
+use Rattle.records.specs.Refusal.{Refusal, Out, val, fault, _>>=_, choose}
+use Rattle.expressions.proofs.Loops.{left-more, left-none}
+use Rattle.model.specs.Owned.{of}
+use Rattle.model.specs.Runs.{World, Run, Answer, taken, deeds}
+use Rattle.model.specs.ChartSet.{ChartSet, readActions, readCharts, transition}
+use Rattle.model.specs.Charts.{row, firstThat, acted, follow}
+use Rattle.chart_files.specs.declared.Shape.{Shape}
+use Rattle.chart_files.specs.Places.{transitionAt, actionAt}
+use Rattle.chart_files.proofs.Readings.{transition-is, length-transitions, most-states, most-transitions}
+use Rattle.charts.specs.Accepted.{Accepted}
+use Rattle.charts.specs.Tables.{earliest, named, leaves, keyFor, keyed}
+use Rattle.charts.specs.StepOf.{slotHolds, entered}
+use Rattle.charts.proofs.Earliest.{keep-alike, one-found}
+use Rattle.charts.proofs.RowLaws.{row-of}
+use Rattle.charts.proofs.Sound.{source-known, target-known}
+use Rattle.charts.proofs.ActionLaws.{of-key}
+
+-- ---- the first that holds
+
+-- one place of a row, and those behind it
+slots-one : (f : ℕ → Out Bool) (t : ℕ) (rest : List ℕ) → firstThat f (named t ++ rest) ≡ choose (slotHolds f t) (val (some t)) (firstThat f rest)
+unfolding firstThat
+slots-one f t rest = go (eqb t 65535)
+  where
+    go : (b : Bool) → firstThat f (cond b [] (t ∷ []) ++ rest) ≡ choose (cond b (val false) (f t)) (val (some t)) (firstThat f rest)
+    go true = refl
+    go false = refl
+
+-- the place of a priority in a state's row
+abbrev pub slot : ChartSet → ℕ → ℕ → ℕ
+slot cs st q = earliest (leaves cs st q) 0 (length (cs .transitions))
+
+module _ (cs : ChartSet) (st : ℕ) (f : ℕ → Out Bool) where
+  -- none of the first j places holds
+  abbrev pub Tried : ℕ → Type 0
+  Tried j = (j ≤ 16) × (firstThat f (row cs st) ≡ firstThat f (gather (λ q. named (slot cs st q)) (from (j + 1) (17 - (j + 1)))))
+
+  module _ (j t : ℕ) (so-far : Tried j) (within : j < 16) (here : t ≡ slot cs st (j + 1)) where
+    tried-one : firstThat f (row cs st) ≡ choose (slotHolds f t) (val (some t)) (firstThat f (gather (λ q. named (slot cs st q)) (from (j + 1 + 1) (17 - (j + 1 + 1)))))
+    unfolding gather
+    tried-one =
+        so-far .1
+        ∙ ap (λ l. firstThat f (gather (λ q. named (slot cs st q)) l)) (left-more (j + 1) 17 (omega arith))
+        ∙ slots-one f (slot cs st (j + 1)) (gather (λ q. named (slot cs st q)) (from (j + 1 + 1) (17 - (j + 1 + 1))))
+        ∙ ap (λ u. choose (slotHolds f u) (val (some u)) (firstThat f (gather (λ q. named (slot cs st q)) (from (j + 1 + 1) (17 - (j + 1 + 1)))))) (sym here)
+
+    pub tried-more : val false ≡ slotHolds f t → Tried (j + 1)
+    tried-more e =
+        (omega arith, tried-one ∙ ap (λ o. choose o (val (some t)) (firstThat f (gather (λ q. named (slot cs st q)) (from (j + 1 + 1) (17 - (j + 1 + 1)))))) (sym e))
+
+    pub tried-found : val true ≡ slotHolds f t → val (some t) ≡ firstThat f (row cs st)
+    tried-found e = ap (λ o. choose o (val (some t)) (firstThat f (gather (λ q. named (slot cs st q)) (from (j + 1 + 1) (17 - (j + 1 + 1)))))) e ∙ sym tried-one
+
+    pub tried-fault : (w : Refusal) → fault w ≡ slotHolds f t → fault w ≡ firstThat f (row cs st)
+    tried-fault w e = ap (λ o. choose o (val (some t)) (firstThat f (gather (λ q. named (slot cs st q)) (from (j + 1 + 1) (17 - (j + 1 + 1)))))) e ∙ sym tried-one
+
+  pub tried-all : (j : ℕ) → Tried j → 16 ≤ j → val none ≡ firstThat f (row cs st)
+  unfolding gather firstThat
+  tried-all j so-far h = sym (so-far .1 ∙ ap (λ l. firstThat f (gather (λ q. named (slot cs st q)) l)) (left-none (j + 1) 17 (omega arith)))
+
+-- what holds is named
+pub holds-named : (f : ℕ → Out Bool) (t : ℕ) → val true ≡ slotHolds f t → t ≡ 65535 → ⊥
+holds-named f t e h = go (eqb t 65535) (eq-eqb t 65535 h) e
+  where
+    go : (b : Bool) → b ≡ true → val true ≡ cond b (val false) (f t) → ⊥
+    go true d g = let z : _≡_ {A = ℕ} 0 1 = cc in omega arith
+    go false d g = let z : _≡_ {A = ℕ} 0 1 = cc in omega arith
+
+-- ---- a transition that is taken
+
+module _ (cs : ChartSet) (chart : ℕ) (r : Run) (t : ℕ) where
+  abbrev then-entered : World → Out (Answer × Run)
+  then-entered w = val (taken t, entered r chart (transition cs t .target) w)
+
+  pub follow-fault : (w : Refusal) → fault w ≡ acted cs t (r .world) → fault w ≡ follow cs chart r (some t)
+  follow-fault w e = ap (λ o. o >>= then-entered) e
+
+  pub follow-taken : (w : World) → val w ≡ acted cs t (r .world) → (target : ℕ) → target ≡ transition cs t .target → (r′ : Run) → r′ ≡ entered r chart target w →
+      val (taken t, r′) ≡ follow cs chart r (some t)
+  follow-taken w e target d r′ f = ap (λ x. val (taken t, x)) (f ∙ ap (λ g. entered r chart g w) d) ∙ ap (λ o. o >>= then-entered) e
+
+-- ---- of an accepted file
+
+module _ (s : List ℕ) (sh : Shape) (ok : Accepted s sh) where
+  pub tried-none : (st : ℕ) (f : ℕ → Out Bool) → st < sh .states → Tried (readCharts s) st f 0
+  tried-none st f h = (omega arith, ap (firstThat f) (row-of s sh ok st h))
+
+  -- what a row names is a transition
+  pub named-one : (st q t : ℕ) → t ≡ slot (readCharts s) st q → (t ≡ 65535 → ⊥) → t < sh .transitions
+  named-one st q t e n =
+      let size = length (readCharts s .transitions) in
+      let k : size ≡ sh .transitions = length-transitions s sh (ok .shape) in
+      let m : sh .transitions ≤ 256 = most-transitions s sh (ok .shape) in
+      let z : size - 0 ≡ size = sub-zero size in
+      let e′ : t ≡ earliest (leaves (readCharts s) st q) 0 (size - 0) = e ∙ ap (earliest (leaves (readCharts s) st q) 0) (sym z) in
+      omega (arith, e′, one-found (leaves (readCharts s) st q) 0 size (omega arith) (λ d. n (e′ ∙ d)) .before-end)
+
+  -- no transition leaves a state that the set does not have
+  pub row-outside : (st : ℕ) → sh .states ≤ st → row (readCharts s) st ≡ []
+  unfolding sorted keep
+  row-outside st h =
+      ap (sorted (λ t. transition (readCharts s) t .priority))
+      (keep-alike (λ t. eqb (transition (readCharts s) t .source) st) (λ t. false) 0 (length (readCharts s .transitions))
+      (λ t a b.
+      let m : t < sh .transitions = omega (arith, length-transitions s sh (ok .shape)) in
+      let e : transition (readCharts s) t .source ≡ transitionAt s sh t .source = ap (λ x. x .source) (transition-is s sh (ok .shape) t m) in
+      ne-eqb (transition (readCharts s) t .source) st (λ d. absurd (omega (arith, source-known s sh ok t m))))
+      ∙ keep-none (upto (length (readCharts s .transitions))))
+    where
+      keep-none : (xs : List ℕ) → keep (λ t. false) xs ≡ []
+      keep-none [] = refl
+      keep-none (x ∷ xs) = keep-none xs
+
+  -- ---- the deeds of a transition
+
+  abbrev pub ofKey : ℕ → World → Out World
+  ofKey key w = deeds (readCharts s .nodes) (readCharts s .variables) (map (λ a. actionAt s sh a .1) (keep (keyed s sh key) (upto (sh .actions)))) w
+
+  pub acted-by-keys : (t source target : ℕ) → t < sh .transitions → source ≡ transitionAt s sh t .source → target ≡ transitionAt s sh t .target →
+      (w : World) → acted (readCharts s) t w ≡ (ofKey (128 + source) w >>= λ w₁. (ofKey (256 + t) w₁ >>= λ w₂. ofKey target w₂))
+  unfolding caseOf
+  acted-by-keys t source target h e d w =
+      let x = transition-is s sh (ok .shape) t h in
+      let es : transition (readCharts s) t .source ≡ source = ap (λ u. u .source) x ∙ sym e in
+      let et : transition (readCharts s) t .target ≡ target = ap (λ u. u .target) x ∙ sym d in
+      let ks : source < 128 = omega (arith, e, source-known s sh ok t h, most-states s sh (ok .shape)) in
+      let kt : target < 128 = omega (arith, d, target-known s sh ok t h, most-states s sh (ok .shape)) in
+      let p : of (transition (readCharts s) t .source) (readCharts s .exits) ≡ map (λ a. actionAt s sh a .1) (keep (keyed s sh (128 + source)) (upto (sh .actions))) =
+      ap (λ o. of o (readActions 2 s)) es ∙ of-key s sh ok 2 source (inr (inl (refl, ks)))
+      in
+      let q : of t (readCharts s .transition-actions) ≡ map (λ a. actionAt s sh a .1) (keep (keyed s sh (256 + t)) (upto (sh .actions))) =
+      of-key s sh ok 3 t (inr (inr (refl, omega (arith, most-transitions s sh (ok .shape)))))
+      in
+      let r : of (transition (readCharts s) t .target) (readCharts s .entries) ≡ map (λ a. actionAt s sh a .1) (keep (keyed s sh target) (upto (sh .actions))) =
+      ap (λ o. of o (readActions 1 s)) et ∙ of-key s sh ok 1 target (inl (refl, kt))
+      in
+      λ i. deeds (readCharts s .nodes) (readCharts s .variables) (p i) w
+      >>= λ w₁. (deeds (readCharts s .nodes) (readCharts s .variables) (q i) w₁ >>= λ w₂. deeds (readCharts s .nodes) (readCharts s .variables) (r i) w₂)
+
+  -- the three groups, one after the other; the first fault ends it
+  module _ (t source target : ℕ) (h : t < sh .transitions) (from-source : source ≡ transitionAt s sh t .source) (to-target : target ≡ transitionAt s sh t .target) (w : World) where
+    whole : acted (readCharts s) t w ≡ (ofKey (128 + source) w >>= λ w₁. (ofKey (256 + t) w₁ >>= λ w₂. ofKey target w₂))
+    whole = acted-by-keys t source target h from-source to-target w
+
+    pub fault-leaving : (r : Refusal) → fault r ≡ ofKey (128 + source) w → fault r ≡ acted (readCharts s) t w
+    fault-leaving r e = ap (λ o. o >>= λ w₁. (ofKey (256 + t) w₁ >>= λ w₂. ofKey target w₂)) e ∙ sym whole
+
+    pub fault-crossing : (w₁ : World) → val w₁ ≡ ofKey (128 + source) w → (r : Refusal) → fault r ≡ ofKey (256 + t) w₁ → fault r ≡ acted (readCharts s) t w
+    fault-crossing w₁ e r d = ap (λ o. o >>= λ w₂. ofKey target w₂) d ∙ ap (λ o. o >>= λ w₁. (ofKey (256 + t) w₁ >>= λ w₂. ofKey target w₂)) e ∙ sym whole
+
+    pub all-done : (w₁ : World) → val w₁ ≡ ofKey (128 + source) w → (w₂ : World) → val w₂ ≡ ofKey (256 + t) w₁ → (o : Out World) → o ≡ ofKey target w₂ → o ≡ acted (readCharts s) t w
+    all-done w₁ e w₂ d o f = f ∙ ap (λ o. o >>= λ w₂. ofKey target w₂) d ∙ ap (λ o. o >>= λ w₁. (ofKey (256 + t) w₁ >>= λ w₂. ofKey target w₂)) e ∙ sym whole

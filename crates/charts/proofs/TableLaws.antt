@@ -1,0 +1,129 @@
+-- The tables as they are filled, from the last number down to the first: what stands in them is the earliest so far. Assumes nothing.
+use mathlib.Core.Path.{_≡_, refl, sym, ap, _∙_}
+use mathlib.Core.Bool.{Bool, true, false, cond, _&&_}
+use mathlib.Core.List.{List, []}
+use Prim.Native.Nat.{ℕ, zero, suc, _+_, _-_, _≤_, _<_}
+use native.Mathlib.Nat.{lt-irrefl}
+use native.Mathlib.Omega.{arith}
+use lib.Dec.{eqb}
+use lib.ListN.{length, getD, set, replicate, length-set, length-replicate, getD-replicate}
+use lib.Seq.{getD-set-same, getD-set-other}
+use borrow.Author.Tests.{eq-eqb, ne-eqb, eqb-true, eqb-false}
+use Rattle.charts.specs.Tables.{earliest}
+use Rattle.charts.proofs.Earliest.{earliest-one, earliest-none}
+
+-- ---- rows: each number u has a source and a priority
+
+module _ (source priority : ℕ → ℕ) (size : ℕ) where
+  abbrev pub leaving : ℕ → ℕ → ℕ → Bool
+  leaving st q u = eqb (source u) st && eqb (priority u) q
+
+  -- filled down to t
+  pub record Rows (rows : List (List ℕ)) (t : ℕ) : Type 0 where
+    pub bound : t ≤ size
+    pub long : length rows ≡ 128
+    pub wide : (st : ℕ) → st < 128 → length (getD rows st []) ≡ 16
+    pub filled : (st j : ℕ) → st < 128 → j < 16 → getD (getD rows st []) j 0 ≡ earliest (leaving st (j + 1)) t (size - t)
+
+  pub rows-none : Rows (replicate 128 (replicate {A = ℕ} 16 65535)) size
+  rows-none = record {
+    bound = omega arith;
+    long = length-replicate 128 (replicate {A = ℕ} 16 65535);
+    wide = λ st h. ap length (getD-replicate 128 st (replicate {A = ℕ} 16 65535) [] h) ∙ length-replicate {A = ℕ} 16 65535;
+    filled = λ st j h l.
+        ap (λ r. getD r j 0) (getD-replicate 128 st (replicate {A = ℕ} 16 65535) [] h) ∙ getD-replicate {A = ℕ} 16 j 65535 0 l ∙ sym (earliest-none (leaving st (j + 1)) size);
+  }
+
+  module _ (rows : List (List ℕ)) (u i k : ℕ) (so-far : Rows rows (u + 1)) (at-source : source u ≡ i) (at-priority : priority u ≡ k + 1) (in-rows : i < 128) (in-row : k < 16) where
+    abbrev next-rows : List (List ℕ)
+    next-rows = set rows i (set (getD rows i []) k u)
+
+    row-here : getD next-rows i [] ≡ set (getD rows i []) k u
+    row-here = let l : i < length rows = omega (arith, so-far .long) in getD-set-same rows i (set (getD rows i []) k u) [] l
+
+    row-there : (st : ℕ) → (st ≡ i → ⊥) → getD next-rows st [] ≡ getD rows st []
+    row-there st n = getD-set-other rows i st (set (getD rows i []) k u) [] n
+
+    wide-here : length (set (getD rows i []) k u) ≡ 16
+    wide-here = length-set (getD rows i []) k u ∙ so-far .wide i in-rows
+
+    place : (st j : ℕ) → st < 128 → j < 16 → getD (getD next-rows st []) j 0 ≡ cond (leaving st (j + 1) u) u (getD (getD rows st []) j 0)
+    place st j h l = go (eqb (source u) st) refl (eqb (priority u) (j + 1)) refl
+      where
+        go : (a : Bool) → eqb (source u) st ≡ a → (b : Bool) → eqb (priority u) (j + 1) ≡ b → getD (getD next-rows st []) j 0 ≡ cond (a && b) u (getD (getD rows st []) j 0)
+        go true e true d =
+            let x : st ≡ i = sym (eqb-true (source u) st e) ∙ at-source in
+            let y : j ≡ k = omega (arith, eqb-true (priority u) (j + 1) d, at-priority) in
+            let w : k < length (getD rows i []) = omega (arith, so-far .wide i in-rows) in
+            (λ m. getD (getD next-rows (x m) []) (y m) 0) ∙ ap (λ r. getD r k 0) row-here ∙ getD-set-same (getD rows i []) k u 0 w
+        go true e false d =
+            let x : st ≡ i = sym (eqb-true (source u) st e) ∙ at-source in
+            let y : j ≡ k → ⊥ = λ q. eqb-false (priority u) (j + 1) d (at-priority ∙ ap (λ n. n + 1) (sym q)) in
+            ap (λ m. getD (getD next-rows m []) j 0) x ∙ ap (λ r. getD r j 0) row-here ∙ getD-set-other (getD rows i []) k j u 0 y ∙ ap (λ m. getD (getD rows m []) j 0) (sym x)
+        go false e b d = ap (λ r. getD r j 0) (row-there st (λ q. eqb-false (source u) st e (at-source ∙ sym q)))
+
+    pub rows-more : Rows (set rows i (set (getD rows i []) k u)) u
+    rows-more = record {
+      bound = omega (arith, so-far .bound);
+      long = length-set rows i (set (getD rows i []) k u) ∙ so-far .long;
+      wide = λ st h. widths st h (eqb st i) refl;
+      filled = λ st j h l.
+          place st j h l
+          ∙ ap (cond (leaving st (j + 1) u) u) (so-far .filled st j h l)
+          ∙ sym (earliest-one (leaving st (j + 1)) u size (omega (arith, so-far .bound)));
+    }
+      where
+        widths : (st : ℕ) → st < 128 → (b : Bool) → eqb st i ≡ b → length (getD next-rows st []) ≡ 16
+        widths st h true e = ap (λ m. length (getD next-rows m [])) (eqb-true st i e) ∙ ap length row-here ∙ wide-here
+        widths st h false e = ap length (row-there st (eqb-false st i e)) ∙ so-far .wide st h
+
+-- ---- actions: each number a has a key
+
+module _ (key : ℕ → ℕ) (size : ℕ) where
+  abbrev pub with-key : ℕ → ℕ → Bool
+  with-key k a = eqb (key a) k
+
+  -- filled down to a
+  pub record Chains (first next : List ℕ) (a : ℕ) : Type 0 where
+    pub bound : a ≤ size
+    pub keys : length first ≡ 512
+    pub numbers : length next ≡ 512
+    pub firsts : (k : ℕ) → k < 512 → getD first k 0 ≡ earliest (with-key k) a (size - a)
+    pub nexts : (b : ℕ) → a ≤ b → b < size → getD next b 0 ≡ earliest (with-key (key b)) (b + 1) (size - (b + 1))
+
+  pub chains-none : Chains (replicate {A = ℕ} 512 65535) (replicate {A = ℕ} 512 65535) size
+  chains-none = record {
+    bound = omega arith;
+    keys = length-replicate {A = ℕ} 512 65535;
+    numbers = length-replicate {A = ℕ} 512 65535;
+    firsts = λ k h. getD-replicate {A = ℕ} 512 k 65535 0 h ∙ sym (earliest-none (with-key k) size);
+    nexts = λ b l h. absurd (omega arith);
+  }
+
+  pub chains-more : (first next : List ℕ) (u i : ℕ) → Chains first next (u + 1) → size ≤ 512 → key u ≡ i → i < 512 →
+      Chains (set first i u) (set next u (getD first i 0)) u
+  chains-more first next u i so-far small e h = record {
+    bound = omega (arith, so-far .bound);
+    keys = length-set first i u ∙ so-far .keys;
+    numbers = length-set next u (getD first i 0) ∙ so-far .numbers;
+    firsts = λ k l. one k l (eqb (key u) k) refl ∙ sym (earliest-one (with-key k) u size (omega (arith, so-far .bound)));
+    nexts = λ b l m. other b l m (eqb b u) refl;
+  }
+    where
+      one : (k : ℕ) → k < 512 → (o : Bool) → eqb (key u) k ≡ o → getD (set first i u) k 0 ≡ cond o u (earliest (with-key k) (u + 1) (size - (u + 1)))
+      one k l true d =
+          let x : k ≡ i = sym (eqb-true (key u) k d) ∙ e in
+          ap (λ m. getD (set first i u) m 0) x ∙ getD-set-same first i u 0 (omega (arith, so-far .keys))
+      one k l false d = getD-set-other first i k u 0 (λ q. eqb-false (key u) k d (e ∙ sym q)) ∙ so-far .firsts k l
+
+      other : (b : ℕ) → u ≤ b → b < size → (o : Bool) → eqb b u ≡ o → getD (set next u (getD first i 0)) b 0 ≡ earliest (with-key (key b)) (b + 1) (size - (b + 1))
+      other b l m true d =
+          let x : b ≡ u = eqb-true b u d in
+          ap (λ n. getD (set next u (getD first i 0)) n 0) x
+          ∙ getD-set-same next u (getD first i 0) 0 (omega (arith, so-far .numbers, so-far .bound))
+          ∙ so-far .firsts i h
+          ∙ (λ j. earliest (with-key (sym e j)) (u + 1) (size - (u + 1)))
+          ∙ ap (λ n. earliest (with-key (key n)) (n + 1) (size - (n + 1))) (sym x)
+      other b l m false d =
+          let x : b ≡ u → ⊥ = eqb-false b u d in
+          getD-set-other next u b (getD first i 0) 0 x ∙ so-far .nexts b (omega arith) m

@@ -1,0 +1,60 @@
+-- `deeds::do_deed` meets its contract. Assumes nothing.
+use mathlib.Core.Path.{_≡_, sym, ap, _∙_, subst}
+use denote.Ref.{now}
+use Rattle.records.specs.Refusal.{val}
+use Rattle.model.specs.Runs.{Deed, deed}
+use Rattle.model.specs.ChartSet.{readCharts}
+use Rattle.chart_files.specs.Places.{actionAt}
+use Rattle.charts.specs.Replies.{Doable, deedFor}
+use Rattle.charts.specs.StepOf.{worldIn}
+use Rattle.charts.proofs.Sound.{deed-doable}
+use borrow.Author.Needs.{needs}
+use Rattle.charts.proofs.deeds.do_deed.Statement.{statement}
+use Rattle.charts.proofs.deeds.do_deed.Tie as tie
+
+deed-of-requires : tie.Need-deed-of-requires
+deed-of-requires c κs = search needs
+
+enum-known-v : tie.Need-enum-known-v
+enum-known-v c = search needs
+
+assign-requires : tie.Need-assign-requires
+assign-requires c κs =
+    let a = c .before .before .before .before .before .before in
+    let x = a .args in (
+      a .pre .0 .shape,
+      subst (Doable (x .shape .variables)) (sym (c .before .before .before .before .deed-of .ensures) ∙ ap deedFor (c .before .before .v .given .1)) (deed-doable (now (x .s)) (x .shape) (a .pre .0) (x .a) (a .pre .1)),
+    )
+
+enum-known-e : tie.Need-enum-known-e
+enum-known-e c = search needs
+
+raised-requires : tie.Need-raised-requires
+raised-requires c κs =
+    let a = c .before .before .before .before .before in
+    let x = a .args in
+    subst (Doable (x .shape .variables)) (sym (c .before .before .before .deed-of .ensures) ∙ ap deedFor (c .before .e .given .1)) (deed-doable (now (x .s)) (x .shape) (a .pre .0) (x .a) (a .pre .1))
+
+returns : tie.Need-returns
+returns c = λ p q.
+    let x = c .before .before .before .before .before .before .before .args in
+    c .assign .ensures p q
+    ∙ ap (λ d. deed (readCharts (now (x .s)) .nodes) (readCharts (now (x .s)) .variables) d (worldIn (now (x .vars)) (x .events) p q)) (ap deedFor (sym (c .before .before .before .v .given .1)) ∙ c .before .before .before .before .before .deed-of .ensures)
+
+returns-2 : tie.Need-returns-2
+returns-2 c = λ p q.
+    let x = c .before .before .before .before .before .before .args in
+    ap (λ n. val (worldIn (now (x .vars)) n p q)) (c .raised .ensures)
+    ∙ ap (λ d. deed (readCharts (now (x .s)) .nodes) (readCharts (now (x .s)) .variables) d (worldIn (now (x .vars)) (x .events) p q)) (ap deedFor (sym (c .before .before .e .given .1)) ∙ c .before .before .before .before .deed-of .ensures)
+
+pub do-deed-spec : {M : Type 1} → statement M
+do-deed-spec =
+    tie.close
+    (tie.spec
+    deed-of-requires
+    enum-known-v
+    assign-requires
+    enum-known-e
+    raised-requires
+    returns
+    returns-2)

@@ -1,0 +1,141 @@
+-- `steps::first_that` meets its contract: none of the places before j holds. Assumes nothing.
+use mathlib.Core.Path.{_≡_, sym, ap, _∙_}
+use mathlib.Core.Bool.{true, false}
+use Prim.Native.Nat.{ℕ, _+_, _-_, _≤_, _<_}
+use native.Mathlib.Omega.{arith}
+use borrow.Author.Needs.{needs}
+use denote.Ref.{now}
+use lib.ListN.{getD}
+use mathlib.Core.List.{[]}
+use Rattle.records.specs.Refusal.{val, fault}
+use Rattle.expressions.specs.Answers.{truthOf}
+use Rattle.expressions.specs.Answers as expressions-answers
+use Rattle.model.specs.ChartSet.{readCharts}
+use Rattle.model.specs.Charts.{firstThat, transitionHolds}
+use Rattle.chart_files.proofs.Readings.{most-states}
+use Rattle.charts.specs.Replies.{bareWorld}
+use Rattle.charts.specs.StepOf.{slotHolds}
+use Rattle.charts.proofs.StepLaws.{slot, Tried, tried-none, tried-more, tried-found, tried-fault, tried-all, holds-named, named-one, row-outside}
+use Rattle.charts.proofs.steps.first_that.Statement.{statement}
+use Rattle.charts.proofs.steps.first_that.Tie as tie
+
+abbrev Inv-loop : tie.InvT-loop
+Inv-loop s shape rows vars events age state i j₀ j = Tried (readCharts s) state (transitionHolds (readCharts s) (bareWorld vars events) age) j
+
+abbrev μ-loop : tie.MeasureT-loop
+μ-loop s shape rows vars events age state i j₀ j = 16 - j
+
+returns : tie.Need-returns Inv-loop μ-loop
+unfolding firstThat
+returns c =
+    let a = c .before .before .before in
+    let x = a .args in
+    (sym (ap (firstThat (transitionHolds (readCharts (now (x .s))) (bareWorld (now (x .vars)) (x .events)) (x .age))) (row-outside (now (x .s)) (x .shape) (a .pre .0) (x .state) (c .if1 .taken))), tt)
+
+loop-holds : tie.Need-loop-holds Inv-loop μ-loop
+loop-holds c =
+    let a = c .before .before .before in
+    let x = a .args in
+    tried-none (now (x .s)) (x .shape) (a .pre .0) (x .state) (transitionHolds (readCharts (now (x .s))) (bareWorld (now (x .vars)) (x .events)) (x .age)) (c .if1 .left)
+
+known-state : (c : tie.In-loop Inv-loop μ-loop) → c .before .before .before .before .before .args .state < 128
+known-state c =
+    let a = c .before .before .before .before .before in
+    omega (arith, c .before .before .if1 .left, most-states (now (a .args .s)) (a .args .shape) (a .pre .0 .shape))
+
+-- the place that is read
+abbrev t-of : (c : tie.After-t Inv-loop μ-loop) → ℕ
+t-of c = getD (getD (now (c .before .before .before .before .before .before .args .rows)) (c .before .before .before .before .before .before .args .state) []) (c .before .before .loop .j) 0
+
+slot-here : (c : tie.After-t Inv-loop μ-loop) → t-of c ≡ slot (readCharts (now (c .before .before .before .before .before .before .args .s))) (c .before .before .before .before .before .before .args .state) (c .before .before .loop .j + 1)
+slot-here c = c .before .before .before .before .before .before .pre .1 (c .before .before .before .before .before .before .args .state) (c .before .before .loop .j) (known-state (c .before)) (c .before .loop-test .taken)
+
+mul-t : tie.Need-mul-t Inv-loop μ-loop
+mul-t c = omega (arith, known-state c)
+
+mul-t-2 : tie.Need-mul-t-2 Inv-loop μ-loop
+mul-t-2 c = omega arith
+
+index-1-t : tie.Need-index-1-t Inv-loop μ-loop
+index-1-t c = known-state c
+
+index-2-t : tie.Need-index-2-t Inv-loop μ-loop
+index-2-t c = omega arith
+
+slot-holds-requires : tie.Need-slot-holds-requires Inv-loop μ-loop
+slot-holds-requires c κs =
+    let a = c .before .before .before .before .before .before in
+    let x = a .args in
+    (a .pre .0, λ n. named-one (now (x .s)) (x .shape) (a .pre .0) (x .state) (c .before .before .loop .j + 1) (t-of c) (slot-here c) n)
+
+enum-known-w : tie.Need-enum-known-w Inv-loop μ-loop
+enum-known-w c = search needs
+
+reason-for-requires : tie.Need-reason-for-requires Inv-loop μ-loop
+reason-for-requires c κs = tt
+
+returns-2 : tie.Need-returns-2 Inv-loop μ-loop
+returns-2 c =
+    let a = c .before .before .before .before .before .before .before .before .before .before .before in
+    let x = a .args in
+    let l = c .before .before .before .before .before .before .before .loop in (
+      ap fault (c .reason-for .ensures)
+          ∙ tried-fault (readCharts (now (x .s))) (x .state) (transitionHolds (readCharts (now (x .s))) (bareWorld (now (x .vars)) (x .events)) (x .age)) (l .j) (t-of (c .before .before .before .before .before)) (l .inv) (c .before .before .before .before .before .before .loop-test .taken) (slot-here (c .before .before .before .before .before)) (expressions-answers.reasonOf (c .before .before .w .given .0 .0))
+          (ap truthOf (sym (c .before .before .w .given .1)) ∙ c .before .before .before .before .slot-holds .ensures),
+      tt,
+    )
+
+enum-known-holding : tie.Need-enum-known-holding Inv-loop μ-loop
+enum-known-holding c = search needs
+
+returns-3 : tie.Need-returns-3 Inv-loop μ-loop
+returns-3 c =
+    let a = c .before .before .before .before .before .before .before .before .before .before .before in
+    let x = a .args in
+    let l = c .before .before .before .before .before .before .before .loop in
+    let e : val true ≡ slotHolds (transitionHolds (readCharts (now (x .s))) (bareWorld (now (x .vars)) (x .events)) (x .age)) (t-of (c .before .before .before .before .before)) = ap val (sym (c .if2 .taken)) ∙ ap truthOf (sym (c .before .before .holding .given .1)) ∙ c .before .before .before .before .slot-holds .ensures in (
+      tried-found (readCharts (now (x .s))) (x .state) (transitionHolds (readCharts (now (x .s))) (bareWorld (now (x .vars)) (x .events)) (x .age)) (l .j) (t-of (c .before .before .before .before .before)) (l .inv) (c .before .before .before .before .before .before .loop-test .taken) (slot-here (c .before .before .before .before .before)) e,
+      named-one (now (x .s)) (x .shape) (a .pre .0) (x .state) (l .j + 1) (t-of (c .before .before .before .before .before)) (slot-here (c .before .before .before .before .before)) (holds-named (transitionHolds (readCharts (now (x .s))) (bareWorld (now (x .vars)) (x .events)) (x .age)) (t-of (c .before .before .before .before .before)) e),
+    )
+
+add-j : tie.Need-add-j Inv-loop μ-loop
+add-j c = omega (arith, c .before .before .before .before .before .before .before .loop .inv .0)
+
+loop-less : tie.Need-loop-less Inv-loop μ-loop
+loop-less c = omega (arith, c .before .before .before .before .before .before .loop-test .taken)
+
+loop-again : tie.Need-loop-again Inv-loop μ-loop
+loop-again c =
+    let a = c .before .before .before .before .before .before .before .before .before .before .before in
+    let x = a .args in
+    let l = c .before .before .before .before .before .before .before .loop in
+    tried-more (readCharts (now (x .s))) (x .state) (transitionHolds (readCharts (now (x .s))) (bareWorld (now (x .vars)) (x .events)) (x .age)) (l .j) (t-of (c .before .before .before .before .before)) (l .inv) (c .before .before .before .before .before .before .loop-test .taken) (slot-here (c .before .before .before .before .before))
+    (ap val (sym (c .if2 .left)) ∙ ap truthOf (sym (c .before .before .holding .given .1)) ∙ c .before .before .before .before .slot-holds .ensures)
+
+returns-4 : tie.Need-returns-4 Inv-loop μ-loop
+returns-4 c =
+    let x = c .before .before .before .before .before .args in
+    (tried-all (readCharts (now (x .s))) (x .state) (transitionHolds (readCharts (now (x .s))) (bareWorld (now (x .vars)) (x .events)) (x .age)) (c .before .loop .j) (c .before .loop .inv) (c .loop-test .left), tt)
+
+pub first-that-spec : {M : Type 1} → statement M
+first-that-spec =
+    tie.close
+    (tie.spec
+    Inv-loop
+    μ-loop
+    returns
+    loop-holds
+    mul-t
+    mul-t-2
+    index-1-t
+    index-2-t
+    slot-holds-requires
+    enum-known-w
+    reason-for-requires
+    returns-2
+    enum-known-holding
+    returns-3
+    add-j
+    loop-less
+    loop-again
+    returns-4)

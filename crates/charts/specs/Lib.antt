@@ -1,0 +1,6 @@
+pub mod Accepted
+pub mod Tables
+pub mod RunOf
+pub mod Replies
+pub mod StepOf
+pub mod TurnOf

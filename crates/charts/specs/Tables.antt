@@ -1,0 +1,56 @@
+-- Tables that a turn reads, made once for a set: of each state its leaving transitions by priority, of each owner its actions in file order. Assumes nothing: these are definitions.
+use mathlib.Core.Path.{_≡_}
+use mathlib.Core.Logic.{_⊎_}
+use mathlib.Core.Bool.{Bool, cond, _&&_}
+use mathlib.Core.List.{List, [], _∷_}
+use Prim.Native.Nat.{ℕ, _+_, _-_, _<_}
+use lib.Dec.{eqb}
+use lib.ListN.{length, getD}
+use Rattle.records.specs.Lists.{keep, from, upto, caseOf}
+use Rattle.model.specs.ChartSet.{ChartSet, transition}
+use Rattle.chart_files.specs.declared.Shape.{Shape}
+use Rattle.chart_files.specs.Places.{placeAt, actionAt}
+
+abbrev pub headOr : ℕ → List ℕ → ℕ
+headOr d [] = d
+headOr d (x ∷ xs) = x
+
+-- the first of n numbers from k on that passes the test; 65,535 stands for none
+abbrev pub earliest : (ℕ → Bool) → ℕ → ℕ → ℕ
+earliest p k n = headOr 65535 (keep p (from k n))
+
+-- what a place of a table names
+abbrev pub named : ℕ → List ℕ
+named t = cond (eqb t 65535) [] (t ∷ [])
+
+-- ---- rows
+
+-- a transition that leaves a state with a priority
+abbrev pub leaves : ChartSet → ℕ → ℕ → ℕ → Bool
+leaves cs st q u = eqb (transition cs u .source) st && eqb (transition cs u .priority) q
+
+-- rows have a place for each priority, 1 to 16, in order
+abbrev pub HasRows : ChartSet → List (List ℕ) → Type 0
+HasRows cs rows =
+    (st j : ℕ) → st < 128 → j < 16 → getD (getD rows st []) j 0 ≡ earliest (leaves cs st (j + 1)) 0 (length (cs .transitions))
+
+-- ---- actions
+
+-- An action's key: of a state's entry the state's number, of its exit 128 more, of a transition 256 more.
+abbrev pub keyFor : ℕ → ℕ → ℕ
+keyFor place owner = caseOf place ((2, 128 + owner) ∷ (3, 256 + owner) ∷ []) owner
+
+abbrev pub keyAt : List ℕ → Shape → ℕ → ℕ
+keyAt s sh a = keyFor (placeAt s sh a) (actionAt s sh a .0)
+
+abbrev pub keyed : List ℕ → Shape → ℕ → ℕ → Bool
+keyed s sh key a = eqb (keyAt s sh a) key
+
+-- of each key its first action, and of each action the next of its key
+pub record HasActions (s : List ℕ) (sh : Shape) (first next : List ℕ) : Type 0 where
+  pub first-of : (key : ℕ) → key < 512 → getD first key 0 ≡ earliest (keyed s sh key) 0 (sh .actions)
+  pub next-of : (a : ℕ) → a < sh .actions → getD next a 0 ≡ earliest (keyed s sh (keyAt s sh a)) (a + 1) (sh .actions - (a + 1))
+
+-- owners that a key can tell apart: of so many states and transitions
+abbrev pub Placed : ℕ → ℕ → Type 0
+Placed place owner = ((place ≡ 1) × (owner < 128)) ⊎ (((place ≡ 2) × (owner < 128)) ⊎ ((place ≡ 3) × (owner < 256)))

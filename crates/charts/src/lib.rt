@@ -1,0 +1,10 @@
+// Chart sets at work: runs, and the turns and cycles that they take.
+pub mod actions;
+pub mod calls;
+pub mod deeds;
+pub mod runs;
+pub mod steps;
+pub mod tables;
+pub mod transitions;
+pub mod triggers;
+pub mod turns;

@@ -1,0 +1,104 @@
+-- Texts written one after the other, and the text of a line: the model's, its length, and where it is found. Assumes nothing.
+use mathlib.Core.Path.{_≡_, refl, sym, ap, _∙_}
+use mathlib.Core.List.{List, [], _∷_, _++_, append-assoc, append-nil}
+use Prim.Native.Nat.{ℕ, suc, _+_, _-_, _*_, _^_, _≤_, _<_}
+use native.Mathlib.Nat.{add-zero}
+use native.Mathlib.Numerals.{add-one}
+use native.Mathlib.Omega.{arith}
+use lib.ListN.{length, getD, take, drop, set, length-append}
+use lib.Seq.{sets, sets-eq, take-suc, take-at}
+use lib.IntN.{ℤ, pos}
+use lib.Signed.{mag}
+use Rattle.records.specs.Lists.{gather}
+use Rattle.model.specs.ChartSet.{ChartSet}
+use Rattle.model.specs.Runs.{Run, Answer, taken}
+use Rattle.model.specs.Replay.{decimal, signedDecimal, chosen, space, feed, line, turnLines}
+use Rattle.lines.specs.Text.{chosenOf, variablesText, lineText, Wrote}
+use Rattle.lines.specs.declared.Chosen.{Chosen}
+use Rattle.lines.specs.declared.Chosen.the-variants.{Transition, Idle}
+use Rattle.lines.proofs.Digits.{length-decimal, length-signed16}
+
+-- ---- one after the other
+
+pub sets-append : (xs ys l : List ℕ) (i : ℕ) → sets l i (xs ++ ys) ≡ sets (sets l i xs) (i + length xs) ys
+sets-append [] ys l i = ap (λ k. sets l k ys) (sym (add-zero i))
+sets-append (x ∷ xs) ys l i =
+    sets-append xs ys (set l i x) (suc i) ∙ ap (λ k. sets (sets (set l i x) (suc i) xs) k ys) (let e : suc i + length xs ≡ i + suc (length xs) = omega arith in e)
+
+pub nothing-wrote : (l : List ℕ) (i : ℕ) → Wrote l i [] l i
+nothing-wrote l i = record { behind = sym (add-zero i); written = refl }
+
+pub wrote-then : {l m r xs ys : List ℕ} {i j k : ℕ} → Wrote l i xs m j → Wrote m j ys r k → Wrote l i (xs ++ ys) r k
+wrote-then {l} {m} {r} {xs} {ys} {i} {j} {k} a b = record {
+  behind = let e : j ≡ i + length xs = a .behind in let f : k ≡ j + length ys = b .behind in omega (arith, length-append xs ys);
+  written = b .written ∙ (λ x. sets (a .written x) (a .behind x) ys) ∙ sym (sets-append xs ys l i);
+}
+
+-- how far the place behind is
+pub wrote-near : {l m t : List ℕ} {i j : ℕ} (n : ℕ) → Wrote l i t m j → length t ≤ n → j ≤ i + n
+wrote-near n w h = let e = w .behind in omega arith
+
+-- what was written at the start is found there
+pub text-there : (l text : List ℕ) → length text ≤ length l → take (length text) (sets l 0 text) ≡ text
+text-there l text h = ap (take (length text)) (sets-eq text l 0 (omega arith)) ∙ take-at text (drop (0 + length text) l) (length text) refl
+
+-- ---- variables
+
+gather-append : {A B : Type 0} (f : A → List B) (xs ys : List A) → gather f (xs ++ ys) ≡ gather f xs ++ gather f ys
+unfolding gather
+gather-append f [] ys = refl
+gather-append f (x ∷ xs) ys = ap (λ t. f x ++ t) (gather-append f xs ys) ∙ sym (append-assoc (f x) (gather f xs) (gather f ys))
+
+pub variables-none : variablesText [] ≡ []
+unfolding gather
+variables-none = refl
+
+pub variables-one : (z : ℤ) → variablesText (z ∷ []) ≡ space ∷ signedDecimal z
+unfolding gather
+variables-one z = append-nil (space ∷ signedDecimal z)
+
+pub variables-more : (vs : List ℤ) (k : ℕ) → k < length vs → variablesText (take (k + 1) vs) ≡ variablesText (take k vs) ++ (space ∷ signedDecimal (getD vs k (pos 0)))
+variables-more vs k h =
+    ap variablesText (ap (λ n. take n vs) (add-one k) ∙ take-suc vs k (pos 0) h)
+    ∙ gather-append (λ v. space ∷ signedDecimal v) (take k vs) (getD vs k (pos 0) ∷ [])
+    ∙ ap (λ t. variablesText (take k vs) ++ t) (variables-one (getD vs k (pos 0)))
+
+-- ---- a line
+
+-- the model's line is this text
+pub line-text : (cs : ChartSet) (r₀ : Run) (a : Answer) (r₁ : Run)
+    → line cs r₀ a r₁ ≡ lineText (r₀ .world .cycles) (r₀ .world .position - 1) a (getD (r₁ .at) (r₀ .world .position - 1) 0) (take (length (cs .variables)) (r₁ .world .vars))
+line-text cs r₀ a r₁ = refl
+
+-- and so are the lines of a chart's turn
+pub turn-text : (cs : ChartSet) (r₀ : Run) (c : Chosen) (r₁ : Run) → turnLines cs r₀ (chosenOf c) r₁ ≡ line cs r₀ (chosenOf c) r₁
+turn-text cs r₀ (Transition t) r₁ = refl
+turn-text cs r₀ Idle r₁ = refl
+
+length-variables : (vs : List ℤ) → ((k : ℕ) → k < length vs → mag (getD vs k (pos 0)) < 2 ^ 15) → length (variablesText vs) ≤ 7 * length vs
+unfolding gather
+length-variables [] low = omega arith
+length-variables (v ∷ vs) low =
+    let here : length (signedDecimal v) ≤ 6 = length-signed16 v (low 0 (omega arith)) in
+    let rest : length (variablesText vs) ≤ 7 * length vs = length-variables vs (λ k h. low (suc k) (omega arith)) in
+    omega (arith, length-append (space ∷ signedDecimal v) (variablesText vs))
+
+pub length-chosen16 : (t : ℕ) → t < 2 ^ 16 → length (chosen (taken t)) ≤ 5
+length-chosen16 t h = length-decimal 4 t (omega arith) (omega arith)
+
+-- a line of numbers in their types' ranges, and at most 64 variables, fits 482 bytes
+module _ (cycle chart : ℕ) (a : Answer) (state : ℕ) (vs : List ℤ) where
+  pub length-line :
+      cycle < 2 ^ 32 → chart < 2 ^ 32 → length (chosen a) ≤ 5 → state < 2 ^ 16 → length vs ≤ 64 → ((k : ℕ) → k < length vs → mag (getD vs k (pos 0)) < 2 ^ 15)
+      → length (lineText cycle chart a state vs) ≤ 482
+  length-line h₁ h₂ h₃ h₄ h₅ low =
+      let l₁ : length (decimal cycle) ≤ 10 = length-decimal 9 cycle (omega arith) (omega arith) in
+      let l₂ : length (decimal chart) ≤ 10 = length-decimal 9 chart (omega arith) (omega arith) in
+      let l₄ : length (decimal state) ≤ 5 = length-decimal 4 state (omega arith) (omega arith) in
+      let l₅ : length (variablesText vs) ≤ 7 * length vs = length-variables vs low in
+      let t₁ = decimal cycle in
+      let t₂ = t₁ ++ (space ∷ decimal chart) in
+      let t₃ = t₂ ++ (space ∷ chosen a) in
+      let t₄ = t₃ ++ (space ∷ decimal state) in
+      let t₅ = t₄ ++ variablesText vs in
+      omega (arith, length-append t₁ (space ∷ decimal chart), length-append t₂ (space ∷ chosen a), length-append t₃ (space ∷ decimal state), length-append t₄ (variablesText vs), length-append t₅ (feed ∷ []))

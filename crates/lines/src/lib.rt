@@ -1,0 +1,142 @@
+// The text of one replay line. Bytes past the end of `out` are counted and not written, so a place must be near enough for its sums not to wrap.
+ghost use mathlib.Core.List.{[], _∷_};
+ghost use mathlib.Core.Path.{_≡_};
+ghost use Prim.Native.Nat.{_≤_, _<_, _^_};
+ghost use lib.ListN.{length, take};
+ghost use Rattle.model.specs.Replay.{decimal, signedDecimal, chosen as chosenText, space};
+ghost use Rattle.lines.specs.Text.{Wrote, Begins, chosenOf, headText, variablesText, lineText};
+use records::put_byte;
+
+pub enum Chosen {
+    Transition(u16),
+    Idle,
+}
+
+// Answers the place behind what it wrote, as all of these do.
+fn put_char(out: &mut [u8], at: usize, b: u8) -> usize
+    requires { ⌜ at < 2 ^ 63 ⌝ }
+    ensures { λ r. ⌜ Wrote (now (out .entry)) at (b ∷ []) (now (out .exit)) r ⌝ }
+{
+    put_byte(out, at, b);
+    at + 1
+}
+
+// The higher digits stand first.
+pub fn put_decimal(out: &mut [u8], at: usize, n: u32) -> usize
+    requires { ⌜ at < 2 ^ 62 ⌝ }
+    ensures { λ r. ⌜ Wrote (now (out .entry)) at (decimal n) (now (out .exit)) r ⌝ }
+{
+    let units = 48 + ((n % 10) as u8);
+    if n < 10 {
+        put_char(out, at, units)
+    } else {
+        let next = put_decimal(out, at, n / 10);
+        put_char(out, next, units)
+    }
+}
+
+// The complement of a negative number is one less than its magnitude, which need not fit the number's own type.
+pub fn put_signed(out: &mut [u8], at: usize, z: i16) -> usize
+    requires { ⌜ at < 2 ^ 61 ⌝ }
+    ensures { λ r. ⌜ Wrote (now (out .entry)) at (signedDecimal z) (now (out .exit)) r ⌝ }
+{
+    if z < 0 {
+        let next = put_char(out, at, 45);
+        put_decimal(out, next, (!z as u32) + 1)
+    } else {
+        put_decimal(out, at, z as u32)
+    }
+}
+
+fn put_chosen(out: &mut [u8], at: usize, chosen: Chosen) -> usize
+    requires { ⌜ at < 2 ^ 61 ⌝ }
+    ensures { λ r. ⌜ Wrote (now (out .entry)) at (chosenText (chosenOf chosen)) (now (out .exit)) r ⌝ }
+{
+    match chosen {
+        Chosen::Transition(t) => put_decimal(out, at, t as u32),
+        Chosen::Idle => put_char(out, at, 45),
+    }
+}
+
+// A number after its space.
+fn put_field(out: &mut [u8], at: usize, n: u32) -> usize
+    requires { ⌜ at < 2 ^ 61 ⌝ }
+    ensures { λ r. ⌜ Wrote (now (out .entry)) at (space ∷ decimal n) (now (out .exit)) r ⌝ }
+{
+    let next = put_char(out, at, 32);
+    put_decimal(out, next, n)
+}
+
+// As many of the first `count` as there are.
+fn shown(variables: &[i16], count: u16) -> usize
+    ensures { λ r. ⌜ (r ≤ length (now (variables .entry))) × (r < 2 ^ 16) × (take r (now (variables .entry)) ≡ take count (now (variables .entry))) ⌝ }
+{
+    let n = count as usize;
+    if n < variables.len() {
+        n
+    } else {
+        variables.len()
+    }
+}
+
+// Each variable after its space; the place behind is near too.
+fn put_variables(out: &mut [u8], at: usize, variables: &[i16], count: u16) -> usize
+    requires { ⌜ at < 2 ^ 60 ⌝ }
+    ensures { λ r. ⌜ Wrote (now (out .entry)) at (variablesText (take count (now (variables .entry)))) (now (out .exit)) r × (r < 2 ^ 61) ⌝ }
+{
+    let n = shown(variables, count);
+    let mut next = at;
+    let mut v: usize = 0;
+    while v < n {
+        let spaced = put_char(out, next, 32);
+        next = put_signed(out, spaced, variables[v]);
+        v += 1;
+    }
+    next
+}
+
+// What stands before the variables; the place behind is near too.
+fn put_head(out: &mut [u8], at: usize, cycle: u32, chart: u32, chosen: Chosen, state: u16) -> usize
+    requires { ⌜ at < 2 ^ 59 ⌝ }
+    ensures { λ r. ⌜ Wrote (now (out .entry)) at (headText cycle chart (chosenOf chosen) state) (now (out .exit)) r × (r < 2 ^ 60) ⌝ }
+{
+    let chart_at = put_decimal(out, at, cycle);
+    let space_at = put_field(out, chart_at, chart);
+    let chosen_at = put_char(out, space_at, 32);
+    let state_at = put_chosen(out, chosen_at, chosen);
+    put_field(out, state_at, state as u32)
+}
+
+// A line from `at` on.
+pub fn put_line(
+    out: &mut [u8],
+    at: usize,
+    cycle: u32,
+    chart: u32,
+    chosen: Chosen,
+    state: u16,
+    variables: &[i16],
+    count: u16,
+) -> usize
+    requires { ⌜ at < 2 ^ 59 ⌝ }
+    ensures { λ r. ⌜ Wrote (now (out .entry)) at (lineText cycle chart (chosenOf chosen) state (take count (now (variables .entry)))) (now (out .exit)) r ⌝ }
+{
+    let variables_at = put_head(out, at, cycle, chart, chosen, state);
+    let feed_at = put_variables(out, variables_at, variables, count);
+    put_char(out, feed_at, 10)
+}
+
+// A line at the start; answers its length.
+pub fn line_into(
+    out: &mut [u8],
+    cycle: u32,
+    chart: u32,
+    chosen: Chosen,
+    state: u16,
+    variables: &[i16],
+    count: u16,
+) -> usize
+    ensures { λ r. ⌜ Begins (now (out .entry)) (lineText cycle chart (chosenOf chosen) state (take count (now (variables .entry)))) (now (out .exit)) r ⌝ }
+{
+    put_line(out, 0, cycle, chart, chosen, state, variables, count)
+}
