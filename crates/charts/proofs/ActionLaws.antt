@@ -1,20 +1,20 @@
 -- The actions of an owner, by their key. Assumes nothing.
 use mathlib.Core.Path.{_≡_, refl, sym, ap, _∙_}
-use mathlib.Core.Logic.{_⊎_, inl, inr}
-use mathlib.Core.Bool.{Bool, true, false, cond, _&&_}
-use mathlib.Core.List.{List, [], _∷_, map}
-use Prim.Native.Nat.{ℕ, zero, suc, _+_, _-_, _≤_, _<_}
+use mathlib.Core.Logic.{inl, inr}
+use mathlib.Core.Bool.{Bool, true, false, _&&_}
+use mathlib.Core.List.{List, map}
+use Prim.Native.Nat.{ℕ, _+_, _<_}
 use native.Mathlib.Omega.{arith}
 use lib.Dec.{eqb}
-use borrow.Author.Tests.{eq-eqb, ne-eqb, eqb-true}
-use Rattle.records.specs.Lists.{keep, from, upto, caseOf}
+use borrow.Author.Tests.{eq-eqb, eqb-true}
+use Rattle.records.specs.Lists.{keep, upto, caseOf}
 use Rattle.model.specs.Owned.{of}
 use Rattle.model.specs.ChartSet.{readActions}
 use Rattle.chart_files.specs.declared.Shape.{Shape}
 use Rattle.chart_files.specs.Places.{placeAt, actionAt}
 use Rattle.chart_files.proofs.Readings.{of-actions}
 use Rattle.charts.specs.Accepted.{Accepted}
-use Rattle.charts.specs.Tables.{keyFor, keyAt, keyed, Placed}
+use Rattle.charts.specs.Tables.{keyFor, keyed, Placed}
 use Rattle.charts.proofs.Earliest.{keep-alike}
 use Rattle.charts.proofs.Sound.{owner-placed}
 

@@ -1,13 +1,13 @@
 -- Whether a transition holds, and what a node comes to, by what stands in the file. Assumes nothing.
-use mathlib.Core.Path.{_≡_, refl, sym, ap, _∙_}
-use mathlib.Core.Bool.{Bool, true, false}
+use mathlib.Core.Path.{_≡_, sym, ap, _∙_}
+use mathlib.Core.Bool.{true, false}
 use mathlib.Core.List.{List}
 use Prim.Native.Nat.{ℕ, _+_, _*_, _<_}
 use lib.IntN.{ℤ}
 use Rattle.records.specs.Bytes.{two}
-use Rattle.records.specs.Refusal.{Out, val, choose}
+use Rattle.records.specs.Refusal.{val, choose}
 use Rattle.model.specs.Runs.{guardHolds}
-use Rattle.model.specs.ChartSet.{Trigger, Transition, readGuard, readCharts, transition}
+use Rattle.model.specs.ChartSet.{Trigger, readGuard, readCharts}
 use Rattle.model.specs.Charts.{triggered, transitionHolds}
 use Rattle.chart_files.specs.declared.Shape.{Shape}
 use Rattle.chart_files.specs.Shape.{IsShape}

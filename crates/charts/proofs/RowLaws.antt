@@ -1,44 +1,33 @@
 -- A state's row, by the priorities: those of priority 1, then those of 2, …; and the tables name at most one of each. Assumes nothing.
-use mathlib.Core.Path.{_≡_, refl, sym, ap, _∙_, subst}
+use mathlib.Core.Path.{_≡_, refl, sym, ap, _∙_}
 use mathlib.Core.Bool.{Bool, true, false, not, cond, _&&_, _||_}
-use mathlib.Core.List.{List, [], _∷_, _++_, map}
-use Prim.Native.Nat.{ℕ, zero, suc, _+_, _-_, _≤_, _<_, zero-le}
+use mathlib.Core.List.{List, [], _∷_, map}
+use Prim.Native.Nat.{ℕ, zero, suc, _+_, _≤_, _<_}
 use native.Mathlib.Nat.{sub-zero}
 use native.Mathlib.Omega.{arith}
 use lib.Dec.{leb, ltb, eqb}
 use lib.ListN.{length, getD}
-use borrow.Author.Tests.{le-leb, lt-ltb, eq-eqb, eqb-true, eqb-false, not-true}
+use borrow.Author.Tests.{le-leb, lt-ltb, eq-eqb, eqb-true, not-true}
 use Rattle.records.specs.Lists.{keep, gather, from, upto, all, mem, distinct}
 use Rattle.records.proofs.FramingLaws.{impossible, and-true}
-use Rattle.model.specs.ChartSet.{ChartSet, Transition, noTransition, readCharts, transition}
+use Rattle.model.specs.ChartSet.{ChartSet, noTransition, readCharts, transition}
 use Rattle.model.specs.Charts.{row}
-use Rattle.model.specs.ChartFile.{leavingState, prioritiesDiffer}
+use Rattle.model.specs.ChartFile.{prioritiesDiffer}
 use Rattle.chart_files.specs.declared.Shape.{Shape}
 use Rattle.chart_files.specs.Places.{transitionAt}
+use Rattle.chart_files.proofs.ListLaws.{keep-keep}
 use Rattle.chart_files.proofs.Readings.{transition-is, length-transitions, most-transitions}
 use Rattle.charts.specs.Accepted.{Accepted}
 use Rattle.charts.specs.Tables.{headOr, earliest, named, leaves, HasRows}
 use Rattle.charts.proofs.Earliest.{keep-alike, only-one}
-use Rattle.charts.proofs.Sound.{priority-known, differ}
+use Rattle.charts.proofs.Sound.{all-kept, priority-known, differ}
 use Rattle.charts.proofs.TableLaws.{leaving, Rows}
-use Rattle.charts.proofs.Sorting.{keep-keep, bucket, buckets, sorted-buckets}
+use Rattle.charts.proofs.Sorting.{sorted-buckets}
 
--- ---- tests of all
-
-module _ (p : ℕ → Bool) where
-  all-from : (k n : ℕ) → ((t : ℕ) → k ≤ t → t < k + n → p t ≡ true) → all p (from k n) ≡ true
-  unfolding all from
-  all-from k zero h = refl
-  all-from k (suc n) h = rw (h k (omega arith) (omega arith), all-from (suc k) n (λ t a b. h t (omega arith) (omega arith)))
-
-  all-keep : (q : ℕ → Bool) (xs : List ℕ) → all p xs ≡ true → all p (keep q xs) ≡ true
-  unfolding all keep
-  all-keep q [] h = refl
-  all-keep q (x ∷ xs) h = go (q x) (and-true (p x) (all p xs) h .0) (all-keep q xs (and-true (p x) (all p xs) h .1))
-    where
-      go : (b : Bool) → p x ≡ true → all p (keep q xs) ≡ true → all p (cond b (x ∷ keep q xs) (keep q xs)) ≡ true
-      go true e ih = rw (e, ih)
-      go false e ih = ih
+all-from : (p : ℕ → Bool) (k n : ℕ) → ((t : ℕ) → k ≤ t → t < k + n → p t ≡ true) → all p (from k n) ≡ true
+unfolding all from
+all-from p k zero h = refl
+all-from p k (suc n) h = rw (h k (omega arith) (omega arith), all-from p (suc k) n (λ t a b. h t (omega arith) (omega arith)))
 
 -- ---- one of each priority
 
@@ -82,7 +71,7 @@ module _ (cs : ChartSet) (st : ℕ) where
     pub row-by-priority : row cs st ≡ gather (λ q. keep (leaves cs st q) (upto (length (cs .transitions)))) (from 1 16)
     row-by-priority =
         sorted-buckets (λ t. transition cs t .priority) 1 16 (keep (λ t. eqb (transition cs t .source) st) (upto (length (cs .transitions))))
-        (all-keep fits (λ t. eqb (transition cs t .source) st) (upto (length (cs .transitions))) (all-from fits 0 (length (cs .transitions)) (λ t l h. in-range t (omega arith))))
+        (all-kept fits fits (λ t. eqb (transition cs t .source) st) (λ t e. refl) (upto (length (cs .transitions))) (all-from fits 0 (length (cs .transitions)) (λ t l h. in-range t (omega arith))))
         ∙ (λ i. gather (λ q. keep-keep (λ t. eqb (transition cs t .source) st) (λ t. eqb (transition cs t .priority) q) (upto (length (cs .transitions))) i) (from 1 16))
       where
         fits : ℕ → Bool

@@ -9,17 +9,6 @@ use borrow.Author.Tests.{le-leb, lt-leb, eq-eqb, ne-eqb, leb-true, ltb-true, eqb
 use Rattle.records.specs.Lists.{keep, insert, sorted, gather, from, all}
 use Rattle.records.proofs.FramingLaws.{and-true}
 
-module _ {A : Type 0} where
-  pub keep-keep : (p q : A → Bool) (xs : List A) → keep q (keep p xs) ≡ keep (λ x. p x && q x) xs
-  unfolding keep
-  keep-keep p q [] = refl
-  keep-keep p q (x ∷ xs) = go (p x) (keep-keep p q xs)
-    where
-      go : (b : Bool) → keep q (keep p xs) ≡ keep (λ x. p x && q x) xs →
-          keep q (cond b (x ∷ keep p xs) (keep p xs)) ≡ cond (b && q x) (x ∷ keep (λ x. p x && q x) xs) (keep (λ x. p x && q x) xs)
-      go true ih = ap (λ l. cond (q x) (x ∷ l) l) ih
-      go false ih = ih
-
 module _ {A : Type 0} (key : A → ℕ) where
   -- those of one key, and those of n keys from k on
   abbrev pub bucket : List A → ℕ → List A

@@ -1,9 +1,9 @@
 -- What an accepted file's records keep to: what a turn needs of them. Assumes nothing.
-use mathlib.Core.Path.{_≡_, refl, sym, ap, _∙_, subst}
-use mathlib.Core.Logic.{_⊎_, inl, inr}
-use mathlib.Core.Option.{Option, some, none}
+use mathlib.Core.Path.{_≡_, refl, sym, ap, _∙_}
+use mathlib.Core.Logic.{inl, inr}
+use mathlib.Core.Option.{some, none}
 use mathlib.Core.Bool.{Bool, true, false, not, cond, _&&_, _||_}
-use mathlib.Core.List.{List, [], _∷_, _++_, map}
+use mathlib.Core.List.{List, [], _∷_, _++_}
 use Prim.Native.Nat.{ℕ, zero, suc, _+_, _*_, _≤_, _<_}
 use native.Mathlib.Omega.{arith}
 use lib.Dec.{leb, ltb, eqb}
@@ -15,19 +15,18 @@ use Rattle.records.specs.Framing.{howMany, firstOf}
 use Rattle.records.specs.Refusal.{Refusal, odd-length, lowest}
 use Rattle.records.proofs.Records.{recordAt, byte-record}
 use Rattle.records.proofs.RoundTrips.{four-record}
-use Rattle.records.proofs.FramingLaws.{impossible, and-true}
+use Rattle.records.proofs.FramingLaws.{and-true}
 use Rattle.records.proofs.Framed.{length-ofKind, framed-thing}
 use Rattle.expressions.specs.Nodes.{nodeOf}
 use Rattle.expressions.specs.Sorts.{nodesNamed}
 use Rattle.model.specs.Runs.{Deed, assign, raise}
 use Rattle.model.specs.ChartSet as C
-use Rattle.model.specs.ChartSet.{Transition, noTransition, readTransition, readDeed, readActions, readCharts, transition}
+use Rattle.model.specs.ChartSet.{Transition, noTransition, readDeed, readActions, readCharts}
 use Rattle.model.specs.Charts.{ticks}
-use Rattle.model.specs.ChartFile.{between, isEvent, isDuration, transitionInCode, actionInCode, variableInCode, nodeInCode, deedInCode, inCode, chartLimits, insideCharts, initialFits, atMostEight, allNamed, actionsNamed, deedNamed, guardNamed, structured, prioritiesDiffer, ticking, chartTests, chartsRefusal, ChartFile}
+use Rattle.model.specs.ChartFile.{between, isEvent, isDuration, transitionInCode, actionInCode, variableInCode, nodeInCode, deedInCode, inCode, chartLimits, insideCharts, initialFits, atMostEight, allNamed, actionsNamed, deedNamed, guardNamed, structured, prioritiesDiffer, ticking, chartTests}
 use Rattle.chart_files.specs.declared.Shape.{Shape}
-use Rattle.chart_files.specs.Shape.{IsShape}
-use Rattle.chart_files.specs.Places.{firstTransition, firstAction, transitionIn, transitionAt, placeAt, actionAt}
-use Rattle.chart_files.proofs.Readings.{transition-record, first-transition, first-action, transition-is, transitions-are, length-homes, length-transitions, length-variables, most-states, most-transitions, all-actions}
+use Rattle.chart_files.specs.Places.{firstTransition, firstAction, transitionAt, placeAt, actionAt}
+use Rattle.chart_files.proofs.Readings.{first-transition, first-action, transition-is, length-homes, length-transitions, length-variables, most-states, most-transitions, all-actions}
 use Rattle.charts.specs.Accepted.{Accepted}
 use Rattle.charts.specs.Tables.{Placed}
 use Rattle.charts.specs.Replies.{Holdable, Doable, triggerBy}
@@ -50,7 +49,7 @@ module _ {A : Type 0} where
   all-getD p (x ∷ xs) d (suc k) t h = all-getD p xs d k (and-true (p x) (all p xs) t .1) (omega arith)
 
   -- of those kept by a test, another test that agrees there
-  all-kept : (p q test : A → Bool) → ((x : A) → test x ≡ true → p x ≡ q x) → (xs : List A) → all p xs ≡ true → all q (keep test xs) ≡ true
+  pub all-kept : (p q test : A → Bool) → ((x : A) → test x ≡ true → p x ≡ q x) → (xs : List A) → all p xs ≡ true → all q (keep test xs) ≡ true
   unfolding all keep
   all-kept p q test same [] h = refl
   all-kept p q test same (x ∷ xs) h = go (test x) refl (all-kept p q test same xs (and-true (p x) (all p xs) h .1))

@@ -1,13 +1,13 @@
 -- A chart's turn: the first that holds, place by place of a row, and the deeds of a transition. Assumes nothing.
-use mathlib.Core.Path.{_≡_, refl, sym, ap, _∙_, subst}
-use mathlib.Core.Logic.{_⊎_, inl, inr}
-use mathlib.Core.Bool.{Bool, true, false, cond, _&&_}
-use mathlib.Core.Option.{Option, some, none}
+use mathlib.Core.Path.{_≡_, refl, sym, ap, _∙_}
+use mathlib.Core.Logic.{inl, inr}
+use mathlib.Core.Bool.{Bool, true, false, cond}
+use mathlib.Core.Option.{some, none}
 use mathlib.Core.List.{List, [], _∷_, _++_, map}
-use Prim.Native.Nat.{ℕ, zero, suc, _+_, _-_, _≤_, _<_}
+use Prim.Native.Nat.{ℕ, _+_, _-_, _≤_, _<_}
 use native.Mathlib.Nat.{sub-zero}
 use native.Mathlib.Omega.{arith}
-use borrow.Author.Tests.{eq-eqb, ne-eqb, eqb-true, eqb-false}
+use borrow.Author.Tests.{eq-eqb, ne-eqb}
 use lib.Dec.{eqb}
 use lib.ListN.{length}
 use Rattle.records.specs.Lists.{keep, gather, from, upto, sorted, caseOf}
@@ -21,7 +21,7 @@ use Rattle.chart_files.specs.declared.Shape.{Shape}
 use Rattle.chart_files.specs.Places.{transitionAt, actionAt}
 use Rattle.chart_files.proofs.Readings.{transition-is, length-transitions, most-states, most-transitions}
 use Rattle.charts.specs.Accepted.{Accepted}
-use Rattle.charts.specs.Tables.{earliest, named, leaves, keyFor, keyed}
+use Rattle.charts.specs.Tables.{earliest, named, leaves, keyed}
 use Rattle.charts.specs.StepOf.{slotHolds, entered}
 use Rattle.charts.proofs.Earliest.{keep-alike, one-found}
 use Rattle.charts.proofs.RowLaws.{row-of}

@@ -1,13 +1,10 @@
 -- The code's answers, read as the triggers and outcomes of document 01. Assumes nothing: these are definitions.
-use mathlib.Core.Bool.{Bool, cond}
-use mathlib.Core.Option.{Option, some, none}
 use mathlib.Core.List.{List, [], _∷_}
 use Prim.Native.Nat.{ℕ, _<_}
 use Rattle.records.specs.Lists.{caseOf}
 use Rattle.model.specs.Charts.{ticks}
 use lib.IntN.{ℤ}
-use Rattle.records.specs.Refusal.{Refusal, out-of-range, zero-divisor, out-of-bounds, Out, val, fault}
-use Rattle.model.specs.Runs.{World, Answer, taken, idle, Deed, assign, raise}
+use Rattle.model.specs.Runs.{World, Deed, assign, raise}
 use Rattle.model.specs.ChartSet as C
 use Rattle.charts.specs.declared.actions.Deed as declared-deed
 use Rattle.charts.specs.declared.triggers.Trigger.{Trigger}

@@ -6,7 +6,7 @@ use mathlib.Core.List.{List, [], _∷_}
 use Prim.Native.Nat.{ℕ, _+_, _-_, _<_}
 use lib.Dec.{eqb}
 use lib.ListN.{length, getD}
-use Rattle.records.specs.Lists.{keep, from, upto, caseOf}
+use Rattle.records.specs.Lists.{keep, from, caseOf}
 use Rattle.model.specs.ChartSet.{ChartSet, transition}
 use Rattle.chart_files.specs.declared.Shape.{Shape}
 use Rattle.chart_files.specs.Places.{placeAt, actionAt}

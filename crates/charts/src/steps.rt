@@ -102,13 +102,14 @@ fn act(
     requires { ⌜ Accepted (now s) shape × HasActions (now s) shape (now first) (now next) × (t < shape .transitions) ⌝ }
     ensures { λ r. ⌜ ((p c : ℕ) → worldAfter r (now (vars .exit)) p c ≡ acted (readCharts (now (s .entry))) t (worldIn (now (vars .entry)) events p c)) ⌝ }
 {
-    let source = source_of(s, shape, t);
-    let target = target_of(s, shape, t);
-    match do_deeds(s, shape, first, next, 128 + source, vars, events) {
+    let leaving = 128 + source_of(s, shape, t);
+    let crossing = 256 + t;
+    let entering = target_of(s, shape, t);
+    match do_deeds(s, shape, first, next, leaving, vars, events) {
         Done::Fault(w) => Done::Fault(w),
-        Done::Events(left) => match do_deeds(s, shape, first, next, 256 + t, vars, left) {
+        Done::Events(left) => match do_deeds(s, shape, first, next, crossing, vars, left) {
             Done::Fault(w) => Done::Fault(w),
-            Done::Events(crossed) => do_deeds(s, shape, first, next, target, vars, crossed),
+            Done::Events(crossed) => do_deeds(s, shape, first, next, entering, vars, crossed),
         },
     }
 }

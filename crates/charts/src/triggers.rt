@@ -1,10 +1,7 @@
 // Triggers of transitions, and whether they hold.
 ghost use mathlib.Core.Path.{_≡_};
-ghost use mathlib.Core.List.{[], _∷_};
 ghost use mathlib.Core.Bool.{true};
 ghost use Prim.Native.Nat.{_+_, _*_, _^_, _<_};
-ghost use Rattle.records.specs.Lists.{caseOf};
-ghost use Rattle.records.specs.Bytes.{byte, four};
 ghost use Rattle.model.specs.Runs.{present};
 ghost use Rattle.model.specs.Charts.{ticks, everyHolds, triggered};
 ghost use Rattle.chart_files.specs.Places.{triggerIn};

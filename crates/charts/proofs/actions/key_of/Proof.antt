@@ -1,10 +1,10 @@
 -- `actions::key_of` meets its contract: the fields stand in the action's record. Assumes nothing.
-use mathlib.Core.Path.{_≡_, sym, ap, _∙_}
-use Prim.Native.Nat.{ℕ, _+_, _*_, _<_}
+use mathlib.Core.Path.{_≡_, ap, _∙_}
+use Prim.Native.Nat.{_+_, _*_}
 use native.Mathlib.Omega.{arith}
 use denote.Ref.{now}
 use Rattle.records.specs.Bytes.{byte, two}
-use Rattle.charts.specs.Tables.{keyFor, keyAt, Placed}
+use Rattle.charts.specs.Tables.{keyFor, keyAt}
 use Rattle.charts.proofs.Sound.{owner-placed}
 use Rattle.charts.proofs.ActionLaws.{key-small}
 use borrow.Author.Needs.{needs}

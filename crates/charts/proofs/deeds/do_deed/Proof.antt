@@ -1,10 +1,9 @@
 -- `deeds::do_deed` meets its contract. Assumes nothing.
-use mathlib.Core.Path.{_≡_, sym, ap, _∙_, subst}
+use mathlib.Core.Path.{sym, ap, _∙_, subst}
 use denote.Ref.{now}
 use Rattle.records.specs.Refusal.{val}
-use Rattle.model.specs.Runs.{Deed, deed}
+use Rattle.model.specs.Runs.{deed}
 use Rattle.model.specs.ChartSet.{readCharts}
-use Rattle.chart_files.specs.Places.{actionAt}
 use Rattle.charts.specs.Replies.{Doable, deedFor}
 use Rattle.charts.specs.StepOf.{worldIn}
 use Rattle.charts.proofs.Sound.{deed-doable}

@@ -7,7 +7,6 @@ use borrow.Author.Needs.{needs}
 use denote.Ref.{now}
 use lib.ListN.{getD}
 use borrow.Author.Tests.{eqb-true}
-use Rattle.records.specs.Refusal.{val}
 use Rattle.model.specs.ChartSet.{readCharts}
 use Rattle.chart_files.specs.Places.{actionAt}
 use Rattle.chart_files.specs.declared.Shape.{Shape}

@@ -1,13 +1,13 @@
 -- `deeds::fitted` meets its contract: two comparisons, and what passes both has 16 bits. Assumes nothing.
 use mathlib.Core.Path.{_≡_, sym, ap, _∙_}
-use mathlib.Core.Bool.{Bool, true, false}
+use mathlib.Core.Bool.{true, false}
 use mathlib.Core.Option.{some}
 use Prim.Native.Nat.{_<_, _^_}
 use lib.IntN.{ℤ}
 use lib.Signed.{leZ, mag}
 use mir.Facts.{toZ-ofZ}
 use mir.Syntax.{w32}
-use mir.Val.{toZ, ofZ, SFits}
+use mir.Val.{toZ, ofZ}
 use Rattle.charts.proofs.DeedLaws.{between}
 use borrow.Author.Needs.{needs}
 use Rattle.charts.proofs.deeds.fitted.Statement.{statement}

@@ -1,12 +1,12 @@
 -- `steps::first_that` meets its contract: none of the places before j holds. Assumes nothing.
 use mathlib.Core.Path.{_≡_, sym, ap, _∙_}
-use mathlib.Core.Bool.{true, false}
-use Prim.Native.Nat.{ℕ, _+_, _-_, _≤_, _<_}
+use mathlib.Core.List.{[]}
+use mathlib.Core.Bool.{true}
+use Prim.Native.Nat.{ℕ, _+_, _-_, _<_}
 use native.Mathlib.Omega.{arith}
 use borrow.Author.Needs.{needs}
 use denote.Ref.{now}
 use lib.ListN.{getD}
-use mathlib.Core.List.{[]}
 use Rattle.records.specs.Refusal.{val, fault}
 use Rattle.expressions.specs.Answers.{truthOf}
 use Rattle.expressions.specs.Answers as expressions-answers

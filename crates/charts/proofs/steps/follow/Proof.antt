@@ -1,5 +1,5 @@
 -- `steps::follow` meets its contract. Assumes nothing.
-use mathlib.Core.Path.{_≡_, sym, ap, _∙_}
+use mathlib.Core.Path.{sym, ap, _∙_}
 use denote.Ref.{now}
 use Rattle.model.specs.ChartSet.{readCharts}
 use Rattle.chart_files.proofs.Readings.{transition-is}

@@ -1,9 +1,8 @@
 -- `tables::rows_of` meets its contract: the rows are filled down to t. Assumes nothing.
-use mathlib.Core.Path.{_≡_, refl, sym, ap, _∙_, subst}
-use Prim.Native.Nat.{ℕ, _+_, _-_, _≤_, _<_}
+use mathlib.Core.Path.{_≡_, sym, subst}
+use Prim.Native.Nat.{_+_, _-_, _≤_, _<_}
 use native.Mathlib.Omega.{arith}
 use denote.Ref.{now}
-use lib.ListN.{length, getD}
 use Rattle.chart_files.proofs.Readings.{most-states}
 use Rattle.charts.proofs.Sound.{source-known, priority-known}
 use Rattle.charts.proofs.TableLaws.{Rows, rows-none, rows-more}

@@ -1,5 +1,5 @@
 -- `triggers::triggered` meets its contract, arm by arm. Assumes nothing.
-use mathlib.Core.Path.{_≡_, sym, ap, _∙_, subst}
+use mathlib.Core.Path.{sym, ap, _∙_, subst}
 use lib.Dec.{eqb}
 use Rattle.model.specs.Charts.{everyHolds, triggered}
 use Rattle.charts.specs.Replies.{triggerOf, Holdable}
