@@ -10,8 +10,8 @@ use Rattle.model.specs.ChartFile.{chartsRefusal, ChartFile}
 use Rattle.model.specs.AutomataFile.{automataRefusal, AutomataFile}
 use Rattle.model.specs.Translation.{twinBytes, Translation}
 use Rattle.records.proofs.Tables.{Agree}
-use Rattle.expressions.proofs.ExampleNodes.{constant}
-use Rattle.model.proofs.ExampleSets.{chart, state, freely, timed, action, zeroWatch, waiting, raising}
+use Rattle.expressions.proofs.ExampleNodes.{constant, binary}
+use Rattle.model.proofs.ExampleSets.{chart, state, transition, freely, timed, variable, action, zeroWatch, waiting, raising}
 
 -- bytes put in at places
 abbrev edited : List ℕ → List (ℕ × ℕ) → List ℕ
@@ -44,6 +44,13 @@ elsewhere = chart 2 ++ chart 2 ++ state 0 ++ state 0 ++ state 1 ++ state 1 ++ fr
 
 abbrev unusedNode : List ℕ
 unusedNode = chart 0 ++ state 0 ++ state 0 ++ freely 1 0 1 ++ constant 1
+
+-- a set whose first transition assigns node n of these nodes, and one whose second has node 0 as its guard
+abbrev assigningNode : (n : ℕ) → List ℕ → List ℕ
+assigningNode n nodes = chart 0 ++ state 0 ++ state 0 ++ freely 1 0 1 ++ variable 0 9 0 ++ nodes ++ action 3 0 1 0 n
+
+abbrev guardedBy : List ℕ → List ℕ
+guardedBy nodes = chart 0 ++ state 0 ++ state 0 ++ freely 1 0 1 ++ transition 1 1 1 0 0 0 0 ++ nodes
 
 abbrev everyFew : (ms : ℕ) → List ℕ
 everyFew ms = chart 0 ++ state 0 ++ state 0 ++ freely 1 0 1 ++ timed 3 1 1 ms
@@ -140,6 +147,12 @@ files =
     ∷ (refused (edited zeroWatch ((278, 5) ∷ [])), 8)
     ∷ (refused (edited zeroWatch ((228, 3) ∷ [])), 8)
     ∷ (refused unusedNode, 8)
+    -- every node used once: an operand not lower, a truth for a number, a number as a guard, a truth assigned
+    ∷ (refused (assigningNode 0 (binary 3 1 2 ++ constant 1 ++ constant 2)), 8)
+    ∷ (refused (assigningNode 4 (constant 1 ++ constant 2 ++ binary 17 0 1 ++ constant 1 ++ binary 3 2 3)), 8)
+    ∷ (refused (guardedBy (constant 1)), 8)
+    ∷ (refused (assigningNode 2 (constant 1 ++ constant 2 ++ binary 17 0 1)), 8)
+    ∷ (refused (assigningNode 2 (constant 1 ++ constant 2 ++ binary 3 0 1)), 0)
     -- 9: timing triggers of 0 ticks, after and every; 50 ms are one tick
     ∷ (refused (waiting 49), 9)
     ∷ (refused (everyFew 49), 9)
@@ -156,7 +169,8 @@ files =
 
 file-examples : Agree files
 unfolding ChartFile
-file-examples = (refl, (refl, (refl, (refl, (refl, (refl, (refl, (refl, (refl, (refl, (refl, (refl, (refl, (refl, (refl, (refl, (refl, (refl, (refl, (refl, (refl, (refl, (refl, (refl, (refl, (refl, (refl, (refl, (refl, (refl, (refl, (refl, (refl, (refl, (refl, (refl, (refl, (refl, (refl, (refl, (refl, (refl, (refl, (refl, (refl, (refl, (refl, (refl, (refl, (refl, (refl, (refl, (refl, (refl, (refl, (refl, (refl, (refl, (refl, (refl, (refl, (refl, (refl, (refl, (refl, (refl, (refl, (refl, (refl, (refl, (refl, (refl, (refl, (refl, (refl, (refl, (refl, (refl, (refl, (refl, (refl, (refl, (refl, (refl, (refl, (refl, (refl, (refl, (refl, tt)))))))))))))))))))))))))))))))))))))))))))))))))))))))))))))))))))))))))))))))))))))))))
+file-examples =
+    (refl, (refl, (refl, (refl, (refl, (refl, (refl, (refl, (refl, (refl, (refl, (refl, (refl, (refl, (refl, (refl, (refl, (refl, (refl, (refl, (refl, (refl, (refl, (refl, (refl, (refl, (refl, (refl, (refl, (refl, (refl, (refl, (refl, (refl, (refl, (refl, (refl, (refl, (refl, (refl, (refl, (refl, (refl, (refl, (refl, (refl, (refl, (refl, (refl, (refl, (refl, (refl, (refl, (refl, (refl, (refl, (refl, (refl, (refl, (refl, (refl, (refl, (refl, (refl, (refl, (refl, (refl, (refl, (refl, (refl, (refl, (refl, (refl, (refl, (refl, (refl, (refl, (refl, (refl, (refl, (refl, (refl, (refl, (refl, (refl, (refl, (refl, (refl, (refl, (refl, (refl, (refl, (refl, (refl, tt))))))))))))))))))))))))))))))))))))))))))))))))))))))))))))))))))))))))))))))))))))))))))))))
 
 -- ---- automata files
 
