@@ -20,10 +20,15 @@ impl<'a> Sections<'a> {
         if !sections.kinds_known() || !sections.kinds_ascend() {
             return Err(refusals::KIND);
         }
-        if sections.of(limits[0].0).is_empty() || sections.too_many() {
+        if sections.miscounted() {
             return Err(refusals::COUNT);
         }
         Ok(sections)
+    }
+
+    /// Records in ascending kinds, whatever their number.
+    pub fn of_ascending(records: &'a [Record], limits: &'static [(u8, usize)]) -> Self {
+        Sections { records, limits }
     }
 
     fn kinds_known(&self) -> bool {
@@ -32,6 +37,11 @@ impl<'a> Sections<'a> {
 
     fn kinds_ascend(&self) -> bool {
         self.records.windows(2).all(|pair| pair[0][0] <= pair[1][0])
+    }
+
+    /// Nothing of the first kind, or too many of one.
+    pub fn miscounted(&self) -> bool {
+        self.of(self.limits[0].0).is_empty() || self.too_many()
     }
 
     fn too_many(&self) -> bool {

@@ -1,5 +1,6 @@
 -- What the proofs of several functions use, and the laws that crates above cite.
 pub mod ListLaws
+pub mod Placed
 pub mod Readings
 pub mod RecordLoops
 pub mod UnusedNodes

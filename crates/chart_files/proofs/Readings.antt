@@ -1,23 +1,20 @@
 -- What a framed chart file says, as reads of its bytes: each list of `readCharts` by its things' numbers. Assumes nothing.
-use mathlib.Core.Path.{_≡_, refl, sym, ap, _∙_}
-use mathlib.Core.Bool.{Bool, true, false, not, cond, _&&_, _||_}
-use mathlib.Core.Option.{none}
+use mathlib.Core.Path.{_≡_, sym, ap, _∙_}
+use mathlib.Core.Bool.{Bool, not, cond, _&&_, _||_}
 use mathlib.Core.List.{List, [], _∷_, map}
-use Prim.Native.Nat.{ℕ, suc, _+_, _-_, _*_, _^_, _≤_, _<_}
+use Prim.Native.Nat.{ℕ, _+_, _*_, _^_, _≤_, _<_}
 use native.Mathlib.Nat.{zero-add}
 use native.Mathlib.Omega.{arith}
-use borrow.Author.Tests.{leb-true, le-ltb, ltb-true, ltb-false}
-use lib.Dec.{leb, ltb, eqb}
-use lib.ListN.{length, getD, drop, length-map, length-take, List·getD-eq-default, drop-of-length-le}
-use lib.Seq.{getD-take, getD-drop}
+use lib.Dec.{eqb}
+use lib.ListN.{length, getD, length-map}
 use Rattle.records.specs.Lists.{all, any, count, keep, gather, upto, caseOf}
 use Rattle.records.specs.Bytes.{byte, two, four, signed, records, kind, ofKind}
-use Rattle.records.specs.Framing.{known, howMany, firstOf, framing}
+use Rattle.records.specs.Framing.{howMany, firstOf}
 use Rattle.records.proofs.Records.{recordAt, byte-record}
-use Rattle.records.proofs.RoundTrips.{two-record, four-record, two-alike, four-alike}
-use Rattle.records.proofs.FramingLaws.{and-true, below-next, is-table, getD-upto}
-use Rattle.records.proofs.Framed.{length-ofKind, first-and-many, framed-known, framed-one, framed-most, framed-thing}
-use Rattle.expressions.specs.Nodes.{unknown, nodeBy, readNode, nodeOf, nodeAt}
+use Rattle.records.proofs.RoundTrips.{two-record, four-record}
+use Rattle.records.proofs.FramingLaws.{getD-upto}
+use Rattle.records.proofs.Framed.{length-ofKind, first-and-many, framed-one, framed-most}
+use Rattle.expressions.specs.Nodes.{unknown, readNode, nodeOf, nodeAt}
 use Rattle.model.specs.Owned.{of}
 use Rattle.model.specs.Runs.{Variable, Deed}
 use Rattle.model.specs.ChartSet.{event, after, every, always, noTransition, transition, readGuard, readDeed, readTransition, readVariable, readActions, readCharts}
@@ -25,7 +22,8 @@ use Rattle.model.specs.ChartFile.{chartLimits}
 use Rattle.chart_files.specs.declared.Shape.{Shape}
 use Rattle.chart_files.specs.Shape.{IsShape}
 use Rattle.chart_files.specs.Places.{firstState, firstTransition, firstVariable, firstNode, firstAction, transitionIn, variableIn, actionIn, initialAt, homeAt, transitionAt, variableAt, placeAt, actionAt, nodePart}
-use Rattle.chart_files.proofs.ListLaws.{all-map, any-map, count-map, keep-map, map-map, gather-map, all-keep, any-keep, count-keep, keep-keep, gather-keep, alike-upto}
+use Rattle.chart_files.proofs.Placed.{things, none-below, next-first, placed, node-part, node-lookup}
+use Rattle.chart_files.proofs.ListLaws.{all-map, any-map, count-map, keep-map, map-map, gather-map, all-keep, any-keep, count-keep, keep-keep, gather-keep}
 
 -- ---- what record n says, read where it stands
 
@@ -55,50 +53,26 @@ module _ (s : List ℕ) (n : ℕ) where
     readDeed (byte-record s n 4 (omega arith) i) (byte-record s n 5 (omega arith) i) (two-record s n 6 (omega arith) i),
   )
 
--- ---- the things of a kind
-
-module _ (s : List ℕ) (framed : framing 1 chartLimits s ≡ none) where
-  -- as records
-  pub things : (k : ℕ) → ofKind k s ≡ map (λ i. recordAt s (firstOf k s + i)) (upto (howMany k s))
-  things k = is-table (λ i. recordAt s (firstOf k s + i)) [] (howMany k s) (ofKind k s) (length-ofKind k s) (framed-thing 1 chartLimits s framed k)
-
-  -- as what is read of them
-  pub read-things : {A : Type 0} (f : List ℕ → A) (k : ℕ) → map f (ofKind k s) ≡ map (λ i. f (recordAt s (firstOf k s + i))) (upto (howMany k s))
-  read-things f k = ap (map f) (things k) ∙ map-map (λ i. recordAt s (firstOf k s + i)) f (upto (howMany k s))
-
-  -- where they start
-  none-below : firstOf 1 s ≡ 0
-  unfolding all count
-  none-below = go (records s) (framed-known 1 chartLimits s framed)
-    where
-      go : (rs : List (List ℕ)) → all (known 1 chartLimits) (map kind rs) ≡ true → count (λ r. ltb (kind r) 1) rs ≡ 0
-      go [] e = refl
-      go (r ∷ rs) e =
-          let k : (known 1 chartLimits (kind r) ≡ true) × (all (known 1 chartLimits) (map kind rs) ≡ true) = and-true (known 1 chartLimits (kind r)) (all (known 1 chartLimits) (map kind rs)) e in
-          let l : leb 1 (kind r) ≡ true = and-true (leb 1 (kind r)) (ltb (kind r) 7) (k .0) .0 in
-          rw (le-ltb (kind r) 1 (leb-true 1 (kind r) l)) (go rs (k .1))
-
-  next-first : (k : ℕ) → firstOf (suc k) s ≡ firstOf k s + howMany k s
-  next-first k = below-next kind k (records s)
+-- ---- where each kind starts
 
 module _ (s : List ℕ) (sh : Shape) (is : IsShape s sh) where
   pub first-chart : firstOf 1 s ≡ 0
-  first-chart = none-below s (is .framed)
+  first-chart = none-below 1 chartLimits s (is .framed)
 
   pub first-state : firstOf 2 s ≡ firstState sh
-  first-state = omega (arith, first-chart, next-first s (is .framed) 1)
+  first-state = omega (arith, first-chart, next-first s 1)
 
   pub first-transition : firstOf 3 s ≡ firstTransition sh
-  first-transition = omega (arith, first-state, next-first s (is .framed) 2)
+  first-transition = omega (arith, first-state, next-first s 2)
 
   pub first-variable : firstOf 4 s ≡ firstVariable sh
-  first-variable = omega (arith, first-transition, next-first s (is .framed) 3)
+  first-variable = omega (arith, first-transition, next-first s 3)
 
   pub first-node : firstOf 5 s ≡ firstNode sh
-  first-node = omega (arith, first-variable, next-first s (is .framed) 4)
+  first-node = omega (arith, first-variable, next-first s 4)
 
   pub first-action : firstOf 6 s ≡ firstAction sh
-  first-action = omega (arith, first-node, next-first s (is .framed) 5)
+  first-action = omega (arith, first-node, next-first s 5)
 
   -- ---- amounts
 
@@ -149,48 +123,23 @@ module _ (s : List ℕ) (sh : Shape) (is : IsShape s sh) where
 
   -- ---- whole lists, by the numbers of their things
 
-  placed : {A : Type 0} (f : List ℕ → A) (g : ℕ → A) (k n at : ℕ) → n ≡ howMany k s → firstOf k s ≡ at → ((i : ℕ) → i < n → f (recordAt s (at + i)) ≡ g i) →
-      map f (ofKind k s) ≡ map g (upto n)
-  placed f g k n at e d h =
-      read-things s (is .framed) f k
-      ∙ (λ j. map (λ i. f (recordAt s (d j + i))) (upto (sym e j)))
-      ∙ alike-upto (λ i. f (recordAt s (at + i))) g n h
-
   pub initial-are : readCharts s .initial ≡ map (initialAt s sh) (upto (sh .charts))
   initial-are =
-      placed (λ r. two r 2) (initialAt s sh) 1 (sh .charts) 0 (is .charts) first-chart
+      placed 1 chartLimits s (is .framed) (λ r. two r 2) (initialAt s sh) 1 (sh .charts) 0 (is .charts) first-chart
       (λ i l. two-record s (0 + i) 2 (omega arith) ∙ ap (λ n. two s (16 * n + 2)) (zero-add i))
 
   pub homes-are : readCharts s .homes ≡ map (homeAt s sh) (upto (sh .states))
-  homes-are = placed (λ r. byte r 1) (homeAt s sh) 2 (sh .states) (firstState sh) (is .states) first-state (λ i l. byte-record s (firstState sh + i) 1 (omega arith))
+  homes-are = placed 1 chartLimits s (is .framed) (λ r. byte r 1) (homeAt s sh) 2 (sh .states) (firstState sh) (is .states) first-state (λ i l. byte-record s (firstState sh + i) 1 (omega arith))
 
   pub transitions-are : readCharts s .transitions ≡ map (transitionAt s sh) (upto (sh .transitions))
-  transitions-are = placed readTransition (transitionAt s sh) 3 (sh .transitions) (firstTransition sh) (is .transitions) first-transition (λ i l. transition-record s (firstTransition sh + i))
+  transitions-are = placed 1 chartLimits s (is .framed) readTransition (transitionAt s sh) 3 (sh .transitions) (firstTransition sh) (is .transitions) first-transition (λ i l. transition-record s (firstTransition sh + i))
 
   pub variables-are : readCharts s .variables ≡ map (variableAt s sh) (upto (sh .variables))
-  variables-are = placed readVariable (variableAt s sh) 4 (sh .variables) (firstVariable sh) (is .variables) first-variable (λ i l. variable-record s (firstVariable sh + i))
+  variables-are = placed 1 chartLimits s (is .framed) readVariable (variableAt s sh) 4 (sh .variables) (firstVariable sh) (is .variables) first-variable (λ i l. variable-record s (firstVariable sh + i))
 
   -- a node is that of the part of the file that has the nodes' records
-  module _ (i : ℕ) (l : i < sh .nodes) where
-    byte-part : (k : ℕ) → k < 16 → byte (recordAt s (firstNode sh + i)) k ≡ byte (drop (16 * i) (nodePart s sh)) k
-    byte-part k h =
-        byte-record s (firstNode sh + i) k h
-        ∙ sym
-        (getD-drop (16 * i) (nodePart s sh) k 0
-        ∙ getD-take (16 * sh .nodes) (drop (16 * firstNode sh) s) (16 * i + k) 0 (omega arith)
-        ∙ getD-drop (16 * firstNode sh) s (16 * i + k) 0
-        ∙ ap (byte s) (let e : 16 * firstNode sh + (16 * i + k) ≡ 16 * (firstNode sh + i) + k = omega arith in e))
-
-    node-part : readNode (recordAt s (firstNode sh + i)) ≡ nodeAt (nodePart s sh) i
-    node-part =
-        let r = recordAt s (firstNode sh + i) in
-        let t = drop (16 * i) (nodePart s sh) in
-        let two-part : (k : ℕ) → k + 2 ≤ 16 → two r k ≡ two t k = λ k h. two-alike r k t k (λ d b. byte-part (k + d) (omega arith)) in
-        let four-part : four r 8 ≡ four t 8 = four-alike r 8 t 8 (λ d b. byte-part (8 + d) (omega arith)) in
-        λ j. nodeBy (byte-part 1 (omega arith) j) (two-part 2 (omega arith) j) (two-part 4 (omega arith) j) (two-part 6 (omega arith) j) (signed (2 ^ 31) (four-part j))
-
   pub nodes-are : readCharts s .nodes ≡ map (nodeAt (nodePart s sh)) (upto (sh .nodes))
-  nodes-are = placed readNode (nodeAt (nodePart s sh)) 5 (sh .nodes) (firstNode sh) (is .nodes) first-node node-part
+  nodes-are = placed 1 chartLimits s (is .framed) readNode (nodeAt (nodePart s sh)) 5 (sh .nodes) (firstNode sh) (is .nodes) first-node (node-part s (firstNode sh) (sh .nodes))
 
   -- ---- thing i
 
@@ -208,17 +157,7 @@ module _ (s : List ℕ) (sh : Shape) (is : IsShape s sh) where
 
   -- also past the end, where both are unknown
   pub node-is : (n : ℕ) → nodeOf (readCharts s .nodes) n ≡ nodeAt (nodePart s sh) n
-  unfolding caseOf
-  node-is n = go (ltb n (sh .nodes)) refl
-    where
-      none-left : sh .nodes ≤ n → drop (16 * n) (nodePart s sh) ≡ []
-      none-left h = let l : length (nodePart s sh) ≤ 16 * n = omega (arith, length-take (16 * sh .nodes) (drop (16 * firstNode sh) s)) in drop-of-length-le (nodePart s sh) l
-
-      go : (b : Bool) → ltb n (sh .nodes) ≡ b → nodeOf (readCharts s .nodes) n ≡ nodeAt (nodePart s sh) n
-      go true e = ap (λ l. getD l n unknown) nodes-are ∙ getD-upto (nodeAt (nodePart s sh)) unknown (sh .nodes) n (ltb-true n (sh .nodes) e)
-      go false e =
-          let h : sh .nodes ≤ n = ltb-false n (sh .nodes) e in
-          List·getD-eq-default (readCharts s .nodes) unknown (omega (arith, length-nodes)) ∙ sym (ap readNode (none-left h))
+  node-is = node-lookup s (firstNode sh) (sh .nodes) (readCharts s .nodes) length-nodes nodes-are
 
   -- the same, as lookups
   pub lookup-is : nodeOf (readCharts s .nodes) ≡ nodeAt (nodePart s sh)
@@ -241,7 +180,7 @@ module _ (s : List ℕ) (sh : Shape) (is : IsShape s sh) where
         here r = eqb (byte r 1) place
 
         records-are : ofKind 6 s ≡ map (λ i. recordAt s (firstAction sh + i)) (upto (sh .actions))
-        records-are = things s (is .framed) 6 ∙ (λ j. map (λ i. recordAt s (first-action j + i)) (upto (sym (is .actions) j)))
+        records-are = things 1 chartLimits s (is .framed) 6 ∙ (λ j. map (λ i. recordAt s (first-action j + i)) (upto (sym (is .actions) j)))
 
     module _ (p : ℕ × Deed → Bool) where
       pub all-actions : all p (readActions place s) ≡ all (λ i. not (eqb (placeAt s sh i) place) || p (actionAt s sh i)) (upto (sh .actions))

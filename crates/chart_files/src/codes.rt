@@ -31,21 +31,21 @@ fn transition_in_code(r: &[u8]) -> bool
         & trigger_in_code(code, byte_at(r, 7), u32_at(r, 8))
 }
 
-fn variable_in_code(r: &[u8]) -> bool
+pub fn variable_in_code(r: &[u8]) -> bool
     ensures { λ t. ⌜ t ≡ variableInCode (now (r .entry)) ⌝ }
 {
     let start = i16_at(r, 6);
     (i16_at(r, 2) <= start) & (start <= i16_at(r, 4))
 }
 
-fn node_in_code(r: &[u8]) -> bool
+pub fn node_in_code(r: &[u8]) -> bool
     ensures { λ t. ⌜ t ≡ nodeInCode (now (r .entry)) ⌝ }
 {
     let operator = byte_at(r, 1);
     ((1 <= operator) & (operator <= 8)) | ((16 <= operator) & (operator <= 21))
 }
 
-fn deed_in_code(code: u8, x: u8) -> bool
+pub fn deed_in_code(code: u8, x: u8) -> bool
     ensures { λ t. ⌜ t ≡ deedInCode code x ⌝ }
 {
     (1 <= code) & (code <= 2) & ((code != 2) | (x <= 31))

@@ -1,13 +1,13 @@
 // The fields of a chart file's things, by their numbers. A byte past the end counts as 0, so every function takes any bytes.
 ghost use mathlib.Core.Path.{_≡_};
 ghost use Prim.Native.Nat.{_+_, _*_, _<_, _^_};
-ghost use Rattle.records.specs.Bytes.{byte, two, four, two±};
-ghost use Rattle.chart_files.specs.Places.{firstTransition, firstVariable, firstNode, firstAction, homeAt, transitionAt, variableAt, placeAt, actionAt, nodePart};
+ghost use Rattle.records.specs.Bytes.{byte, two, four};
+ghost use Rattle.model.specs.ChartSet.{readGuard, readDeed};
+ghost use Rattle.chart_files.specs.Places.{firstTransition, firstVariable, firstNode, homeAt, transitionAt, placeAt, actionAt, nodePart};
 ghost use Rattle.chart_files.specs.Shape.{IsShape};
 ghost use Rattle.chart_files.specs.Parts.{triggerFor, guardFor, deedFor};
 use super::Shape;
 use records::byte_at;
-use records::i16_at;
 use records::u16_at;
 use records::u32_at;
 
@@ -48,21 +48,15 @@ pub fn first_node(shape: Shape) -> usize
     first_variable(shape) + (shape.variables as usize)
 }
 
-pub fn first_action(shape: Shape) -> usize
-    ensures { λ r. ⌜ r ≡ firstAction shape ⌝ }
-{
-    first_node(shape) + (shape.nodes as usize)
-}
-
 // A field of record n, from its byte k on.
-fn byte_in(s: &[u8], n: usize, k: usize) -> u8
+pub fn byte_in(s: &[u8], n: usize, k: usize) -> u8
     requires { ⌜ (n < 2 ^ 20) × (k < 16) ⌝ }
     ensures { λ r. ⌜ r ≡ byte (now (s .entry)) (16 * n + k) ⌝ }
 {
     byte_at(s, 16 * n + k)
 }
 
-fn u16_in(s: &[u8], n: usize, k: usize) -> u16
+pub fn u16_in(s: &[u8], n: usize, k: usize) -> u16
     requires { ⌜ (n < 2 ^ 20) × (k < 16) ⌝ }
     ensures { λ r. ⌜ r ≡ two (now (s .entry)) (16 * n + k) ⌝ }
 {
@@ -74,13 +68,6 @@ fn u32_in(s: &[u8], n: usize, k: usize) -> u32
     ensures { λ r. ⌜ r ≡ four (now (s .entry)) (16 * n + k) ⌝ }
 {
     u32_at(s, 16 * n + k)
-}
-
-fn i16_in(s: &[u8], n: usize, k: usize) -> i16
-    requires { ⌜ (n < 2 ^ 20) × (k < 16) ⌝ }
-    ensures { λ r. ⌜ r ≡ two± (now (s .entry)) (16 * n + k) ⌝ }
-{
-    i16_at(s, 16 * n + k)
 }
 
 pub fn initial_of(s: &[u8], chart: u16) -> u16
@@ -137,58 +124,25 @@ pub fn trigger_of(s: &[u8], shape: Shape, t: u16) -> Trigger
     }
 }
 
-pub fn guard_of(s: &[u8], shape: Shape, t: u16) -> Guard
-    ensures { λ r. ⌜ guardFor r ≡ transitionAt (now (s .entry)) shape t .guard ⌝ }
+// 65,535 is the number of no node.
+pub fn guard_by(node: u16) -> Guard
+    ensures { λ r. ⌜ guardFor r ≡ readGuard node ⌝ }
 {
-    let n = u16_in(
-        s,
-        (shape.charts as usize) + (shape.states as usize) + (t as usize),
-        12,
-    );
-    if n == 65535 {
+    if node == 65535 {
         Guard::Free
     } else {
-        Guard::Node(n)
+        Guard::Node(node)
     }
 }
 
-pub fn lowest_of(s: &[u8], shape: Shape, v: u16) -> i16
-    ensures { λ r. ⌜ r ≡ variableAt (now (s .entry)) shape v .lowest ⌝ }
+pub fn guard_of(s: &[u8], shape: Shape, t: u16) -> Guard
+    ensures { λ r. ⌜ guardFor r ≡ transitionAt (now (s .entry)) shape t .guard ⌝ }
 {
-    i16_in(
+    guard_by(u16_in(
         s,
-        (shape.charts as usize)
-            + (shape.states as usize)
-            + (shape.transitions as usize)
-            + (v as usize),
-        2,
-    )
-}
-
-pub fn highest_of(s: &[u8], shape: Shape, v: u16) -> i16
-    ensures { λ r. ⌜ r ≡ variableAt (now (s .entry)) shape v .highest ⌝ }
-{
-    i16_in(
-        s,
-        (shape.charts as usize)
-            + (shape.states as usize)
-            + (shape.transitions as usize)
-            + (v as usize),
-        4,
-    )
-}
-
-pub fn start_of(s: &[u8], shape: Shape, v: u16) -> i16
-    ensures { λ r. ⌜ r ≡ variableAt (now (s .entry)) shape v .start ⌝ }
-{
-    i16_in(
-        s,
-        (shape.charts as usize)
-            + (shape.states as usize)
-            + (shape.transitions as usize)
-            + (v as usize),
-        6,
-    )
+        (shape.charts as usize) + (shape.states as usize) + (t as usize),
+        12,
+    ))
 }
 
 // The place of action i: 1 entry, 2 exit, 3 transition.
@@ -222,6 +176,17 @@ pub fn owner_of(s: &[u8], shape: Shape, i: u16) -> u16
     )
 }
 
+// Code 2 raises, another assigns.
+pub fn deed_by(code: u8, x: u8, node: u16) -> Deed
+    ensures { λ r. ⌜ deedFor r ≡ readDeed code x node ⌝ }
+{
+    if code == 2 {
+        Deed::Raise(x)
+    } else {
+        Deed::Assign(x, node)
+    }
+}
+
 pub fn deed_of(s: &[u8], shape: Shape, i: u16) -> Deed
     ensures { λ r. ⌜ deedFor r ≡ actionAt (now (s .entry)) shape i .1 ⌝ }
 {
@@ -231,11 +196,7 @@ pub fn deed_of(s: &[u8], shape: Shape, i: u16) -> Deed
         + (shape.variables as usize)
         + (shape.nodes as usize)
         + (i as usize);
-    if byte_in(s, n, 4) == 2 {
-        Deed::Raise(byte_in(s, n, 5))
-    } else {
-        Deed::Assign(byte_in(s, n, 5), u16_in(s, n, 6))
-    }
+    deed_by(byte_in(s, n, 4), byte_in(s, n, 5), u16_in(s, n, 6))
 }
 
 // The part of a file that has the nodes' records, one after the other.

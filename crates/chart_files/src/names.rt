@@ -46,7 +46,7 @@ fn homes_named(s: &[u8], shape: Shape) -> bool
     true
 }
 
-fn guard_named(guard: Guard, nodes: u16) -> bool
+pub fn guard_named(guard: Guard, nodes: u16) -> bool
     ensures { λ r. ⌜ r ≡ guardNamed nodes (guardFor guard) ⌝ }
 {
     match guard {
@@ -76,7 +76,7 @@ fn transitions_named(s: &[u8], shape: Shape) -> bool
     true
 }
 
-fn deed_named(deed: Deed, variables: u16, nodes: u16) -> bool
+pub fn deed_named(deed: Deed, variables: u16, nodes: u16) -> bool
     ensures { λ r. ⌜ r ≡ deedNamed variables nodes (deedFor deed) ⌝ }
 {
     match deed {

@@ -8,7 +8,7 @@ use expressions::nodes::node_at;
 use records::byte_at;
 
 // Bytes from a up to e, not e itself.
-fn zeros(r: &[u8], a: usize, e: usize) -> bool
+pub fn zeros(r: &[u8], a: usize, e: usize) -> bool
     ensures { λ t. ⌜ t ≡ F.zeros a e (now (r .entry)) ⌝ }
 {
     let mut k = a;
@@ -34,7 +34,7 @@ fn transition_clean(r: &[u8]) -> bool
     }
 }
 
-fn node_clean(r: &[u8]) -> bool
+pub fn node_clean(r: &[u8]) -> bool
     ensures { λ t. ⌜ t ≡ F.unusedAreZero (F.unusedNode (now (r .entry))) (now (r .entry)) ⌝ }
 {
     let rest = zeros(r, 12, 16);

@@ -11,6 +11,7 @@ ghost use Rattle.expressions.specs.Uses.{addUses};
 ghost use Rattle.model.specs.ChartSet.{readCharts};
 ghost use Rattle.model.specs.ChartFile as file;
 ghost use Rattle.chart_files.specs.Shape.{IsShape};
+ghost use Rattle.chart_files.specs.Parts.{guardFor, deedFor};
 ghost use Rattle.chart_files.specs.Used.{guardAt, assignedAt, truths, numbers};
 use super::Shape;
 use super::fields::Deed;
@@ -25,13 +26,19 @@ use expressions::sorts::is_truth;
 use expressions::sorts::operands_fit;
 
 // A guard is a truth.
-fn guard_fits(s: &[u8], shape: Shape, nodes: &[u8], t: u16) -> bool
-    ensures { λ r. ⌜ r ≡ truths (nodeAt (now (nodes .entry))) (guardAt (now (s .entry)) shape t) ⌝ }
+pub fn guard_sorted(guard: Guard, nodes: &[u8]) -> bool
+    ensures { λ r. ⌜ r ≡ truths (nodeAt (now (nodes .entry))) (file.guardNodes (guardFor guard)) ⌝ }
 {
-    match guard_of(s, shape, t) {
+    match guard {
         Guard::Free => true,
         Guard::Node(n) => is_truth(nodes, n),
     }
+}
+
+fn guard_fits(s: &[u8], shape: Shape, nodes: &[u8], t: u16) -> bool
+    ensures { λ r. ⌜ r ≡ truths (nodeAt (now (nodes .entry))) (guardAt (now (s .entry)) shape t) ⌝ }
+{
+    guard_sorted(guard_of(s, shape, t), nodes)
 }
 
 fn guards_fit(s: &[u8], shape: Shape) -> bool
@@ -51,13 +58,19 @@ fn guards_fit(s: &[u8], shape: Shape) -> bool
 }
 
 // An assigned node is a number.
-fn assigned_fits(s: &[u8], shape: Shape, nodes: &[u8], i: u16) -> bool
-    ensures { λ r. ⌜ r ≡ numbers (nodeAt (now (nodes .entry))) (assignedAt (now (s .entry)) shape i) ⌝ }
+pub fn deed_sorted(deed: Deed, nodes: &[u8]) -> bool
+    ensures { λ r. ⌜ r ≡ numbers (nodeAt (now (nodes .entry))) (file.assignedNodes (deedFor deed)) ⌝ }
 {
-    match deed_of(s, shape, i) {
+    match deed {
         Deed::Assign(_, n) => is_number(nodes, n),
         Deed::Raise(_) => true,
     }
+}
+
+fn assigned_fits(s: &[u8], shape: Shape, nodes: &[u8], i: u16) -> bool
+    ensures { λ r. ⌜ r ≡ numbers (nodeAt (now (nodes .entry))) (assignedAt (now (s .entry)) shape i) ⌝ }
+{
+    deed_sorted(deed_of(s, shape, i), nodes)
 }
 
 // All actions have a place, so no place is asked for.

@@ -14,8 +14,9 @@ use Rattle.chart_files.specs.declared.Shape.{Shape}
 use Rattle.chart_files.specs.Places.{placeAt, actionAt}
 use Rattle.chart_files.proofs.Readings.{of-actions}
 use Rattle.charts.specs.Accepted.{Accepted}
-use Rattle.charts.specs.Tables.{keyFor, keyed, Placed}
-use Rattle.charts.proofs.Earliest.{keep-alike}
+use Rattle.machines.specs.Chains.{Chained}
+use Rattle.charts.specs.Tables.{keyFor, keyAt, keyed, HasActions, Placed}
+use Rattle.machines.proofs.Earliest.{keep-alike}
 use Rattle.charts.proofs.Sound.{owner-placed}
 
 -- keys tell places and owners apart
@@ -61,6 +62,13 @@ key-tells p o q w x y = go (eqb (keyFor p o) (keyFor q w)) refl (eqb p q) refl (
         sym n ∙ e
 
 module _ (s : List ℕ) (sh : Shape) (ok : Accepted s sh) where
+  pub key-within : (a : ℕ) → a < sh .actions → keyAt s sh a < 512
+  key-within a h = key-small (placeAt s sh a) (actionAt s sh a .0) (owner-placed s sh ok a h)
+
+  -- an action has a key, so all actions are in chains
+  pub chained : (first next : List ℕ) → HasActions s sh first next → Chained (keyAt s sh) 512 (sh .actions) first next
+  chained first next is = record { first-of = is .first-of; next-of = λ a h _. is .next-of a h }
+
   -- the deeds of an owner are those of its key
   pub of-key : (place owner : ℕ) → Placed place owner →
       of owner (readActions place s) ≡ map (λ a. actionAt s sh a .1) (keep (keyed s sh (keyFor place owner)) (upto (sh .actions)))

@@ -19,10 +19,10 @@ use Rattle.chart_files.proofs.ListLaws.{keep-keep}
 use Rattle.chart_files.proofs.Readings.{transition-is, length-transitions, most-transitions}
 use Rattle.charts.specs.Accepted.{Accepted}
 use Rattle.charts.specs.Tables.{headOr, earliest, named, leaves, HasRows}
-use Rattle.charts.proofs.Earliest.{keep-alike, only-one}
+use Rattle.machines.proofs.Earliest.{keep-alike, only-one}
 use Rattle.charts.proofs.Sound.{all-kept, priority-known, differ}
 use Rattle.charts.proofs.TableLaws.{leaving, Rows}
-use Rattle.charts.proofs.Sorting.{sorted-buckets}
+use Rattle.model.proofs.Sorting.{sorted-buckets}
 
 all-from : (p : ℕ → Bool) (k n : ℕ) → ((t : ℕ) → k ≤ t → t < k + n → p t ≡ true) → all p (from k n) ≡ true
 unfolding all from
@@ -91,12 +91,13 @@ module _ (cs : ChartSet) (st : ℕ) where
           kept-apart (λ t. eqb (t .source) st) (λ t. t .priority) noTransition (cs .transitions) a b l h (x .0) (y .0) differ
           (eqb-true _ q (x .1) ∙ sym (eqb-true _ q (y .1)))
 
+      -- a place of the tables names all of its priority
+      pub place-named : (q : ℕ) → keep (leaves cs st q) (upto (length (cs .transitions))) ≡ named (earliest (leaves cs st q) 0 (length (cs .transitions)))
+      place-named q = rw sub-zero at (only-one (leaves cs st q) 0 (length (cs .transitions)) small (leaves-one q))
+
       -- the row is what the tables name, place by place
       pub row-named : row cs st ≡ gather (λ q. named (earliest (leaves cs st q) 0 (length (cs .transitions)))) (from 1 16)
-      row-named = row-by-priority ∙ (λ i. gather (λ q. slot q i) (from 1 16))
-        where
-          slot : (q : ℕ) → keep (leaves cs st q) (upto (length (cs .transitions))) ≡ named (earliest (leaves cs st q) 0 (length (cs .transitions)))
-          slot q = rw sub-zero at (only-one (leaves cs st q) 0 (length (cs .transitions)) small (leaves-one q))
+      row-named = row-by-priority ∙ (λ i. gather (λ q. place-named q i) (from 1 16))
 
 -- ---- the tables of an accepted file
 
@@ -116,14 +117,22 @@ module _ (s : List ℕ) (sh : Shape) (ok : Accepted s sh) where
       (λ i a b. let m : i < sh .transitions = omega arith in λ k. eqb (sym (transition-is s sh (ok .shape) i m) k .source) st && eqb (sym (transition-is s sh (ok .shape) i m) k .priority) (j + 1))
       ∙ ap (λ n. keep (leaves (readCharts s) st (j + 1)) (from 0 n)) (sym (length-transitions s sh (ok .shape))))
 
-  -- a known state's row is what the tables name
-  pub row-of : (st : ℕ) → st < sh .states → row (readCharts s) st ≡ gather (λ q. named (earliest (leaves (readCharts s) st q) 0 (length (readCharts s .transitions)))) (from 1 16)
-  row-of st h =
-      row-named (readCharts s) st
-      (λ t l.
+  priorities : (t : ℕ) → t < length (readCharts s .transitions) → (1 ≤ transition (readCharts s) t .priority) × (transition (readCharts s) t .priority ≤ 16)
+  priorities t l =
       let m : t < sh .transitions = omega (arith, length-transitions s sh (ok .shape)) in
       let e : transition (readCharts s) t ≡ transitionAt s sh t = transition-is s sh (ok .shape) t m in
       let k : (1 ≤ transitionAt s sh t .priority) × (transitionAt s sh t .priority ≤ 16) = priority-known s sh ok t m in
       let p : transition (readCharts s) t .priority ≡ transitionAt s sh t .priority = ap (λ x. x .priority) e in
-      (omega arith, omega arith))
-      (differ s sh ok st h) (omega (arith, length-transitions s sh (ok .shape), most-transitions s sh (ok .shape)))
+      (omega arith, omega arith)
+
+  few : length (readCharts s .transitions) < 65536
+  few = omega (arith, length-transitions s sh (ok .shape), most-transitions s sh (ok .shape))
+
+  -- a known state's row is what the tables name
+  pub row-of : (st : ℕ) → st < sh .states → row (readCharts s) st ≡ gather (λ q. named (earliest (leaves (readCharts s) st q) 0 (length (readCharts s .transitions)))) (from 1 16)
+  row-of st h = row-named (readCharts s) st priorities (differ s sh ok st h) few
+
+  -- and a place of it all of its priority
+  pub place-of : (st q : ℕ) → st < sh .states →
+      keep (leaves (readCharts s) st q) (upto (length (readCharts s .transitions))) ≡ named (earliest (leaves (readCharts s) st q) 0 (length (readCharts s .transitions)))
+  place-of st q h = place-named (readCharts s) st priorities (differ s sh ok st h) few q

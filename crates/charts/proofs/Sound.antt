@@ -25,11 +25,12 @@ use Rattle.model.specs.ChartSet.{Transition, noTransition, readDeed, readAction
 use Rattle.model.specs.Charts.{ticks}
 use Rattle.model.specs.ChartFile.{between, isEvent, isDuration, transitionInCode, actionInCode, variableInCode, nodeInCode, deedInCode, inCode, chartLimits, insideCharts, initialFits, atMostEight, allNamed, actionsNamed, deedNamed, guardNamed, structured, prioritiesDiffer, ticking, chartTests}
 use Rattle.chart_files.specs.declared.Shape.{Shape}
-use Rattle.chart_files.specs.Places.{firstTransition, firstAction, transitionAt, placeAt, actionAt}
+use Rattle.chart_files.specs.Places.{triggerBy, firstTransition, firstAction, transitionAt, placeAt, actionAt}
 use Rattle.chart_files.proofs.Readings.{first-transition, first-action, transition-is, length-homes, length-transitions, length-variables, most-states, most-transitions, all-actions}
 use Rattle.charts.specs.Accepted.{Accepted}
 use Rattle.charts.specs.Tables.{Placed}
-use Rattle.charts.specs.Replies.{Holdable, Doable, triggerBy}
+use Rattle.charts.specs.Replies.{Holdable, Doable}
+use Rattle.machines.proofs.Possible.{all-upto}
 
 -- a list of tests of which none applies
 lowest-none : (xs : List (Refusal × Bool)) → lowest xs ≡ none → all (λ x. not (x .1)) xs ≡ true
@@ -57,19 +58,6 @@ module _ {A : Type 0} where
       go : (b : Bool) → test x ≡ b → all q (keep test xs) ≡ true → all q (cond b (x ∷ keep test xs) (keep test xs)) ≡ true
       go true e ih = rw (sym (same x e) ∙ and-true (p x) (all p xs) h .0, ih)
       go false e ih = ih
-
--- a test of the numbers below n
-all-from : (p : ℕ → Bool) (j n k : ℕ) → all p (from j n) ≡ true → j ≤ k → k < j + n → p k ≡ true
-unfolding all from
-all-from p j zero k t a b = absurd (omega arith)
-all-from p j (suc n) k t a b = go (eqb j k) refl (λ l. all-from p (suc j) n k (and-true (p j) (all p (from (suc j) n)) t .1) l (omega arith))
-  where
-    go : (o : Bool) → eqb j k ≡ o → (suc j ≤ k → p k ≡ true) → p k ≡ true
-    go true q ih = rw (sym (eqb-true j k q)) (and-true (p j) (all p (from (suc j) n)) t .0)
-    go false q ih = let d : j ≡ k → ⊥ = eqb-false j k q in ih (omega arith)
-
-pub all-upto : (p : ℕ → Bool) (n k : ℕ) → all p (upto n) ≡ true → k < n → p k ≡ true
-all-upto p n k t h = all-from p 0 n k t (omega arith) (omega arith)
 
 -- a trigger of a known event, or of a tick at least, can be tested
 holdable : (code e ms : ℕ) (d : Bool) → caseOf code ((1, isEvent e) ∷ (2, d) ∷ (3, d) ∷ []) true ≡ true → ticking (triggerBy code e ms) ≡ true → Holdable (triggerBy code e ms)

@@ -23,7 +23,7 @@ use Rattle.chart_files.proofs.Readings.{transition-is, length-transitions, most
 use Rattle.charts.specs.Accepted.{Accepted}
 use Rattle.charts.specs.Tables.{earliest, named, leaves, keyed}
 use Rattle.charts.specs.StepOf.{slotHolds, entered}
-use Rattle.charts.proofs.Earliest.{keep-alike, one-found}
+use Rattle.machines.proofs.Earliest.{keep-alike, one-found}
 use Rattle.charts.proofs.RowLaws.{row-of}
 use Rattle.charts.proofs.Sound.{source-known, target-known}
 use Rattle.charts.proofs.ActionLaws.{of-key}

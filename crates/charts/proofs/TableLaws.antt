@@ -1,4 +1,4 @@
--- The tables as they are filled, from the last number down to the first: what stands in them is the earliest so far. Assumes nothing.
+-- The rows as they are filled, from the last number down to the first: what stands in them is the earliest so far. Assumes nothing.
 use mathlib.Core.Path.{_≡_, refl, sym, ap, _∙_}
 use mathlib.Core.Bool.{Bool, true, false, cond, _&&_}
 use mathlib.Core.List.{List, []}
@@ -9,7 +9,7 @@ use lib.ListN.{length, getD, set, replicate, length-set, length-replicate, getD-
 use lib.Seq.{getD-set-same, getD-set-other}
 use borrow.Author.Tests.{eqb-true, eqb-false}
 use Rattle.charts.specs.Tables.{earliest}
-use Rattle.charts.proofs.Earliest.{earliest-one, earliest-none}
+use Rattle.machines.proofs.Earliest.{earliest-one, earliest-none}
 
 -- ---- rows: each number u has a source and a priority
 
@@ -75,54 +75,3 @@ module _ (source priority : ℕ → ℕ) (size : ℕ) where
         widths : (st : ℕ) → st < 128 → (b : Bool) → eqb st i ≡ b → length (getD next-rows st []) ≡ 16
         widths st h true e = ap (λ m. length (getD next-rows m [])) (eqb-true st i e) ∙ ap length row-here ∙ wide-here
         widths st h false e = ap length (row-there st (eqb-false st i e)) ∙ so-far .wide st h
-
--- ---- actions: each number a has a key
-
-module _ (key : ℕ → ℕ) (size : ℕ) where
-  abbrev pub with-key : ℕ → ℕ → Bool
-  with-key k a = eqb (key a) k
-
-  -- filled down to a
-  pub record Chains (first next : List ℕ) (a : ℕ) : Type 0 where
-    pub bound : a ≤ size
-    pub keys : length first ≡ 512
-    pub numbers : length next ≡ 512
-    pub firsts : (k : ℕ) → k < 512 → getD first k 0 ≡ earliest (with-key k) a (size - a)
-    pub nexts : (b : ℕ) → a ≤ b → b < size → getD next b 0 ≡ earliest (with-key (key b)) (b + 1) (size - (b + 1))
-
-  pub chains-none : Chains (replicate {A = ℕ} 512 65535) (replicate {A = ℕ} 512 65535) size
-  chains-none = record {
-    bound = omega arith;
-    keys = length-replicate {A = ℕ} 512 65535;
-    numbers = length-replicate {A = ℕ} 512 65535;
-    firsts = λ k h. getD-replicate {A = ℕ} 512 k 65535 0 h ∙ sym (earliest-none (with-key k) size);
-    nexts = λ b l h. absurd (omega arith);
-  }
-
-  pub chains-more : (first next : List ℕ) (u i : ℕ) → Chains first next (u + 1) → size ≤ 512 → key u ≡ i → i < 512 →
-      Chains (set first i u) (set next u (getD first i 0)) u
-  chains-more first next u i so-far small e h = record {
-    bound = omega (arith, so-far .bound);
-    keys = length-set first i u ∙ so-far .keys;
-    numbers = length-set next u (getD first i 0) ∙ so-far .numbers;
-    firsts = λ k l. one k l (eqb (key u) k) refl ∙ sym (earliest-one (with-key k) u size (omega (arith, so-far .bound)));
-    nexts = λ b l m. other b l m (eqb b u) refl;
-  }
-    where
-      one : (k : ℕ) → k < 512 → (o : Bool) → eqb (key u) k ≡ o → getD (set first i u) k 0 ≡ cond o u (earliest (with-key k) (u + 1) (size - (u + 1)))
-      one k l true d =
-          let x : k ≡ i = sym (eqb-true (key u) k d) ∙ e in
-          ap (λ m. getD (set first i u) m 0) x ∙ getD-set-same first i u 0 (omega (arith, so-far .keys))
-      one k l false d = getD-set-other first i k u 0 (λ q. eqb-false (key u) k d (e ∙ sym q)) ∙ so-far .firsts k l
-
-      other : (b : ℕ) → u ≤ b → b < size → (o : Bool) → eqb b u ≡ o → getD (set next u (getD first i 0)) b 0 ≡ earliest (with-key (key b)) (b + 1) (size - (b + 1))
-      other b l m true d =
-          let x : b ≡ u = eqb-true b u d in
-          ap (λ n. getD (set next u (getD first i 0)) n 0) x
-          ∙ getD-set-same next u (getD first i 0) 0 (omega (arith, so-far .numbers, so-far .bound))
-          ∙ so-far .firsts i h
-          ∙ (λ j. earliest (with-key (sym e j)) (u + 1) (size - (u + 1)))
-          ∙ ap (λ n. earliest (with-key (key n)) (n + 1) (size - (n + 1))) (sym x)
-      other b l m false d =
-          let x : b ≡ u → ⊥ = eqb-false b u d in
-          getD-set-other next u b (getD first i 0) 0 x ∙ so-far .nexts b (omega arith) m

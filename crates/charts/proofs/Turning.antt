@@ -1,219 +1,42 @@
--- A turn, and the turns of a cycle, one at a time. Assumes nothing.
-use mathlib.Core.Path.{_≡_, refl, sym, ap, _∙_, subst}
-use mathlib.Core.Bool.{Bool, true, false, not, cond, _&&_}
+-- Turns of chart sets: what the laws of turns ask of a machine. Assumes nothing.
+use mathlib.Core.Path.{_≡_}
+use mathlib.Core.Bool.{true}
 use mathlib.Core.List.{List}
-use Prim.Native.Nat.{ℕ, suc, _+_, _-_, _≤_, _<_}
+use Prim.Native.Nat.{ℕ, _+_, _-_, _≤_, _<_}
 use native.Mathlib.Omega.{arith}
-use borrow.Author.Tests.{le-leb, lt-leb, leb-true, eqb-false}
-use lib.Dec.{leb, eqb}
+use borrow.Author.Tests.{leb-true}
+use lib.Dec.{leb}
 use lib.ListN.{getD}
-use Rattle.records.specs.Refusal.{Refusal, impossible-run, misplaced-events, cycles-done, Out, val, fault, _>>=_, _>>_, fault-if}
-use Rattle.records.proofs.FramingLaws.{and-true}
-use Rattle.model.specs.Outcome.{Outcome, settled}
-use Rattle.model.specs.Runs.{Run, Answer, time, Machine, parts, allPlaces, placesPossible, variablesPossible, timersPossible, positionPossible, countPossible, eventsPossible, unusedZero, possible, checked, give, moved, timePassed, stepped, turn, turns, unless-stopped, ended, onto, cycle}
+use Rattle.records.specs.Refusal.{val}
+use Rattle.model.specs.Runs.{Run, Answer, parts, timersPossible, checked, give, stepped}
 use Rattle.model.specs.ChartSet.{readCharts}
 use Rattle.model.specs.Charts.{chartStep, charts}
 use Rattle.chart_files.specs.declared.Shape.{Shape}
 use Rattle.chart_files.specs.Shape.{IsShape}
 use Rattle.chart_files.proofs.Readings.{length-initial}
-use Rattle.charts.specs.TurnOf.{Ready, after, finish}
-use Rattle.charts.proofs.Sound.{all-upto}
-use Rattle.charts.proofs.Kept.{KeptRun, step-kept}
+use Rattle.machines.proofs.Possible.{all-upto}
+use Rattle.machines.proofs.Turning as T
+use Rattle.charts.specs.TurnOf.{Ready}
+use Rattle.charts.proofs.Kept.{step-kept}
 
--- ---- what was settled
-
--- the answer with what is lent after it; of a fault nothing is told of what was lent
-abbrev pub unsettled : {A L : Type 0} → Outcome A L → Out (A × L)
-unsettled x = x .answer >>= λ a. val (a, x .lent)
-
-pub unsettle : {A L : Type 0} (l : L) (o : Out (A × L)) → unsettled (settled l o) ≡ o
-unsettle l (val x) = refl
-unsettle l (fault w) = refl
-
-pub val-is : {A : Type 0} {a b : A} → val a ≡ val b → a ≡ b
-val-is e = cc
-
--- ---- one turn of a chart set
-
-module _ (s : List ℕ) (sh : Shape) (is : IsShape s sh) (r : Run) where
-  -- the turn by the position's test
-  abbrev steppedBy : Bool → Out (Answer × Run)
-  steppedBy b =
-      cond b
-      (chartStep (readCharts s) (r .world .position - 1) r >>= λ x. val (x .0, moved (x .1)))
-      (val (time, timePassed (charts (readCharts s)) r))
-
-  pub at-chart : r .world .position ≤ sh .charts →
-      stepped (charts (readCharts s)) r ≡ (chartStep (readCharts s) (r .world .position - 1) r >>= λ x. val (x .0, moved (x .1)))
-  at-chart h = ap steppedBy (ap (leb (r .world .position)) (length-initial s sh is) ∙ le-leb (r .world .position) (sh .charts) h)
-
-  pub at-time : sh .charts < r .world .position → stepped (charts (readCharts s)) r ≡ val (time, timePassed (charts (readCharts s)) r)
-  at-time h = ap steppedBy (ap (leb (r .world .position)) (length-initial s sh is) ∙ lt-leb (r .world .position) (sh .charts) h)
-
-  -- a chart's turn from its step
-  module _ (h : r .world .position ≤ sh .charts) where
-    pub chart-value : (l : Run) (a : Answer) (q : Run) → chartStep (readCharts s) (r .world .position - 1) r ≡ val (a, q) →
-        settled l (stepped (charts (readCharts s)) r) ≡ record { answer = val a; lent = moved q }
-    chart-value l a q e = ap (settled l) (at-chart h ∙ ap (λ o. o >>= λ x. val (x .0, moved (x .1))) e)
-
-    pub chart-fault : (l : Run) (w : Refusal) → chartStep (readCharts s) (r .world .position - 1) r ≡ fault w →
-        settled l (stepped (charts (readCharts s)) r) ≡ record { answer = fault w; lent = l }
-    chart-fault l w e = ap (settled l) (at-chart h ∙ ap (λ o. o >>= λ x. val (x .0, moved (x .1))) e)
-
-    pub chart-place : (a : Answer) (q : Run) → chartStep (readCharts s) (r .world .position - 1) r ≡ val (a, q) → q .world .position ≡ r .world .position
-    chart-place a q e = subst (KeptRun r) e (step-kept (readCharts s) (r .world .position - 1) r) .0
-
--- ---- a run that passed the checks
-
-none-failed : (a b c : Bool) → (fault-if (not a) impossible-run >> (fault-if b misplaced-events >> fault-if c cycles-done)) ≡ val (tt {0}) → (a ≡ true) × (c ≡ false)
-none-failed false b c e = let z : _≡_ {A = ℕ} 0 1 = cc in absurd (omega arith)
-none-failed true true c e = let z : _≡_ {A = ℕ} 0 1 = cc in absurd (omega arith)
-none-failed true false true e = let z : _≡_ {A = ℕ} 0 1 = cc in absurd (omega arith)
-none-failed true false false e = (refl, refl)
-
-module _ (m : Machine) (r : Run) where
-  -- of the clauses of 12: timers, position and count
-  some-clauses : possible m r ≡ true → (timersPossible m r ≡ true) × (positionPossible m (r .world) ≡ true) × (countPossible m (r .world) ≡ true)
-  some-clauses e =
-      let p₁ = allPlaces m r && placesPossible m r && variablesPossible m r in
-      let u = and-true (p₁ && timersPossible m r && positionPossible m (r .world) && countPossible m (r .world) && eventsPossible m (r .world)) (unusedZero m r) e in
-      let v = and-true (p₁ && timersPossible m r && positionPossible m (r .world) && countPossible m (r .world)) (eventsPossible m (r .world)) (u .0) in
-      let w = and-true (p₁ && timersPossible m r && positionPossible m (r .world)) (countPossible m (r .world)) (v .0) in
-      let x = and-true (p₁ && timersPossible m r) (positionPossible m (r .world)) (w .0) in
-      (and-true p₁ (timersPossible m r) (x .0) .1, x .1, w .1)
-
-  -- past position 1 a cycle is under way, and at position 1 check 14 leaves one to do
-  cycle-left : countPossible m (r .world) ≡ true → (eqb (r .world .position) 1 && eqb (r .world .cycles) 1_000_000) ≡ false → r .world .cycles ≤ 999_999
-  cycle-left = go (eqb (r .world .position) 1)
-    where
-      go : (b : Bool) → leb (r .world .cycles) (cond b 1_000_000 999_999) ≡ true → (b && eqb (r .world .cycles) 1_000_000) ≡ false → r .world .cycles ≤ 999_999
-      go true e d =
-          let l : r .world .cycles ≤ 1_000_000 = leb-true (r .world .cycles) 1_000_000 e in
-          let n : r .world .cycles ≡ 1_000_000 → ⊥ = eqb-false (r .world .cycles) 1_000_000 d in
-          omega arith
-      go false e d = leb-true (r .world .cycles) 999_999 e
+abbrev Young : ℕ → ℕ → ℕ → ℕ → Type 0
+Young n cycles c age = c < n → age ≤ cycles
 
 module _ (s : List ℕ) (sh : Shape) (is : IsShape s sh) where
   pub ready : (given : ℕ) (r : Run) → checked (charts (readCharts s)) given r ≡ val tt → Ready (sh .charts) (give given r)
-  ready given r e =
-      let m = charts (readCharts s) in
-      let f = none-failed (possible m r) (not (eqb (r .world .position) 1) && not (eqb given 0)) (eqb (r .world .position) 1 && eqb (r .world .cycles) 1_000_000) e in
-      let k = some-clauses m r (f .0) in
-      let p = and-true (leb 1 (r .world .position)) (leb (r .world .position) (parts m + 1)) (k .1) in
-      record {
-        begun = leb-true 1 (r .world .position) (p .0);
-        within = let l : r .world .position ≤ parts m + 1 = leb-true (r .world .position) (parts m + 1) (p .1) in omega (arith, length-initial s sh is);
-        young = (cycle-left m r (k .2) (f .1), young-of r (k .0));
-      }
+  ready given r = T.ready (charts (readCharts s)) (sh .charts) (length-initial s sh is) (Young (sh .charts)) given r young-of
     where
-      young-of : (r : Run) → timersPossible (charts (readCharts s)) r ≡ true → (c : ℕ) → c < sh .charts → getD (r .timers) c 0 ≤ r .world .cycles
-      young-of r e c h =
+      young-of : timersPossible (charts (readCharts s)) r ≡ true → (c : ℕ) → c < sh .charts → getD (r .timers) c 0 ≤ r .world .cycles
+      young-of e c h =
           leb-true (getD (r .timers) c 0) (r .world .cycles)
           (all-upto (λ j. leb (getD (r .timers) j 0) (r .world .cycles)) (parts (charts (readCharts s))) c e (omega (arith, length-initial s sh is)))
 
   -- a chart's turn leaves the run ready, at the next position
   pub ready-next : (r : Run) (y : Answer × Run) → Ready (sh .charts) r → r .world .position ≤ sh .charts → stepped (charts (readCharts s)) r ≡ val y →
       Ready (sh .charts) (y .1) × (y .1 .world .position ≡ r .world .position + 1)
-  ready-next r y h l e = go (chartStep (readCharts s) (r .world .position - 1) r) (step-kept (readCharts s) (r .world .position - 1) r) (sym (at-chart s sh is r l) ∙ e)
-    where
-      moved-on : (q : Run) → KeptRun r (val (y .0, q)) → Ready (sh .charts) (moved q) × (moved q .world .position ≡ r .world .position + 1)
-      moved-on q k = (
-        record {
-          begun = omega (arith, k .0, h .begun);
-          within = omega (arith, k .0, l);
-          young = (omega (arith, k .1, h .young .0), λ c b. omega (arith, k .1, k .2 c, h .young .1 c b));
-        },
-        ap (λ n. n + 1) (k .0),
-      )
+  ready-next r y =
+      T.ready-next (charts (readCharts s)) (sh .charts) (length-initial s sh is) (Young (sh .charts)) (λ cycles k x y h f l. omega (arith, h, f l)) r y
+      (step-kept (readCharts s) (r .world .position - 1) r)
 
-      go : (o : Out (Answer × Run)) → KeptRun r o → (o >>= λ x. val (x .0, moved (x .1))) ≡ val y → Ready (sh .charts) (y .1) × (y .1 .world .position ≡ r .world .position + 1)
-      go (fault w) k d = let z : _≡_ {A = ℕ} 0 1 = cc in absurd (omega arith)
-      go (val x) k d = subst (λ z. Ready (sh .charts) (z .1) × (z .1 .world .position ≡ r .world .position + 1)) (val-is d) (moved-on (x .1) k)
-
--- ---- a call
-
-module _ (m : Machine) (given : ℕ) (r : Run) where
-  pub turn-refused : (w : Refusal) → checked m given r ≡ fault w → turn m given r ≡ fault w
-  turn-refused w e = ap (λ c. c >> stepped m (give given r)) e
-
-  pub turn-fine : checked m given r ≡ val tt → turn m given r ≡ stepped m (give given r)
-  turn-fine e = ap (λ c. c >> stepped m (give given r)) e
-
-module _ (m : Machine) where
-  ended-more : (k : ℕ) (r₀ r : Run) → ended r₀ (turns m (suc k) r) ≡ (stepped m r >>= λ x. after m k (x .1))
-  unfolding turns ended
-  ended-more k r₀ r = go (stepped m r)
-    where
-      go : (o : Out (Answer × Run)) → ended r₀ (onto r o (turns m k)) ≡ (o >>= λ x. ended (x .1) (turns m k (x .1)))
-      go (val x) = refl
-      go (fault w) = refl
-
-  pub after-more : (k : ℕ) (r : Run) → after m (suc k) r ≡ (stepped m r >>= λ x. after m k (x .1))
-  after-more k r = ended-more k r r
-
-  pub after-none : (r : Run) → after m 0 r ≡ val r
-  unfolding turns ended
-  after-none r = refl
-
-  module _ (given : ℕ) (r : Run) where
-    pub cycle-refused : (w : Refusal) → checked m given r ≡ fault w → cycle m given r ≡ fault w
-    unfolding ended
-    cycle-refused w e = ap (λ c. finish (ended r (unless-stopped c (turns m (parts m + 2 - r .world .position) (give given r))))) e
-
-    pub cycle-fine : (k : ℕ) → checked m given r ≡ val tt → parts m + 2 - r .world .position ≡ suc k → cycle m given r ≡ finish (after m (suc k) (give given r))
-    cycle-fine k e n =
-        ap (λ c. finish (ended r (unless-stopped c (turns m (parts m + 2 - r .world .position) (give given r))))) e
-        ∙ ap (λ j. finish (ended r (turns m j (give given r)))) n
-        ∙ ap finish (ended-more k r (give given r) ∙ sym (after-more k (give given r)))
-
--- ---- the turns of a cycle, from a run on
-
--- the turn was taken, and left a run
-pub record WentOn (o : Out (Answer × Run)) (q : Run) : Type 0 where
-  pub answer : Answer
-  pub is : o ≡ val (answer, q)
-
-pub went-on : (a : Out Answer) (q : Run) (o : Out (Answer × Run)) → val tt ≡ (a >>= λ _. val (tt {0})) → o ≡ (a >>= λ x. val (x, q)) → WentOn o q
-went-on (val x) q o t e = record { answer = x; is = e }
-went-on (fault w) q o t e = let z : _≡_ {A = ℕ} 0 1 = cc in absurd (omega arith)
-
-pub went-wrong : (a : Out Answer) (q : Run) (o : Out (Answer × Run)) (w : Refusal) → fault w ≡ (a >>= λ _. val (tt {0})) → o ≡ (a >>= λ x. val (x, q)) → o ≡ fault w
-went-wrong (val x) q o w t e = let z : _≡_ {A = ℕ} 0 1 = cc in absurd (omega arith)
-went-wrong (fault v) q o w t e = e ∙ cc
-
-module _ (s : List ℕ) (sh : Shape) (is : IsShape s sh) (r : Run) where
-  abbrev pub left : ℕ
-  left = sh .charts + 2 - r .world .position
-
-  pub cycle-more : (a : Answer) (q : Run) → r .world .position ≤ sh .charts → q .world .position ≡ r .world .position + 1 → stepped (charts (readCharts s)) r ≡ val (a, q) →
-      after (charts (readCharts s)) left r ≡ after (charts (readCharts s)) (sh .charts + 2 - q .world .position) q
-  cycle-more a q h n e =
-      let m = charts (readCharts s) in
-      ap (λ k. after m k r) (let z : left ≡ suc (sh .charts + 2 - q .world .position) = omega arith in z)
-      ∙ after-more m (sh .charts + 2 - q .world .position) r
-      ∙ ap (λ o. o >>= λ x. after m (sh .charts + 2 - q .world .position) (x .1)) e
-
-  pub cycle-stop : (w : Refusal) → r .world .position ≤ sh .charts → stepped (charts (readCharts s)) r ≡ fault w → after (charts (readCharts s)) left r ≡ fault w
-  cycle-stop w h e =
-      let m = charts (readCharts s) in
-      ap (λ k. after m k r) (let z : left ≡ suc (sh .charts + 1 - r .world .position) = omega arith in z)
-      ∙ after-more m (sh .charts + 1 - r .world .position) r
-      ∙ ap (λ o. o >>= λ x. after m (sh .charts + 1 - r .world .position) (x .1)) e
-
-  pub cycle-end : r .world .position ≡ sh .charts + 1 → after (charts (readCharts s)) left r ≡ val (timePassed (charts (readCharts s)) r)
-  cycle-end h =
-      let m = charts (readCharts s) in
-      ap (λ k. after m k r) (let z : left ≡ 1 = omega arith in z)
-      ∙ after-more m 0 r
-      ∙ ap (λ o. o >>= λ x. after m 0 (x .1)) (at-time s sh is r (omega arith))
-      ∙ after-none m (timePassed m r)
-
-pub cycle-given : (s : List ℕ) (sh : Shape) → IsShape s sh → (given : ℕ) (r q : Run) → checked (charts (readCharts s)) given r ≡ val tt → q ≡ give given r →
-    cycle (charts (readCharts s)) given r ≡ finish (after (charts (readCharts s)) (sh .charts + 2 - q .world .position) q)
-cycle-given s sh is given r q e d =
-    let m = charts (readCharts s) in
-    let p : r .world .position ≤ sh .charts + 1 = ready s sh is given r e .within in
-    let n : parts m + 2 - r .world .position ≡ suc (sh .charts + 1 - r .world .position) = omega (arith, length-initial s sh is) in
-    let k : suc (sh .charts + 1 - r .world .position) ≡ sh .charts + 2 - r .world .position = omega arith in
-    subst (λ x. cycle m given r ≡ finish (after m (sh .charts + 2 - x .world .position) x)) (sym d)
-    (cycle-fine m given r (sh .charts + 1 - r .world .position) e n ∙ ap (λ j. finish (after m j (give given r))) k)
+  pub chart-place : (r : Run) (a : Answer) (q : Run) → chartStep (readCharts s) (r .world .position - 1) r ≡ val (a, q) → q .world .position ≡ r .world .position
+  chart-place r = T.part-place (charts (readCharts s)) r (step-kept (readCharts s) (r .world .position - 1) r)

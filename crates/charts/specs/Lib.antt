@@ -1,4 +1,5 @@
 pub mod Accepted
+pub mod Values
 pub mod Tables
 pub mod RunOf
 pub mod Replies

@@ -1,27 +1,16 @@
 -- Tables that a turn reads, made once for a set: of each state its leaving transitions by priority, of each owner its actions in file order. Assumes nothing: these are definitions.
 use mathlib.Core.Path.{_≡_}
 use mathlib.Core.Logic.{_⊎_}
-use mathlib.Core.Bool.{Bool, cond, _&&_}
+use mathlib.Core.Bool.{Bool, _&&_}
 use mathlib.Core.List.{List, [], _∷_}
 use Prim.Native.Nat.{ℕ, _+_, _-_, _<_}
 use lib.Dec.{eqb}
 use lib.ListN.{length, getD}
-use Rattle.records.specs.Lists.{keep, from, caseOf}
+use Rattle.records.specs.Lists.{caseOf}
 use Rattle.model.specs.ChartSet.{ChartSet, transition}
+pub use Rattle.machines.specs.Chains.{headOr, earliest, named}
 use Rattle.chart_files.specs.declared.Shape.{Shape}
 use Rattle.chart_files.specs.Places.{placeAt, actionAt}
-
-abbrev pub headOr : ℕ → List ℕ → ℕ
-headOr d [] = d
-headOr d (x ∷ xs) = x
-
--- the first of n numbers from k on that passes the test; 65,535 stands for none
-abbrev pub earliest : (ℕ → Bool) → ℕ → ℕ → ℕ
-earliest p k n = headOr 65535 (keep p (from k n))
-
--- what a place of a table names
-abbrev pub named : ℕ → List ℕ
-named t = cond (eqb t 65535) [] (t ∷ [])
 
 -- ---- rows
 

@@ -1,10 +1,12 @@
 -- What turns and cycles answer, as outcomes of the model's calls. Assumes nothing: these are definitions.
 use mathlib.Core.List.{List}
-use Prim.Native.Nat.{ℕ, _+_, _≤_}
+use Prim.Native.Nat.{ℕ, _≤_, _<_}
 use Rattle.records.specs.Refusal.{Refusal as Number, impossible-run, misplaced-events, cycles-done, Out, val, fault, _>>=_}
 use Rattle.model.specs.Outcome.{Outcome}
 use Rattle.model.specs.Runs as M
 use Rattle.model.specs.ChartSet.{readCharts}
+use Rattle.machines.specs.Turns as R
+pub use Rattle.machines.specs.Turns.{after, finish}
 use Rattle.chart_files.specs.declared.Shape.{Shape}
 use Rattle.chart_files.specs.Shape.{refusalFor}
 use Rattle.charts.specs.declared.turns.Refusal.{Refusal}
@@ -17,7 +19,7 @@ use Rattle.charts.specs.declared.turns.Called.{Called}
 use Rattle.charts.specs.Accepted.{Accepted}
 use Rattle.charts.specs.Tables.{HasRows, HasActions}
 use Rattle.charts.specs.StepOf.{reasonOf}
-use Rattle.charts.specs.RunOf.{runOf, Young}
+use Rattle.charts.specs.RunOf.{runOf}
 
 abbrev pub refusalOf : Refusal → Number
 refusalOf (File w) = refusalFor w
@@ -48,13 +50,6 @@ wentOn a = answerOf a >>= λ _. val tt
 abbrev pub calledOf : Called → Outcome (Unit {0}) M.Run
 calledOf t = record { answer = endingOf (t .answer); lent = runOf (t .run) }
 
--- so many turns, and what is left to say once they are taken
-abbrev pub after : M.Machine → ℕ → M.Run → Out M.Run
-after m k r = M.ended r (M.turns m k r)
-
-abbrev pub finish : Out M.Run → Out (Unit {0} × M.Run)
-finish o = o >>= λ q. val (tt, q)
-
 -- What is known of a set whose turns are taken: it is accepted, and its tables are its own.
 pub record Known (s : List ℕ) (sh : Shape) (rows : List (List ℕ)) (first next : List ℕ) : Type 0 where
   pub accepted : Accepted s sh
@@ -62,7 +57,5 @@ pub record Known (s : List ℕ) (sh : Shape) (rows : List (List ℕ)) (first nex
   pub has-actions : HasActions s sh first next
 
 -- A run in the midst of a cycle: its position is one of so many charts' or time's, and time can pass.
-pub record Ready (charts : ℕ) (r : M.Run) : Type 0 where
-  pub begun : 1 ≤ r .world .position
-  pub within : r .world .position ≤ charts + 1
-  pub young : Young charts r
+abbrev pub Ready : ℕ → M.Run → Type 0
+Ready charts r = R.Ready charts (λ cycles c age. c < charts → age ≤ cycles) r

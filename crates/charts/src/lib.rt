@@ -8,3 +8,4 @@ pub mod tables;
 pub mod transitions;
 pub mod triggers;
 pub mod turns;
+pub mod values;

@@ -7,25 +7,19 @@ ghost use Rattle.model.specs.Charts.{row, firstThat, transitionHolds, acted, fo
 ghost use mathlib.Core.Option.{some};
 ghost use Rattle.charts.specs.Accepted.{Accepted};
 ghost use Rattle.charts.specs.Tables.{HasRows, HasActions};
-ghost use Rattle.charts.specs.Replies.{bareWorld};
 ghost use Rattle.charts.specs.RunOf.{runOf};
-ghost use Rattle.charts.specs.StepOf.{worldIn, worldAfter, choiceOf, ChoiceOf, slotHolds, entered, stepOf};
-use super::deeds::Done;
+ghost use Rattle.machines.specs.Worlds.{worldIn, worldAfter, bareWorld};
+ghost use Rattle.charts.specs.StepOf.{choiceOf, ChoiceOf, slotHolds, entered, stepOf};
 use super::deeds::do_deeds;
-use super::deeds::reason_for;
 use super::runs::Run;
 use super::transitions::holds;
-use super::transitions::source_of;
-use super::transitions::target_of;
 use chart_files::Shape;
+use chart_files::fields::source_of;
+use chart_files::fields::target_of;
 use expressions::arithmetic::Truth;
-
-// Why a turn is not taken: a number out of 32 bits, a zero divisor, a number out of its variable's bounds.
-pub enum Reason {
-    Range,
-    Divisor,
-    Bounds,
-}
+use machines::deeds::Done;
+use machines::deeds::Reason;
+use machines::deeds::reason_for;
 
 pub enum Reply {
     Taken(u16),
@@ -145,6 +139,7 @@ fn follow(
 ) -> Step
     requires { ⌜ Accepted (now s) shape × HasActions (now s) shape (now first) (now next) × (chart < 8) × (t < shape .transitions) ⌝ }
     ensures { λ r. ⌜ stepOf r ≡ followed (readCharts (now (s .entry))) chart (runOf run) (some t) ⌝ }
+    ensures { λ r. ⌜ ((w : Reason) → r .reply ≡ Reply.Fault w → r .run ≡ run) ⌝ }
 {
     let mut variables = run.variables;
     match act(s, shape, first, next, t, &mut variables, run.events) {
@@ -176,6 +171,7 @@ pub fn chart_step(
     requires { ⌜ HasActions (now s) shape (now first) (now next) ⌝ }
     requires { ⌜ chart < shape .charts ⌝ }
     ensures { λ r. ⌜ stepOf r ≡ chartStep (readCharts (now (s .entry))) chart (runOf run) ⌝ }
+    ensures { λ r. ⌜ ((w : Reason) → r .reply ≡ Reply.Fault w → r .run ≡ run) ⌝ }
 {
     let i = chart as usize;
     let state = run.states[i];

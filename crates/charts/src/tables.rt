@@ -3,9 +3,9 @@ ghost use Rattle.model.specs.ChartSet.{readCharts};
 ghost use Rattle.charts.specs.Accepted.{Accepted};
 ghost use Rattle.charts.specs.Tables.{HasRows, HasActions};
 use super::actions::key_of;
-use super::transitions::priority_of;
-use super::transitions::source_of;
 use chart_files::Shape;
+use chart_files::fields::priority_of;
+use chart_files::fields::source_of;
 
 // Of each key its first action, and of each action the next of its key; 65535 is none.
 pub struct Actions {

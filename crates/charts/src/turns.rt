@@ -7,16 +7,16 @@ ghost use Rattle.model.specs.ChartSet.{readCharts};
 ghost use Rattle.model.specs.Charts.{charts as machine};
 ghost use Rattle.charts.specs.RunOf.{runOf};
 ghost use Rattle.charts.specs.TurnOf.{turnOf, endingOf, wentOn, calledOf, after, finish, Known, Ready};
-use super::runs::Before;
 use super::runs::Run;
 use super::runs::before_turn;
 use super::runs::give;
 use super::runs::moved;
 use super::runs::time_passed;
-use super::steps::Reason;
 use super::steps::Reply;
 use super::steps::chart_step;
 use chart_files::Shape;
+use machines::checks::Before;
+use machines::deeds::Reason;
 
 // Why no turn was taken: the file is refused, or the run or its events are.
 pub enum Refusal {

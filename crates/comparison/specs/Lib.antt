@@ -1,1 +1,3 @@
 pub mod Codes
+pub mod Playing
+pub mod TwinPlaying

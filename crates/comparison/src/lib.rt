@@ -13,6 +13,13 @@ ghost use Rattle.records.specs.Refusal.{refusalNumber};
 ghost use Rattle.model.specs.ChartFile.{chartsRefusal};
 ghost use Rattle.chart_files.specs.Shape.{refusalFor};
 ghost use Rattle.comparison.specs.Codes.{numberCode, truthCode, reasonCode, refusalCode};
+
+pub mod runs;
+pub mod tables;
+pub mod traces;
+pub mod translations;
+pub mod twin_runs;
+
 use chart_files::Checked;
 use chart_files::Refusal;
 use expressions::arithmetic::Number;

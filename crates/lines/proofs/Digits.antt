@@ -61,6 +61,9 @@ length-decimal d n l h = subst (λ t. length t ≤ suc d) (digits-enough (19 - d
 pub length-field : (n : ℕ) → length (space ∷ decimal n) ≤ 21
 length-field n = omega (arith, length-digits 20 n)
 
+pub fitting-field : (d n : ℕ) → d < 20 → n < 10 ^ suc d → length (space ∷ decimal n) ≤ suc (suc d)
+fitting-field d n l h = omega (arith, length-decimal d n l h)
+
 pub length-chosen : (a : Answer) → length (chosen a) ≤ 20
 length-chosen (taken t) = length-digits 20 t
 length-chosen idle = omega arith

@@ -1,9 +1,6 @@
--- The text of one replay line, and what it is to have written a text. Assumes nothing: these are definitions.
-use mathlib.Core.Path.{_≡_}
+-- The text of one replay line. Assumes nothing: these are definitions.
 use mathlib.Core.List.{List, [], _∷_, _++_}
-use Prim.Native.Nat.{ℕ, _+_}
-use lib.ListN.{length}
-use lib.Seq.{sets}
+use Prim.Native.Nat.{ℕ}
 use lib.IntN.{ℤ}
 use Rattle.records.specs.Lists.{gather}
 use Rattle.model.specs.Runs.{Answer, taken, idle}
@@ -25,12 +22,3 @@ headText cycle chart a state = decimal cycle ++ (space ∷ decimal chart) ++ (sp
 
 abbrev pub lineText : ℕ → ℕ → Answer → ℕ → List ℤ → List ℕ
 lineText cycle chart a state variables = headText cycle chart a state ++ variablesText variables ++ (feed ∷ [])
-
--- The text was written over `before` from `at` on; `next` is the place behind it.
-pub record Wrote (before : List ℕ) (at : ℕ) (text : List ℕ) (after : List ℕ) (next : ℕ) : Type 0 where
-  pub behind : next ≡ at + length text
-  pub written : after ≡ sets before at text
-
--- The same at the start, where the place behind is the text's length.
-abbrev pub Begins : List ℕ → List ℕ → List ℕ → ℕ → Type 0
-Begins before text after size = (size ≡ length text) × (after ≡ sets before 0 text)

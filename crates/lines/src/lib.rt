@@ -1,10 +1,11 @@
 // The text of one replay line. Bytes past the end of `out` are counted and not written, so a place must be near enough for its sums not to wrap.
 ghost use mathlib.Core.List.{[], _∷_};
 ghost use mathlib.Core.Path.{_≡_};
-ghost use Prim.Native.Nat.{_≤_, _<_, _^_};
+ghost use Prim.Native.Nat.{_+_, _*_, _≤_, _<_, _^_};
 ghost use lib.ListN.{length, take};
 ghost use Rattle.model.specs.Replay.{decimal, signedDecimal, chosen as chosenText, space};
-ghost use Rattle.lines.specs.Text.{Wrote, Begins, chosenOf, headText, variablesText, lineText};
+ghost use Rattle.records.specs.Wrote.{Wrote, Begins};
+ghost use Rattle.lines.specs.Text.{chosenOf, headText, variablesText, lineText};
 use records::put_byte;
 
 pub enum Chosen {
@@ -50,7 +51,7 @@ pub fn put_signed(out: &mut [u8], at: usize, z: i16) -> usize
 
 fn put_chosen(out: &mut [u8], at: usize, chosen: Chosen) -> usize
     requires { ⌜ at < 2 ^ 61 ⌝ }
-    ensures { λ r. ⌜ Wrote (now (out .entry)) at (chosenText (chosenOf chosen)) (now (out .exit)) r ⌝ }
+    ensures { λ r. ⌜ Wrote (now (out .entry)) at (chosenText (chosenOf chosen)) (now (out .exit)) r × (r ≤ at + 5) ⌝ }
 {
     match chosen {
         Chosen::Transition(t) => put_decimal(out, at, t as u32),
@@ -69,7 +70,7 @@ fn put_field(out: &mut [u8], at: usize, n: u32) -> usize
 
 // As many of the first `count` as there are.
 fn shown(variables: &[i16], count: u16) -> usize
-    ensures { λ r. ⌜ (r ≤ length (now (variables .entry))) × (r < 2 ^ 16) × (take r (now (variables .entry)) ≡ take count (now (variables .entry))) ⌝ }
+    ensures { λ r. ⌜ (r ≤ length (now (variables .entry))) × (r ≤ count) × (take r (now (variables .entry)) ≡ take count (now (variables .entry))) ⌝ }
 {
     let n = count as usize;
     if n < variables.len() {
@@ -79,10 +80,10 @@ fn shown(variables: &[i16], count: u16) -> usize
     }
 }
 
-// Each variable after its space; the place behind is near too.
+// Each variable after its space, in 7 bytes at most.
 fn put_variables(out: &mut [u8], at: usize, variables: &[i16], count: u16) -> usize
     requires { ⌜ at < 2 ^ 60 ⌝ }
-    ensures { λ r. ⌜ Wrote (now (out .entry)) at (variablesText (take count (now (variables .entry)))) (now (out .exit)) r × (r < 2 ^ 61) ⌝ }
+    ensures { λ r. ⌜ Wrote (now (out .entry)) at (variablesText (take count (now (variables .entry)))) (now (out .exit)) r × (r ≤ at + 7 * count) ⌝ }
 {
     let n = shown(variables, count);
     let mut next = at;
@@ -95,16 +96,35 @@ fn put_variables(out: &mut [u8], at: usize, variables: &[i16], count: u16) -> us
     next
 }
 
-// What stands before the variables; the place behind is near too.
+// What stands before the variables, in 33 bytes at most.
 fn put_head(out: &mut [u8], at: usize, cycle: u32, chart: u32, chosen: Chosen, state: u16) -> usize
     requires { ⌜ at < 2 ^ 59 ⌝ }
-    ensures { λ r. ⌜ Wrote (now (out .entry)) at (headText cycle chart (chosenOf chosen) state) (now (out .exit)) r × (r < 2 ^ 60) ⌝ }
+    ensures { λ r. ⌜ Wrote (now (out .entry)) at (headText cycle chart (chosenOf chosen) state) (now (out .exit)) r × (r ≤ at + 33) ⌝ }
 {
     let chart_at = put_decimal(out, at, cycle);
     let space_at = put_field(out, chart_at, chart);
     let chosen_at = put_char(out, space_at, 32);
     let state_at = put_chosen(out, chosen_at, chosen);
     put_field(out, state_at, state as u32)
+}
+
+// A line from `at` on, and how long its numbers' types let it be.
+pub fn put_bounded_line(
+    out: &mut [u8],
+    at: usize,
+    cycle: u32,
+    chart: u32,
+    chosen: Chosen,
+    state: u16,
+    variables: &[i16],
+    count: u16,
+) -> usize
+    requires { ⌜ at < 2 ^ 59 ⌝ }
+    ensures { λ r. ⌜ Wrote (now (out .entry)) at (lineText cycle chart (chosenOf chosen) state (take count (now (variables .entry)))) (now (out .exit)) r × (r ≤ at + 34 + 7 * count) ⌝ }
+{
+    let variables_at = put_head(out, at, cycle, chart, chosen, state);
+    let feed_at = put_variables(out, variables_at, variables, count);
+    put_char(out, feed_at, 10)
 }
 
 // A line from `at` on.
@@ -121,9 +141,7 @@ pub fn put_line(
     requires { ⌜ at < 2 ^ 59 ⌝ }
     ensures { λ r. ⌜ Wrote (now (out .entry)) at (lineText cycle chart (chosenOf chosen) state (take count (now (variables .entry)))) (now (out .exit)) r ⌝ }
 {
-    let variables_at = put_head(out, at, cycle, chart, chosen, state);
-    let feed_at = put_variables(out, variables_at, variables, count);
-    put_char(out, feed_at, 10)
+    put_bounded_line(out, at, cycle, chart, chosen, state, variables, count)
 }
 
 // A line at the start; answers its length.

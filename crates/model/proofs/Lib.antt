@@ -1,4 +1,33 @@
+pub mod BoolLaws
+pub mod ListLaws
+pub mod Sorting
+pub mod Rows
+pub mod OneOpen
+pub mod TwinTime
+pub mod TwinParts
+pub mod TwinClocks
+pub mod Deeds
+pub mod Alike
+pub mod TwinTurns
+pub mod Corresponding
+pub mod PossibleRuns
 pub mod Traces
+pub mod Lockstep
+pub mod MoveAlike
+pub mod AcceptedSet
+pub mod Sums
+pub mod TwinCounts
+pub mod TwinNames
+pub mod Accepted
+pub mod WrittenRecords
+pub mod Written
+pub mod WrittenFraming
+pub mod WrittenCodes
+pub mod TwinFits
+pub mod TwinAccepted
+pub mod PathTaken
+pub mod Demand3
+pub mod TwinPath
 pub mod ExampleSets
 mod MarkedExamples
 mod ChartExamples

@@ -5,27 +5,27 @@ use Prim.Native.Nat.{ℕ}
 use lib.ListN.{length, replicate, take}
 use lib.IntN.{ℤ, pos, negsuc}
 use Rattle.model.specs.Outcome.{Outcome}
-use Rattle.model.specs.Runs.{Run, Answer, Call, whole-cycle, Trace, done, stopped, turned}
+use Rattle.model.specs.Runs.{Run, Call, one-turn, whole-cycle}
 use Rattle.model.specs.Translation.{twinBytes, translate}
-use Rattle.model.specs.PathBack.{pathBack, PathBack}
+use Rattle.model.specs.PathBack.{rowWords, pathBack, PathBack}
 use Rattle.model.specs.AutomataFile.{AutomataFile}
-use Rattle.model.specs.Calls.{automataTables, startCall, cycleCall, callTrace, numbered, answerCode}
+use Rattle.model.specs.Calls.{chartSets, automataTables, startCall, cycleCall, numbered}
+use Rattle.model.specs.TakenPath.{takenPath, takenRows, TakenPath}
 use Rattle.records.proofs.Tables.{Agree}
 use Rattle.model.proofs.ExampleSets.{blank, zeroWatch, waiting, raising}
 
--- ---- the twin's own path: the edges that it takes, 65,535 for time
+-- ---- the twin's own path, and the set's rows
 
-abbrev answersOf : Trace → List ℕ
-answersOf done = []
-answersOf (stopped w) = []
-answersOf (turned r a r₁ t) = answerCode a ∷ answersOf t
+-- of calls from fresh runs
+abbrev pathBy : List ℕ → List Call → List ℕ
+pathBy s calls = let t = twinBytes s in takenPath t calls (startCall automataTables t blank .lent)
 
-abbrev twinPath : List ℕ → List ℕ → Run → List ℕ
-twinPath t [] r = []
-twinPath t (mask ∷ masks) r = answersOf (callTrace automataTables t (whole-cycle mask) r) ++ twinPath t masks (cycleCall automataTables t mask r .lent)
+abbrev rowsBy : List ℕ → List Call → List ℕ
+rowsBy s calls = rowWords (takenRows s calls (startCall chartSets s blank .lent))
 
+-- a cycle for each mask
 abbrev pathOf : List ℕ → List ℕ → List ℕ
-pathOf s masks = let t = twinBytes s in twinPath t masks (startCall automataTables t blank .lent)
+pathOf s masks = pathBy s (map whole-cycle masks)
 
 -- the first clock after a cycle for each mask
 abbrev clockAfter : List ℕ → List ℕ → Run → List ℕ
@@ -51,8 +51,21 @@ paths =
     ∷ []
 
 twin-examples : Agree paths
-unfolding PathBack AutomataFile
+unfolding PathBack TakenPath AutomataFile
 twin-examples = (refl, (refl, (refl, (refl, (refl, tt)))))
+
+abbrev rows : List (List ℕ × List ℕ)
+rows =
+    -- cycle, chart and transition of the five lines; the last one idles
+    (rowsBy zeroWatch (map whole-cycle (0 ∷ 1 ∷ 1 ∷ 2 ∷ 0 ∷ [])), 0 ∷ 0 ∷ 0 ∷ 1 ∷ 0 ∷ 2 ∷ 2 ∷ 0 ∷ 1 ∷ 3 ∷ 0 ∷ 3 ∷ [])
+    -- 13: a refused call adds nothing to either
+    ∷ (rowsBy raising (one-turn 0 ∷ one-turn 1 ∷ one-turn 0 ∷ []), 0 ∷ 0 ∷ 0 ∷ 0 ∷ 1 ∷ 2 ∷ [])
+    ∷ (pathBy raising (one-turn 0 ∷ one-turn 1 ∷ one-turn 0 ∷ one-turn 0 ∷ []), 0 ∷ 2 ∷ 65535 ∷ [])
+    ∷ []
+
+row-examples : Agree rows
+unfolding PathBack TakenPath AutomataFile
+row-examples = (refl, (refl, (refl, tt)))
 
 -- ---- paths led back: the answer's number, and the rows afterwards
 

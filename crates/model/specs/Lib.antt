@@ -12,3 +12,4 @@ pub mod PathBack
 pub mod Calls
 pub mod Replay
 pub mod Correspondence
+pub mod TakenPath

@@ -4,3 +4,4 @@ pub mod RoundTrips
 pub mod FramingLaws
 pub mod Framed
 pub mod Tables
+pub mod Wrote

@@ -3,3 +3,4 @@ pub mod Refusal
 pub mod Bytes
 pub mod Framing
 pub mod Frame
+pub mod Wrote

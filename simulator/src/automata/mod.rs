@@ -1,10 +1,12 @@
 //! Automata files: the reader with refusal 11, the run, the turn by open edges and the cycle.
 
 mod check;
+mod clauses;
 mod raw;
 mod step;
 mod tables;
 
+pub use clauses::{broken_clauses, CLAUSES};
 pub use raw::{RawEdge, RawLiteral, RawTable, RawUpdate};
 pub use tables::{AutomataTable, Edge, Literal, LiteralTrigger};
 

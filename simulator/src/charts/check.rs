@@ -1,7 +1,7 @@
 //! Refusals 5 to 9 of a chart set. Each is asked of the whole file before the next.
 
 use super::raw::{RawAction, RawSet, RawTransition};
-use crate::node_rules::{gives, names_something, operand_uses, operands_lower_and_sorted};
+use crate::node_rules::{gives, names_something, node_operands, operand_uses, operands_lower_and_sorted};
 use crate::operators::{shape, Sort};
 use crate::records::*;
 use crate::refusals::{self, Refusal};
@@ -145,4 +145,60 @@ fn each_node_used_once(set: &RawSet) -> bool {
 fn ticks_positive(set: &RawSet) -> bool {
     let mut timed = set.transitions.iter().filter(|transition| transition.timed());
     timed.all(|transition| ticks(transition.milliseconds) > 0)
+}
+
+/// For each refusal from 5 on whether it applies by itself. What an earlier refusal is for, a broken code or a number that
+/// names nothing, the later ones pass over.
+pub fn applying(set: &RawSet) -> [(Refusal, bool); 5] {
+    [
+        (refusals::CODE_OR_RANGE, !codes_and_ranges(set)),
+        (refusals::NAMES_NOTHING, !names(set)),
+        (refusals::STRUCTURE, structure_broken(set)),
+        (refusals::NODES, nodes_broken(set)),
+        (refusals::ZERO_TICKS, some_zero_ticks(set)),
+    ]
+}
+
+fn structure_broken(set: &RawSet) -> bool {
+    let chart = |state: u16| set.chart_of.get(usize::from(state));
+    let across = |transition: &RawTransition| {
+        let ends = chart(transition.source).zip(chart(transition.target));
+        ends.is_some_and(|(from, to)| from != to)
+    };
+    set.transitions.iter().any(across)
+        || (0..)
+            .zip(&set.initial)
+            .any(|(own, initial)| chart(*initial).is_some() && !initial_kept(set, own, *initial))
+        || !priorities_differ(set)
+        || !actions_per_owner(set)
+}
+
+fn nodes_broken(set: &RawSet) -> bool {
+    let named = |node: &usize| *node < set.nodes.len();
+    let known = |node: usize| shape(set.nodes[node].operator).is_some();
+    let wrong = |node: usize, sort: Sort| known(node) && !gives(&set.nodes, node, sort);
+    let operand_wrong = |own: usize| {
+        let node = &set.nodes[own];
+        let sorts = shape(node.operator).map_or(&[][..], |shape| shape.operands);
+        let operands = node_operands(node).iter().map(|operand| usize::from(*operand)).zip(sorts);
+        operands
+            .filter(|(operand, _)| named(operand))
+            .any(|(operand, sort)| operand >= own || wrong(operand, *sort))
+    };
+    let operands = set.nodes.iter().flat_map(node_operands).map(|operand| usize::from(*operand));
+    let mut uses = vec![0; set.nodes.len()];
+    for node in operands.chain(guards(set)).chain(assigned(set)).filter(named) {
+        uses[node] += 1;
+    }
+    (0..set.nodes.len()).any(operand_wrong)
+        || guards(set).filter(named).any(|node| wrong(node, Sort::Truth))
+        || assigned(set).filter(named).any(|node| wrong(node, Sort::Number))
+        || uses.iter().any(|count| *count != 1)
+}
+
+/// Milliseconds out of range are for 5.
+fn some_zero_ticks(set: &RawSet) -> bool {
+    let timed = set.transitions.iter().filter(|transition| transition.timed());
+    let mut times = timed.map(|transition| transition.milliseconds);
+    times.any(|time| (1..=MOST_MILLISECONDS).contains(&time) && ticks(time) == 0)
 }

@@ -8,12 +8,33 @@ mod tables;
 pub use raw::{RawAction, RawSet, RawTransition};
 pub use tables::{ChartSet, Transition, Trigger};
 
+use crate::files::Sections;
+use crate::records::{whole_records, Record, CHART_LIMITS, RECORD_LEN};
 use crate::refusals::Refusal;
 use crate::runs::{Answer, ChartsRun, Machine};
 
 /// 0 for an accepted set, else the lowest refusal number that applies.
 pub fn check(set: &[u8]) -> u32 {
     ChartSet::read(set).err().unwrap_or(0)
+}
+
+/// For each number from 1 to 9 whether its refusal applies, each asked by itself of the whole records of known kinds. The
+/// lowest is the one given.
+pub fn applying(set: &[u8]) -> [bool; 10] {
+    let records = whole_records(set);
+    let known = |record: &&Record| CHART_LIMITS.iter().any(|(kind, _)| *kind == record[0]);
+    let mut sorted: Vec<Record> = records.iter().filter(known).copied().collect();
+    sorted.sort_by_key(|record| record[0]);
+    let sections = Sections::of_ascending(&sorted, &CHART_LIMITS);
+    let mut applies = [false; 10];
+    applies[1] = !set.len().is_multiple_of(RECORD_LEN);
+    applies[2] = sorted != records;
+    applies[3] = sections.miscounted();
+    applies[4] = sections.has_stray_byte();
+    for (number, broken) in check::applying(&RawSet::decode(&sections)) {
+        applies[number as usize] = broken;
+    }
+    applies
 }
 
 pub fn start(set: &[u8]) -> Result<ChartsRun, Refusal> {

@@ -3,6 +3,7 @@
 use super::record_list::shared::{any, byte, range, unnamed, unused};
 use super::record_list::{not_zero, shared, Damage, RecordList};
 use crate::assemble;
+use crate::charts;
 use crate::deeds::Deed;
 use crate::operators::*;
 use crate::random::Random;
@@ -25,22 +26,28 @@ pub fn damage(random: &mut Random, set: &[u8], damage: &Damage) -> Option<Damage
     })
 }
 
-/// Breaks two clauses of different numbers; the lower number must be given. The higher is broken
-/// first, so that the lower is broken in what is then there.
+/// Breaks two clauses of different numbers, every pair of numbers equally often; the lower must be given.
 pub fn damage_twice(random: &mut Random, set: &[u8]) -> Option<Damaged> {
-    let (one, other) = (random.below(DAMAGES.len()), random.below(DAMAGES.len()));
-    let (low, high) = if DAMAGES[one].number < DAMAGES[other].number { (one, other) } else { (other, one) };
-    let (low, high) = (&DAMAGES[low], &DAMAGES[high]);
-    if low.number == high.number {
-        return None;
-    }
+    let (low, high) = random.pick(&number_pairs());
+    damage_pair(random, set, low, high)
+}
+
+/// Every two numbers of 1 to 9, the lower first. All of them can apply together: the later ones are asked of the whole
+/// records of known kinds, which 1, 2 and 3 leave. 9, being the last, is the lower of none.
+pub fn number_pairs() -> Vec<(u32, u32)> {
+    (1..9).flat_map(|low| (low + 1..=9).map(move |high| (low, high))).collect()
+}
+
+/// Breaks a clause of each of two numbers; none where the set has nothing to break so, or where the second damage did away
+/// with the first. The higher is broken first, so that the lower is broken in what is then there.
+pub fn damage_pair(random: &mut Random, set: &[u8], low: u32, high: u32) -> Option<Damaged> {
+    let of = |number: u32| DAMAGES.iter().filter(|damage| damage.number == number).collect::<Vec<_>>();
+    let (lower, higher) = (random.pick(&of(low)), random.pick(&of(high)));
     let mut list = RecordList::of(set);
-    let broken = (high.apply)(random, &mut list) && (low.apply)(random, &mut list);
-    broken.then(|| Damaged {
-        bytes: list.bytes(),
-        number: low.number,
-        clauses: vec![low.clause, high.clause],
-    })
+    let broken = (higher.apply)(random, &mut list) && (lower.apply)(random, &mut list);
+    let bytes = list.bytes();
+    let both = broken && charts::applying(&bytes)[high as usize];
+    both.then(|| Damaged { bytes, number: low, clauses: vec![lower.clause, higher.clause] })
 }
 
 macro_rules! damages {

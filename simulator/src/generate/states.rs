@@ -118,6 +118,36 @@ pub const AUTOMATA_CORRUPTIONS: &[Corruption<AutomataTable, AutomataRun>] = corr
     "events at position 1" |random, _, run| early(random, run.position, &mut run.events);
 };
 
+/// The clauses of check 12 that a run of charts breaks, each asked by itself. A number that names no state is of no chart.
+pub fn broken_clauses(set: &ChartSet, run: &ChartsRun) -> Vec<&'static str> {
+    let n = set.charts();
+    let last = u32::try_from(n).expect("at most 8") + 1;
+    let (states, unused_states) = run.states.split_at(n);
+    let (ages, unused_ages) = run.ages.split_at(n);
+    let (values, unused_values) = run.variables.split_at(set.variables.len());
+    let chart_of = |state: &u16| set.chart_of.get(usize::from(*state)).map(|chart| usize::from(*chart));
+    let values = || set.variables.iter().zip(values);
+    let clauses = [
+        (
+            "state of another chart",
+            states.iter().enumerate().any(|(own, state)| chart_of(state).is_some_and(|chart| chart != own)),
+        ),
+        ("no such state", states.iter().any(|state| chart_of(state).is_none())),
+        ("unused state", unused_states.iter().any(|state| *state != 0)),
+        ("age over cycle count", ages.iter().any(|age| *age > run.cycles)),
+        ("unused age", unused_ages.iter().any(|age| *age != 0)),
+        ("variable too low", values().any(|(variable, value)| *value < variable.lowest)),
+        ("variable too high", values().any(|(variable, value)| *value > variable.highest)),
+        ("unused variable", unused_values.iter().any(|value| *value != 0)),
+        ("position 0", run.position == 0),
+        ("position over n + 1", run.position > last),
+        ("count over 1,000,000", run.cycles > MOST_CYCLES),
+        ("count 1,000,000 past position 1", run.position > 1 && run.cycles == MOST_CYCLES),
+        ("events at position 1", run.position == 1 && run.events != 0),
+    ];
+    clauses.into_iter().filter(|(_, broken)| *broken).map(|(clause, _)| clause).collect()
+}
+
 fn foreign(random: &mut Random, owner: &[u8], charts: usize, present: &mut [u16; CHART_PLACES]) -> bool {
     let chart = random.below(charts);
     let others: Vec<u16> =

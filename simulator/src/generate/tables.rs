@@ -27,11 +27,20 @@ pub fn any_table(random: &mut Random) -> Vec<u8> {
         0 => hand_made(random, &LARGEST),
         1..=12 => translated(random),
         13..=24 => mutated(random),
-        _ => {
-            let counts = small_counts(random);
-            hand_made(random, &counts)
-        }
+        _ => hand_made_small(random),
     }
+}
+
+/// With fewer edges than locations, so that some location has none.
+pub fn hand_made_sparse(random: &mut Random) -> Vec<u8> {
+    let mut counts = small_counts(random);
+    counts.edges = 1 + random.below(counts.locations);
+    hand_made(random, &counts)
+}
+
+pub fn hand_made_small(random: &mut Random) -> Vec<u8> {
+    let counts = small_counts(random);
+    hand_made(random, &counts)
 }
 
 /// A twin changed so that it is still accepted but need no longer be the twin of anything.

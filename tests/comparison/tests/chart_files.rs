@@ -9,6 +9,8 @@ use simulator::Random;
 fn compare(bytes: &[u8], met: &mut [usize; 10]) {
     let right = charts::check(bytes);
     assert_eq!(u32::from(chart_refusal(bytes)), right, "{bytes:?}");
+    let lowest = charts::applying(bytes).iter().position(|applies| *applies).unwrap_or(0);
+    assert_eq!(lowest as u32, right, "{bytes:?}");
     met[right as usize] += 1;
 }
 
@@ -31,17 +33,30 @@ fn damaged_once_in_each_way() {
     assert!(damaged.iter().all(|n| *n > 0), "{damaged:?}");
 }
 
+/// Two damages together: of every two numbers, files to which both apply, each asked by itself.
 #[test]
 fn damaged_twice() {
     let mut random = Random::new(12);
     let mut met = [0; 10];
-    for _ in 0..6_000 {
-        let set = sets::any_valid_set(&mut random);
-        if let Some(bad) = set_damage::damage_twice(&mut random, &set) {
-            compare(&bad.bytes, &mut met);
+    for (low, high) in set_damage::number_pairs() {
+        let mut made = 0;
+        for _ in 0..4_000 {
+            let set = sets::any_valid_set(&mut random);
+            if let Some(bad) = set_damage::damage_pair(&mut random, &set, low, high) {
+                let applying = charts::applying(&bad.bytes);
+                assert!(applying[low as usize] && applying[high as usize], "{:?}", bad.clauses);
+                assert_eq!(u32::from(chart_refusal(&bad.bytes)), low, "{:?}", bad.clauses);
+                compare(&bad.bytes, &mut met);
+                made += 1;
+            }
+            if made == 100 {
+                break;
+            }
         }
+        println!("{low} and {high}: {made} files");
+        assert!(made >= 20, "{low} and {high}: {made}");
     }
-    assert!(met[1..9].iter().all(|n| *n > 5), "{met:?}");
+    println!("files by number: {met:?}");
 }
 
 /// Single bytes changed, and bytes of no form at all.

@@ -7,9 +7,9 @@ use borrow.Fn.Kinds.{In}
 use borrow.Fn.PlainCycle.{Measures, is, falls, and}
 use lib.ListN.{length}
 use Rattle.model.specs.Replay.{decimal}
-use Rattle.lines.specs.Text.{Wrote}
+use Rattle.records.specs.Wrote.{Wrote}
 use Rattle.lines.proofs.Digits.{decimal-one, decimal-more, length-digits}
-use Rattle.lines.proofs.Texts.{wrote-then}
+use Rattle.records.proofs.Wrote.{wrote-then}
 use Rattle.lines.proofs.put_decimal.Reads as put-decimal
 use Rattle.lines.proofs.put_decimal.Kinds as put-decimal-kinds
 use Rattle.lines.proofs.+put_decimal.Lts-put_decimal as put-decimal-lts

@@ -1,6 +1,6 @@
 -- `lines::put_field` meets its contract, by those of its two calls. Assumes nothing.
 use borrow.Author.Needs.{needs}
-use Rattle.lines.proofs.Texts.{wrote-then}
+use Rattle.records.proofs.Wrote.{wrote-then}
 use Rattle.lines.proofs.put_field.Statement.{statement}
 use Rattle.lines.proofs.put_field.Tie as tie
 

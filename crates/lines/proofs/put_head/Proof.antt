@@ -1,24 +1,23 @@
 -- `lines::put_head` meets its contract, by those of its calls; each leaves the place near. Assumes nothing.
-use Prim.Native.Nat.{_+_, _^_, _<_}
+use Prim.Native.Nat.{_+_, _≤_}
 use native.Mathlib.Omega.{arith}
 use borrow.Author.Needs.{needs}
-use Rattle.lines.specs.Text.{chosenOf}
-use Rattle.lines.proofs.Digits.{length-digits, length-field, length-chosen}
-use Rattle.lines.proofs.Texts.{wrote-then, wrote-near}
+use Rattle.lines.proofs.Digits.{length-decimal, fitting-field}
+use Rattle.records.proofs.Wrote.{wrote-then, wrote-near}
 use Rattle.lines.proofs.put_head.Statement.{statement}
 use Rattle.lines.proofs.put_head.Tie as tie
 
-near-decimal : (c : tie.After-put-decimal) → c .put-decimal .result < 2 ^ 59 + 20
-near-decimal c = omega (arith, c .before .before .before .pre, wrote-near 20 (c .put-decimal .ensures) (length-digits 20 (c .before .before .before .args .cycle)))
+near-decimal : (c : tie.After-put-decimal) → c .put-decimal .result ≤ c .before .before .before .args .at + 10
+near-decimal c = wrote-near 10 (c .put-decimal .ensures) (length-decimal 9 (c .before .before .before .args .cycle) (omega arith) (omega arith))
 
-near-field : (c : tie.After-put-field) → c .put-field .result < 2 ^ 59 + 41
-near-field c = omega (arith, near-decimal (c .before .before .before .before), wrote-near 21 (c .put-field .ensures) (length-field (c .before .before .before .before .before .before .before .args .chart)))
+near-field : (c : tie.After-put-field) → c .put-field .result ≤ c .before .before .before .before .before .before .before .args .at + 21
+near-field c = omega (arith, near-decimal (c .before .before .before .before), wrote-near 11 (c .put-field .ensures) (fitting-field 9 (c .before .before .before .before .before .before .before .args .chart) (omega arith) (omega arith)))
 
-near-char : (c : tie.After-put-char) → c .put-char .result < 2 ^ 59 + 42
+near-char : (c : tie.After-put-char) → c .put-char .result ≤ c .before .before .before .before .before .before .before .before .before .before .before .args .at + 22
 near-char c = omega (arith, near-field (c .before .before .before .before), wrote-near 1 (c .put-char .ensures) (omega arith))
 
-near-chosen : (c : tie.After-put-chosen) → c .put-chosen .result < 2 ^ 59 + 62
-near-chosen c = omega (arith, near-char (c .before .before .before .before), wrote-near 20 (c .put-chosen .ensures) (length-chosen (chosenOf (c .before .before .before .before .before .before .before .before .before .before .before .before .before .before .before .args .chosen))))
+near-chosen : (c : tie.After-put-chosen) → c .put-chosen .result ≤ c .before .before .before .before .before .before .before .before .before .before .before .before .before .before .before .args .at + 27
+near-chosen c = omega (arith, near-char (c .before .before .before .before), c .put-chosen .ensures .1)
 
 put-decimal-requires : tie.Need-put-decimal-requires
 put-decimal-requires c κs = search needs
@@ -42,9 +41,9 @@ returns : tie.Need-returns
 returns c =
     let called = c .before .before .put-field2 in
     let number = wrote-then (c .before .before .before .before .before .before .before .before .before .before .before .before .before .before .before .before .before .before .put-decimal .ensures) (c .before .before .before .before .before .before .before .before .before .before .before .before .before .before .put-field .ensures) in
-    let taken = wrote-then (c .before .before .before .before .before .before .before .before .before .before .put-char .ensures) (c .before .before .before .before .before .before .put-chosen .ensures) in (
+    let taken = wrote-then (c .before .before .before .before .before .before .before .before .before .before .put-char .ensures) (c .before .before .before .before .before .before .put-chosen .ensures .0) in (
       wrote-then (wrote-then number taken) (called .ensures),
-      omega (arith, near-chosen (c .before .before .before .before .before .before), wrote-near 21 (called .ensures) (length-field (c .before .before .before .before .before .before .before .before .before .before .before .before .before .before .before .before .before .before .before .before .before .args .state))),
+      omega (arith, near-chosen (c .before .before .before .before .before .before), wrote-near 6 (called .ensures) (fitting-field 4 (c .before .before .before .before .before .before .before .before .before .before .before .before .before .before .before .before .before .before .before .before .before .args .state) (omega arith) (omega arith))),
     )
 
 pub put-head-spec : {M : Type 1} → statement M

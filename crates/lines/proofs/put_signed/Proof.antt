@@ -14,8 +14,8 @@ use mir.Syntax.{w16}
 use mir.Val.{Fits, SFits, toZ, ofZ}
 use Rattle.records.proofs.Fields.{complement-kept, number-kept}
 use Rattle.model.specs.Replay.{decimal, signedDecimal}
-use Rattle.lines.specs.Text.{Wrote}
-use Rattle.lines.proofs.Texts.{wrote-then}
+use Rattle.records.specs.Wrote.{Wrote}
+use Rattle.records.proofs.Wrote.{wrote-then}
 use Rattle.lines.proofs.put_signed.Statement.{statement}
 use Rattle.lines.proofs.put_signed.Tie as tie
 

@@ -9,14 +9,16 @@ use mir.Facts.{toZ-ofZ}
 use mir.Syntax.{w16}
 use mir.Val.{SFits}
 use Rattle.model.specs.Replay.{signedDecimal}
-use Rattle.lines.specs.Text.{Wrote, variablesText}
-use Rattle.lines.proofs.Digits.{length-signed}
-use Rattle.lines.proofs.Texts.{nothing-wrote, wrote-then, wrote-near, variables-none, variables-more}
+use Rattle.records.specs.Wrote.{Wrote}
+use Rattle.lines.specs.Text.{variablesText}
+use Rattle.lines.proofs.Digits.{length-signed16}
+use Rattle.records.proofs.Wrote.{nothing-wrote, wrote-then, wrote-near}
+use Rattle.lines.proofs.Texts.{variables-none, variables-more}
 use Rattle.lines.proofs.put_variables.Statement.{statement}
 use Rattle.lines.proofs.put_variables.Tie as tie
 
 abbrev Inv-loop : tie.InvT-loop
-Inv-loop out₀ at variables count n next₀ v₀ out next v = (v ≤ n) × (next ≤ at + 22 * v) × (length out ≡ length out₀) × Wrote out₀ at (variablesText (take v variables)) out next
+Inv-loop out₀ at variables count n next₀ v₀ out next v = (v ≤ n) × (next ≤ at + 7 * v) × (length out ≡ length out₀) × Wrote out₀ at (variablesText (take v variables)) out next
 
 abbrev μ-loop : tie.MeasureT-loop
 μ-loop out₀ at variables count n next₀ v₀ out next v = n - v
@@ -58,7 +60,7 @@ loop-again c =
     subst (λ y. Wrote (char .last .0) (char .result) (signedDecimal y) (called .last .0) (called .result)) (toZ-ofZ held) (called .ensures) in
     let there : l .v < length vs = omega (arith, c .before .before .before .before .before .before .before .before .before .loop-test .taken, c .before .before .before .before .before .before .before .before .before .before .before .shown .ensures) in (
       omega (arith, c .before .before .before .before .before .before .before .before .before .loop-test .taken),
-      omega (arith, l .inv .1, wrote-near 1 (char .ensures) (omega arith), wrote-near 21 one (length-signed z)),
+      omega (arith, l .inv .1, wrote-near 1 (char .ensures) (omega arith), wrote-near 6 one (length-signed16 z (held .sfits))),
       called .kept .0 ∙ char .kept .0 ∙ l .inv .2,
       subst (λ t. Wrote (a .out .now) (a .at) t (called .last .0) (called .result)) (sym (variables-more vs (l .v) there)) (wrote-then (l .inv .3) (wrote-then (char .ensures) one)),
     )

@@ -2,11 +2,13 @@
 use mathlib.Core.Path.{sym, ap, _∙_, subst}
 use denote.Ref.{now}
 use Rattle.records.specs.Refusal.{val}
-use Rattle.model.specs.Runs.{deed}
+use Rattle.model.specs.Runs.{assign, deed}
 use Rattle.model.specs.ChartSet.{readCharts}
-use Rattle.charts.specs.Replies.{Doable, deedFor}
-use Rattle.charts.specs.StepOf.{worldIn}
+use Rattle.chart_files.specs.Parts.{deedFor}
+use Rattle.machines.specs.Worlds.{worldIn}
+use Rattle.charts.specs.Replies.{Doable}
 use Rattle.charts.proofs.Sound.{deed-doable}
+use Rattle.charts.proofs.InFile.{has-values, variables-in, nodes-in}
 use borrow.Author.Needs.{needs}
 use Rattle.charts.proofs.deeds.do_deed.Statement.{statement}
 use Rattle.charts.proofs.deeds.do_deed.Tie as tie
@@ -17,13 +19,15 @@ deed-of-requires c κs = search needs
 enum-known-v : tie.Need-enum-known-v
 enum-known-v c = search needs
 
+values-of-requires : tie.Need-values-of-requires
+values-of-requires c κs = search needs
+
 assign-requires : tie.Need-assign-requires
 assign-requires c κs =
-    let a = c .before .before .before .before .before .before in
-    let x = a .args in (
-      a .pre .0 .shape,
-      subst (Doable (x .shape .variables)) (sym (c .before .before .before .before .deed-of .ensures) ∙ ap deedFor (c .before .before .v .given .1)) (deed-doable (now (x .s)) (x .shape) (a .pre .0) (x .a) (a .pre .1)),
-    )
+    let a = c .before .before .before .before .before .before .before in
+    let x = a .args in
+    let d = subst (Doable (x .shape .variables)) (sym (c .before .before .before .before .before .deed-of .ensures) ∙ ap deedFor (c .before .before .before .v .given .1)) (deed-doable (now (x .s)) (x .shape) (a .pre .0) (x .a) (a .pre .1)) in
+    (has-values (now (x .s)) (x .shape) (a .pre .0 .shape) (c .before .values-of .result) (c .before .values-of .ensures), rw (c .before .values-of .ensures) d)
 
 enum-known-e : tie.Need-enum-known-e
 enum-known-e c = search needs
@@ -36,9 +40,14 @@ raised-requires c κs =
 
 returns : tie.Need-returns
 returns c = λ p q.
-    let x = c .before .before .before .before .before .before .before .args in
+    let a = c .before .before .before .before .before .before .before .before in
+    let x = a .args in
+    let s = now (x .s) in
+    let v = c .before .before .values-of in
+    let w = worldIn (now (x .vars)) (x .events) p q in
     c .assign .ensures p q
-    ∙ ap (λ d. deed (readCharts (now (x .s)) .nodes) (readCharts (now (x .s)) .variables) d (worldIn (now (x .vars)) (x .events) p q)) (ap deedFor (sym (c .before .before .before .v .given .1)) ∙ c .before .before .before .before .before .deed-of .ensures)
+    ∙ (λ i. deed (nodes-in s (x .shape) (a .pre .0 .shape) (v .result) (v .ensures) i) (variables-in s (x .shape) (a .pre .0 .shape) (v .result) (v .ensures) i) (ap deedFor (sym (c .before .before .before .before .v .given .1)) i) w)
+    ∙ ap (λ d. deed (readCharts s .nodes) (readCharts s .variables) d w) (c .before .before .before .before .before .before .deed-of .ensures)
 
 returns-2 : tie.Need-returns-2
 returns-2 c = λ p q.
@@ -52,6 +61,7 @@ do-deed-spec =
     (tie.spec
     deed-of-requires
     enum-known-v
+    values-of-requires
     assign-requires
     enum-known-e
     raised-requires

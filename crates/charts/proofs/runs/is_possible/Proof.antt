@@ -1,44 +1,61 @@
--- `runs::is_possible` meets its contract: each clause is a call's, and a run's arrays have the places that the model asks. Assumes nothing.
-use mathlib.Core.Path.{_≡_, sym, _∙_}
+-- `runs::is_possible` meets its contract: what is shared, and the ages. Assumes nothing.
+use mathlib.Core.Path.{_≡_, sym, ap, _∙_}
 use mathlib.Core.Bool.{_&&_}
-use borrow.Author.Needs.{needs}
-use lib.ListN.{length}
 use denote.Ref.{now}
-use Rattle.chart_files.proofs.Readings.{most-charts, most-variables}
+use lib.Dec.{leb}
+use lib.ListN.{length, getD}
+use Rattle.records.specs.Lists.{all, upto}
+use Rattle.model.specs.ChartSet.{readCharts}
+use Rattle.model.specs.Charts.{charts}
+use Rattle.chart_files.proofs.Readings.{most-charts, length-initial}
+use Rattle.machines.specs.Checks.{zeros, shared}
+use Rattle.machines.proofs.Possible.{possible-is}
 use Rattle.charts.specs.RunOf.{runOf}
-use Rattle.charts.proofs.Possible.{possible-is}
+use Rattle.charts.proofs.InFile.{homes-in, has-values, variables-in}
+use borrow.Author.Needs.{needs}
 use Rattle.charts.proofs.runs.is_possible.Statement.{statement}
 use Rattle.charts.proofs.runs.is_possible.Tie as tie
 
-states-possible-requires : tie.Need-states-possible-requires
-states-possible-requires c κs = let b = c .before .before .before .before in most-charts (now (b .args .s)) (b .args .shape) (b .pre)
+values-of-requires : tie.Need-values-of-requires
+values-of-requires c κs = search needs
 
-variables-possible-requires : tie.Need-variables-possible-requires
-variables-possible-requires c κs = let b = c .before .before .before .before .before in most-variables (now (b .args .s)) (b .args .shape) (b .pre)
+shared-possible-requires : tie.Need-shared-possible-requires
+shared-possible-requires c κs =
+    let b = c .before .before .before .before .before in
+    (most-charts (now (b .args .s)) (b .args .shape) (b .pre), has-values (now (b .args .s)) (b .args .shape) (b .pre) (c .values-of .result) (c .values-of .ensures))
 
 ages-possible-requires : tie.Need-ages-possible-requires
-ages-possible-requires c κs = let b = c .before .before .before .before .before .before in most-charts (now (b .args .s)) (b .args .shape) (b .pre)
+ages-possible-requires c κs =
+    let b = c .before .before .before .before .before .before in
+    most-charts (now (b .args .s)) (b .args .shape) (b .pre)
 
-counts-possible-requires : tie.Need-counts-possible-requires
-counts-possible-requires c κs = let b = c .before .before .before .before .before .before .before in most-charts (now (b .args .s)) (b .args .shape) (b .pre)
+ages-unused-requires : tie.Need-ages-unused-requires
+ages-unused-requires c κs = search needs
 
-unused-zero-requires : tie.Need-unused-zero-requires
-unused-zero-requires c κs = search needs
+-- the places that the arrays have by their types
+lengths : (c : tie.Start) → (length (c .args .run .states) ≡ 8) × (length (c .args .run .ages) ≡ 8) × (length (c .args .run .variables) ≡ 64)
+lengths c = (search needs, search needs, search needs)
 
 returns : tie.Need-returns
 returns c =
-    let b = c .before .before .before .before .before .before .before .before .before in
+    let b = c .before .before .before .before .before .before .before .before in
     let r = b .args .run in
-    let states : length (r .states) ≡ 8 = search needs in
-    let ages : length (r .ages) ≡ 8 = search needs in
-    let variables : length (r .variables) ≡ 64 = search needs in
-    (λ i. c .before .before .before .before .states-possible .ensures i
-    && c .before .before .before .variables-possible .ensures i
-    && c .before .before .ages-possible .ensures i
-    && c .before .counts-possible .ensures i
-    && c .unused-zero .ensures i)
-    ∙ sym (possible-is (now (b .args .s)) (b .args .shape) (b .pre) (runOf r) states ages variables)
+    let s = now (b .args .s) in
+    let sh = b .args .shape in
+    let v = c .before .before .before .values-of in
+    let n = sym (length-initial s sh (b .pre)) in
+    (λ i. c .before .before .shared-possible .ensures i && c .before .ages-possible .ensures i && c .ages-unused .ensures i)
+    ∙ (λ i. shared (n i) (homes-in s sh (b .pre) i) (variables-in s sh (b .pre) (v .result) (v .ensures) i) (r .states) (runOf r .world)
+    && all (λ k. leb (getD (r .ages) k 0) (r .cycles)) (upto (n i))
+    && zeros (n i) (r .ages))
+    ∙ sym (possible-is (charts (readCharts s)) (runOf r) (lengths b .0) (lengths b .1) (lengths b .2))
 
 pub is-possible-spec : {M : Type 1} → statement M
 is-possible-spec =
-    tie.close (tie.spec states-possible-requires variables-possible-requires ages-possible-requires counts-possible-requires unused-zero-requires returns)
+    tie.close
+    (tie.spec
+    values-of-requires
+    shared-possible-requires
+    ages-possible-requires
+    ages-unused-requires
+    returns)

@@ -4,7 +4,7 @@ use Prim.Native.Nat.{_+_, _-_, _≤_}
 use native.Mathlib.Omega.{arith}
 use borrow.Author.Needs.{needs}
 use lib.ListN.{length, getD}
-use Rattle.charts.proofs.Filled.{Filled, filled-none, filled-more, filled-mapped}
+use Rattle.machines.proofs.Filled.{Filled, filled-none, filled-more, filled-mapped}
 use Rattle.charts.proofs.runs.older.Statement.{statement}
 use Rattle.charts.proofs.runs.older.Tie as tie
 
@@ -52,7 +52,7 @@ returns c =
     let a = c .before .before .args in
     let l = c .before .loop in
     let end : l .k ≡ a .charts = omega arith in
-    filled-mapped (λ age. age + 1) (a .charts) (a .t2) (l .next) (subst (Filled (λ j. getD (a .t2) j 0 + 1) 0 (a .t2) (l .next)) end (l .inv .2))
+    filled-mapped (λ _ age. age + 1) (a .charts) (a .t2) (l .next) (subst (Filled (λ j. getD (a .t2) j 0 + 1) 0 (a .t2) (l .next)) end (l .inv .2))
 
 pub older-spec : {M : Type 1} → statement M
 older-spec = tie.close (tie.spec Inv-loop μ-loop loop-holds cast-i mul-next array-read-next add-next mul-next-2 array-write-next add-k loop-less loop-again returns)

@@ -4,7 +4,7 @@ use Prim.Native.Nat.{_<_}
 use native.Mathlib.Omega.{arith}
 use denote.Ref.{now}
 use Rattle.chart_files.proofs.Readings.{most-states, most-transitions}
-use Rattle.charts.specs.StepOf.{reasonOf, worldIn, worldAfter}
+use Rattle.machines.specs.Worlds.{reasonOf, worldIn, worldAfter}
 use Rattle.charts.proofs.Sound.{source-known, target-known}
 use Rattle.charts.proofs.StepLaws.{fault-leaving, fault-crossing, all-done}
 use borrow.Author.Needs.{needs}

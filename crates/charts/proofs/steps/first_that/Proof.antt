@@ -13,7 +13,7 @@ use Rattle.expressions.specs.Answers as expressions-answers
 use Rattle.model.specs.ChartSet.{readCharts}
 use Rattle.model.specs.Charts.{firstThat, transitionHolds}
 use Rattle.chart_files.proofs.Readings.{most-states}
-use Rattle.charts.specs.Replies.{bareWorld}
+use Rattle.machines.specs.Worlds.{bareWorld}
 use Rattle.charts.specs.StepOf.{slotHolds}
 use Rattle.charts.proofs.StepLaws.{slot, Tried, tried-none, tried-more, tried-found, tried-fault, tried-all, holds-named, named-one, row-outside}
 use Rattle.charts.proofs.steps.first_that.Statement.{statement}

@@ -1,23 +1,23 @@
 -- `tables::actions_of` meets its contract: the chains are filled down to a. Assumes nothing.
-use mathlib.Core.Path.{_≡_, sym, ap, _∙_, subst}
+use mathlib.Core.Path.{_≡_, sym, subst}
 use Prim.Native.Nat.{_+_, _-_, _<_}
-use native.Mathlib.Nat.{sub-zero}
 use native.Mathlib.Omega.{arith}
 use denote.Ref.{now}
 use Rattle.chart_files.proofs.Readings.{most-actions}
-use Rattle.charts.specs.Tables.{earliest, keyAt}
-use Rattle.charts.proofs.TableLaws.{Chains, with-key, chains-none, chains-more}
+use Rattle.machines.proofs.Chaining.{Chains, chains-none, chains-more, chains-made}
+use Rattle.charts.specs.Tables.{keyAt}
+use Rattle.charts.proofs.ActionLaws.{key-within}
 use Rattle.charts.proofs.tables.actions_of.Statement.{statement}
 use Rattle.charts.proofs.tables.actions_of.Tie as tie
 
 abbrev Inv-loop : tie.InvT-loop
-Inv-loop s shape first₀ next₀ a₀ first next a = Chains (keyAt s shape) (shape .actions) first next a
+Inv-loop s shape first₀ next₀ a₀ first next a = Chains (keyAt s shape) 512 512 (shape .actions) first next a
 
 abbrev μ-loop : tie.MeasureT-loop
 μ-loop s shape first₀ next₀ a₀ first next a = a
 
 loop-holds : tie.Need-loop-holds Inv-loop μ-loop
-loop-holds c = let x = c .before .args in chains-none (keyAt (now (x .s)) (x .shape)) (x .shape .actions)
+loop-holds c = let x = c .before .args in chains-none (keyAt (now (x .s)) (x .shape)) 512 512 (x .shape .actions)
 
 sub-a : tie.Need-sub-a Inv-loop μ-loop
 sub-a c = omega arith
@@ -63,19 +63,19 @@ loop-again c =
     let x = a .args in
     let l = c .before .before .loop in
     let e : l .a ≡ l .a - 1 + 1 = omega arith in
-    chains-more (keyAt (now (x .s)) (x .shape)) (x .shape .actions) (l .first) (l .next) (l .a - 1) (c .key-of .result)
-    (subst (Chains (keyAt (now (x .s)) (x .shape)) (x .shape .actions) (l .first) (l .next)) e (l .inv))
+    chains-more (keyAt (now (x .s)) (x .shape)) 512 512 (x .shape .actions) (l .first) (l .next) (l .a - 1) (c .key-of .result)
+    (subst (Chains (keyAt (now (x .s)) (x .shape)) 512 512 (x .shape .actions) (l .first) (l .next)) e (l .inv))
     (most-actions (now (x .s)) (x .shape) (a .pre .shape)) (sym (c .key-of .ensures .0)) (c .key-of .ensures .1)
 
 returns : tie.Need-returns Inv-loop μ-loop
 returns c =
-    let x = c .before .before .before .args in
+    let a = c .before .before .before in
+    let x = a .args in
     let l = c .before .loop in
     let e : l .a ≡ 0 = omega arith in
-    record {
-      first-of = λ k h. l .inv .firsts k h ∙ (λ i. earliest (with-key (keyAt (now (x .s)) (x .shape)) (x .shape .actions) k) (e i) (x .shape .actions - e i)) ∙ ap (earliest (with-key (keyAt (now (x .s)) (x .shape)) (x .shape .actions) k) 0) (sub-zero (x .shape .actions));
-      next-of = λ b h. l .inv .nexts b (omega arith) h;
-    }
+    let key = keyAt (now (x .s)) (x .shape) in
+    let made = chains-made key 512 512 (x .shape .actions) (l .first) (l .next) (subst (Chains key 512 512 (x .shape .actions) (l .first) (l .next)) e (l .inv)) in
+    record { first-of = made .first-of; next-of = λ b h. made .next-of b h (key-within (now (x .s)) (x .shape) (a .pre) b h) }
 
 pub actions-of-spec : {M : Type 1} → statement M
 actions-of-spec =

@@ -7,11 +7,12 @@ use denote.Ref.{now}
 use Rattle.records.specs.Refusal.{val, _>>=_}
 use Rattle.model.specs.Runs.{taken, idle}
 use Rattle.model.specs.ChartSet.{readCharts}
-use Rattle.model.specs.Charts.{chartStep}
-use Rattle.chart_files.proofs.Readings.{most-charts}
+use Rattle.model.specs.Charts.{chartStep, charts}
+use Rattle.chart_files.proofs.Readings.{most-charts, length-initial}
 use Rattle.charts.specs.RunOf.{runOf}
 use Rattle.charts.specs.StepOf.{replyOf}
-use Rattle.charts.proofs.Turning.{chart-value, chart-fault, chart-place}
+use Rattle.machines.proofs.Turning.{part-value, part-fault}
+use Rattle.charts.proofs.Turning.{chart-place}
 use Rattle.charts.proofs.turns.chart_turn.Statement.{statement}
 use Rattle.charts.proofs.turns.chart_turn.Tie as tie
 
@@ -36,12 +37,12 @@ took : (c : tie.After-known-told) →
     ≡ val (taken (c .before .reply .given .0 .0), runOf (c .before .before .before .before .chart-step .result .run))
 took c =
     let x = c .before .before .before .before .chart-step in
-    sym (x .ensures) ∙ ap (λ p. replyOf p >>= λ a. val (a, runOf (x .result .run))) (c .before .reply .given .1)
+    sym (x .ensures .0) ∙ ap (λ p. replyOf p >>= λ a. val (a, runOf (x .result .run))) (c .before .reply .given .1)
 
 moved-requires : tie.Need-moved-requires
 moved-requires c κs =
     let b = c .before .before .before .before .before .before .before in
-    omega (arith, b .pre .1 .1, chart-place (now (b .args .s)) (b .args .shape) (b .pre .0 .accepted .shape) (runOf (b .args .run)) (b .pre .1 .1) _ _ (took c), most-charts (now (b .args .s)) (b .args .shape) (b .pre .0 .accepted .shape))
+    omega (arith, b .pre .1 .1, chart-place (now (b .args .s)) (b .args .shape) (b .pre .0 .accepted .shape) (runOf (b .args .run)) _ _ (took c), most-charts (now (b .args .s)) (b .args .shape) (b .pre .0 .accepted .shape))
 
 enum-told : tie.Need-enum-told
 enum-told c = search needs
@@ -52,12 +53,12 @@ idled : (c : tie.After-enum-told) →
     ≡ val (idle, runOf (c .before .before .before .chart-step .result .run))
 idled c =
     let x = c .before .before .before .chart-step in
-    sym (x .ensures) ∙ ap (λ p. replyOf p >>= λ a. val (a, runOf (x .result .run))) (c .enum-told .given .1)
+    sym (x .ensures .0) ∙ ap (λ p. replyOf p >>= λ a. val (a, runOf (x .result .run))) (c .enum-told .given .1)
 
 moved-requires-2 : tie.Need-moved-requires-2
 moved-requires-2 c κs =
     let b = c .before .before .before .before .before .before in
-    omega (arith, b .pre .1 .1, chart-place (now (b .args .s)) (b .args .shape) (b .pre .0 .accepted .shape) (runOf (b .args .run)) (b .pre .1 .1) _ _ (idled c), most-charts (now (b .args .s)) (b .args .shape) (b .pre .0 .accepted .shape))
+    omega (arith, b .pre .1 .1, chart-place (now (b .args .s)) (b .args .shape) (b .pre .0 .accepted .shape) (runOf (b .args .run)) _ _ (idled c), most-charts (now (b .args .s)) (b .args .shape) (b .pre .0 .accepted .shape))
 
 enum-known-reply-2 : tie.Need-enum-known-reply-2
 enum-known-reply-2 c = search needs
@@ -66,21 +67,21 @@ returns : tie.Need-returns
 returns c =
     let b = c .before .before .before .before .before .before .before .before in
     ap (λ q. record { answer = val (taken (c .before .before .reply .given .0 .0)); lent = q }) (c .moved .ensures)
-    ∙ sym (chart-value (now (b .args .s)) (b .args .shape) (b .pre .0 .accepted .shape) (runOf (b .args .run)) (b .pre .1 .1) (runOf (b .args .lent)) _ _ (took (c .before)))
+    ∙ sym (part-value (charts (readCharts (now (b .args .s)))) (b .args .shape .charts) (length-initial (now (b .args .s)) (b .args .shape) (b .pre .0 .accepted .shape)) (runOf (b .args .run)) (b .pre .1 .1) (runOf (b .args .lent)) _ _ (took (c .before)))
 
 returns-2 : tie.Need-returns-2
 returns-2 c =
     let b = c .before .before .before .before .before .before .before in
     ap (λ q. record { answer = val idle; lent = q }) (c .moved2 .ensures)
-    ∙ sym (chart-value (now (b .args .s)) (b .args .shape) (b .pre .0 .accepted .shape) (runOf (b .args .run)) (b .pre .1 .1) (runOf (b .args .lent)) _ _ (idled (c .before)))
+    ∙ sym (part-value (charts (readCharts (now (b .args .s)))) (b .args .shape .charts) (length-initial (now (b .args .s)) (b .args .shape) (b .pre .0 .accepted .shape)) (runOf (b .args .run)) (b .pre .1 .1) (runOf (b .args .lent)) _ _ (idled (c .before)))
 
 returns-3 : tie.Need-returns-3
 returns-3 c =
     let x = c .before .before .before .before .chart-step in
     let b = c .before .before .before .before .before .before .before in
     sym
-    (chart-fault (now (b .args .s)) (b .args .shape) (b .pre .0 .accepted .shape) (runOf (b .args .run)) (b .pre .1 .1) (runOf (b .args .lent)) _
-    (sym (x .ensures) ∙ ap (λ p. replyOf p >>= λ a. val (a, runOf (x .result .run))) (c .before .reply2 .given .1)))
+    (part-fault (charts (readCharts (now (b .args .s)))) (b .args .shape .charts) (length-initial (now (b .args .s)) (b .args .shape) (b .pre .0 .accepted .shape)) (runOf (b .args .run)) (b .pre .1 .1) (runOf (b .args .lent)) _
+    (sym (x .ensures .0) ∙ ap (λ p. replyOf p >>= λ a. val (a, runOf (x .result .run))) (c .before .reply2 .given .1)))
 
 pub chart-turn-spec : {M : Type 1} → statement M
 chart-turn-spec =

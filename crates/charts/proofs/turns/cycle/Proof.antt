@@ -9,7 +9,9 @@ use Rattle.model.specs.ChartSet.{readCharts}
 use Rattle.model.specs.Charts.{charts}
 use Rattle.charts.specs.RunOf.{runOf, beforeOf}
 use Rattle.charts.specs.TurnOf.{endingOf, Ready}
-use Rattle.charts.proofs.Turning.{ready, cycle-refused, cycle-given}
+use Rattle.chart_files.proofs.Readings.{length-initial}
+use Rattle.machines.proofs.Turning.{cycle-refused, cycle-given}
+use Rattle.charts.proofs.Turning.{ready}
 use Rattle.charts.proofs.turns.cycle.Statement.{statement}
 use Rattle.charts.proofs.turns.cycle.Tie as tie
 
@@ -83,7 +85,7 @@ returns-4 c =
     c .cycle-taken .ensures
     ∙ sym
     (ap (settled (runOf (b .args .run)))
-    (cycle-given (now (b .args .s)) (b .args .shape) (b .pre .accepted .shape) (b .args .events) (runOf (b .args .run)) (runOf (c .before .give .result)) (passed (c .before .before)) (c .before .give .ensures)))
+    (cycle-given (charts (readCharts (now (b .args .s)))) (b .args .shape .charts) (length-initial (now (b .args .s)) (b .args .shape) (b .pre .accepted .shape)) (b .args .events) (runOf (b .args .run)) (runOf (c .before .give .result)) (passed (c .before .before)) (c .before .give .ensures)))
 
 pub cycle-spec : {M : Type 1} → statement M
 cycle-spec =

@@ -14,7 +14,8 @@ use Rattle.chart_files.proofs.Readings.{most-charts, length-initial}
 use Rattle.charts.specs.RunOf.{runOf}
 use Rattle.charts.specs.StepOf.{reasonOf}
 use Rattle.charts.specs.TurnOf.{refusalOf, answerOf, endingOf, Ready, after, finish}
-use Rattle.charts.proofs.Turning.{unsettled, unsettle, WentOn, went-on, went-wrong, ready-next, cycle-more, cycle-stop, cycle-end}
+use Rattle.machines.proofs.Turning.{unsettled, unsettle, WentOn, went-on, went-wrong, cycle-more, cycle-stop, cycle-end}
+use Rattle.charts.proofs.Turning.{ready-next}
 use Rattle.charts.proofs.turns.cycle_taken.Statement.{statement}
 use Rattle.charts.proofs.turns.cycle_taken.Tie as tie
 
@@ -88,7 +89,7 @@ loop-again c =
     let n = next-ready (c .before) in (
       n .0,
       l .inv .1
-          ∙ cycle-more (now (b .args .s)) (b .args .shape) (b .pre .0 .accepted .shape) (runOf (l .present)) (went (c .before) .answer) (runOf (t .chart-turn .result .run)) (t .before .if1 .taken) (n .1) (went (c .before) .is),
+          ∙ cycle-more (charts (readCharts (now (b .args .s)))) (b .args .shape .charts) (length-initial (now (b .args .s)) (b .args .shape) (b .pre .0 .accepted .shape)) (runOf (l .present)) (went (c .before) .answer) (runOf (t .chart-turn .result .run)) (t .before .if1 .taken) (n .1) (went (c .before) .is),
     )
 
 enum-known-w : tie.Need-enum-known-w Inv-loop μ-loop
@@ -105,7 +106,7 @@ returns c =
     (sym (ap endingOf (c .before .w .given .1)) ∙ c .before .before .before .ending-of .ensures) (stepping t) in
     sym
     (ap (λ o. settled (runOf (b .args .lent)) (finish o))
-    (l .inv .1 ∙ cycle-stop (now (b .args .s)) (b .args .shape) (b .pre .0 .accepted .shape) (runOf (l .present)) x (t .before .if1 .taken) wrong))
+    (l .inv .1 ∙ cycle-stop (charts (readCharts (now (b .args .s)))) (b .args .shape .charts) (length-initial (now (b .args .s)) (b .args .shape) (b .pre .0 .accepted .shape)) (runOf (l .present)) x (t .before .if1 .taken) wrong))
 
 enum-known-w-2 : tie.Need-enum-known-w-2 Inv-loop μ-loop
 enum-known-w-2 c = search needs
@@ -121,12 +122,12 @@ returns-2 c =
     (sym (ap endingOf (c .before .w2 .given .1)) ∙ c .before .before .before .ending-of .ensures) (stepping t) in
     sym
     (ap (λ o. settled (runOf (b .args .lent)) (finish o))
-    (l .inv .1 ∙ cycle-stop (now (b .args .s)) (b .args .shape) (b .pre .0 .accepted .shape) (runOf (l .present)) x (t .before .if1 .taken) wrong))
+    (l .inv .1 ∙ cycle-stop (charts (readCharts (now (b .args .s)))) (b .args .shape .charts) (length-initial (now (b .args .s)) (b .args .shape) (b .pre .0 .accepted .shape)) (runOf (l .present)) x (t .before .if1 .taken) wrong))
 
 time-passed-requires : tie.Need-time-passed-requires Inv-loop μ-loop
 time-passed-requires c κs =
     let b = c .before .before .before .before .before in
-    (most-charts (now (b .args .s)) (b .args .shape) (b .pre .0 .accepted .shape), c .before .before .before .loop .inv .0 .young)
+    (most-charts (now (b .args .s)) (b .args .shape) (b .pre .0 .accepted .shape), (let r = c .before .before .before .loop .inv .0 in (r .unfinished, r .timers)))
 
 returns-3 : tie.Need-returns-3 Inv-loop μ-loop
 returns-3 c =
@@ -137,7 +138,7 @@ returns-3 c =
     let is = b .pre .0 .accepted .shape in
     let last : l .present .position ≡ sh .charts + 1 = omega (arith, l .inv .0 .within, c .before .if1 .left) in
     ap (λ q. record { answer = val tt; lent = q }) (c .time-passed .ensures (readCharts s) (length-initial s sh is))
-    ∙ sym (ap (λ o. settled (runOf (b .args .lent)) (finish o)) (l .inv .1 ∙ cycle-end s sh is (runOf (l .present)) last))
+    ∙ sym (ap (λ o. settled (runOf (b .args .lent)) (finish o)) (l .inv .1 ∙ cycle-end (charts (readCharts s)) (sh .charts) (length-initial s sh is) (runOf (l .present)) last))
 
 pub cycle-taken-spec : {M : Type 1} → statement M
 cycle-taken-spec =

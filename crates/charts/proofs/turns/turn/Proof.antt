@@ -9,7 +9,8 @@ use Rattle.model.specs.ChartSet.{readCharts}
 use Rattle.model.specs.Charts.{charts}
 use Rattle.charts.specs.RunOf.{runOf, beforeOf}
 use Rattle.charts.specs.TurnOf.{answerOf, Ready}
-use Rattle.charts.proofs.Turning.{ready, turn-refused, turn-fine}
+use Rattle.machines.proofs.Turning.{turn-refused, turn-fine}
+use Rattle.charts.proofs.Turning.{ready}
 use Rattle.charts.proofs.turns.turn.Statement.{statement}
 use Rattle.charts.proofs.turns.turn.Tie as tie
 

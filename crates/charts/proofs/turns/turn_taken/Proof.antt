@@ -7,9 +7,10 @@ use Rattle.records.specs.Refusal.{val}
 use Rattle.model.specs.Outcome.{settled}
 use Rattle.model.specs.Runs.{time}
 use Rattle.model.specs.ChartSet.{readCharts}
+use Rattle.model.specs.Charts.{charts}
 use Rattle.chart_files.proofs.Readings.{most-charts, length-initial}
 use Rattle.charts.specs.RunOf.{runOf}
-use Rattle.charts.proofs.Turning.{at-time}
+use Rattle.machines.proofs.Turning.{at-time}
 use Rattle.charts.proofs.turns.turn_taken.Statement.{statement}
 use Rattle.charts.proofs.turns.turn_taken.Tie as tie
 
@@ -22,7 +23,7 @@ chart-turn-requires c κs = search needs
 time-passed-requires : tie.Need-time-passed-requires
 time-passed-requires c κs =
     let b = c .before .before .before .before in
-    (most-charts (now (b .args .s)) (b .args .shape) (b .pre .0 .accepted .shape), b .pre .1 .young)
+    (most-charts (now (b .args .s)) (b .args .shape) (b .pre .0 .accepted .shape), (b .pre .1 .unfinished, b .pre .1 .timers))
 
 returns : tie.Need-returns
 returns c = search needs
@@ -33,7 +34,7 @@ returns-2 c =
     let s = now (b .args .s) in
     let is = b .pre .0 .accepted .shape in
     ap (λ q. record { answer = val time; lent = q }) (c .time-passed .ensures (readCharts s) (length-initial s (b .args .shape) is))
-    ∙ sym (ap (settled (runOf (b .args .lent))) (at-time s (b .args .shape) is (runOf (b .args .run)) (omega arith)))
+    ∙ sym (ap (settled (runOf (b .args .lent))) (at-time (charts (readCharts s)) (b .args .shape .charts) (length-initial s (b .args .shape) is) (runOf (b .args .run)) (omega arith)))
 
 pub turn-taken-spec : {M : Type 1} → statement M
 turn-taken-spec = tie.close (tie.spec cast-if1 chart-turn-requires time-passed-requires returns returns-2)

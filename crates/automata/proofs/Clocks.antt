@@ -1,0 +1,55 @@
+-- Clocks, as reads of the file's bytes: their tops, how they grow, and that there is room for it. Assumes nothing.
+use mathlib.Core.Path.{_≡_, refl, sym, ap, _∙_}
+use mathlib.Core.Bool.{Bool, true, false, cond}
+use mathlib.Core.List.{List}
+use Prim.Native.Nat.{ℕ, _+_, _≤_, _<_}
+use native.Mathlib.Omega.{arith}
+use borrow.Author.Tests.{leb-true, ltb-true}
+use lib.Dec.{leb, ltb}
+use lib.ListN.{getD}
+use Rattle.records.specs.Lists.{all, upto, mapFrom}
+use Rattle.model.specs.Runs.{Run, timersPossible}
+use Rattle.model.specs.AutomataTable.{Timing, after, every, readAutomata}
+use Rattle.model.specs.AutomataTable as M
+use Rattle.model.specs.Automata.{top, grown, clocksGrown, automata}
+use Rattle.automata_files.specs.declared.Shape.{Shape}
+use Rattle.automata_files.specs.Shape.{IsShape}
+use Rattle.automata_files.specs.Places.{clockAt}
+use Rattle.automata_files.proofs.Readings.{length-clocks, clock-is}
+use Rattle.automata_files.proofs.Sound.{ticks-known}
+use Rattle.machines.proofs.FileLaws.{all-alike}
+use Rattle.machines.proofs.Possible.{all-upto}
+use Rattle.automata.specs.Accepted.{Accepted}
+use Rattle.automata.specs.RunOf.{topAt, grownAt, Low}
+
+module _ (s : List ℕ) (sh : Shape) (is : IsShape s sh) (r : Run) where
+  abbrev inside : ℕ → Bool
+  inside k = leb (getD (r .timers) k 0) (topAt s sh k)
+
+  abbrev model : ℕ → Bool
+  model k = leb (getD (r .timers) k 0) (top (M.clockAt (readAutomata s) k .timing) (M.clockAt (readAutomata s) k .ticks))
+
+  pub clocks-are : timersPossible (automata (readAutomata s)) r ≡ all inside (upto (sh .clocks))
+  clocks-are =
+      ap (λ n. all model (upto n)) (length-clocks s sh is)
+      ∙ all-alike model inside 0 (sh .clocks) (λ k a b. ap (λ c. leb (getD (r .timers) k 0) (top (c .timing) (c .ticks))) (clock-is s sh is k (omega arith)))
+
+  pub grown-are : clocksGrown (readAutomata s) r ≡ mapFrom 0 (grownAt s sh) (r .timers)
+  grown-are =
+      ap (λ n. mapFrom 0 (λ k x. cond (ltb k n) (grown (M.clockAt (readAutomata s) k .timing) (M.clockAt (readAutomata s) k .ticks) x) x) (r .timers)) (length-clocks s sh is)
+      ∙ (λ i. mapFrom 0 (λ k x. one k x (ltb k (sh .clocks)) refl i) (r .timers))
+    where
+      one : (k x : ℕ) (b : Bool) → ltb k (sh .clocks) ≡ b →
+          cond b (grown (M.clockAt (readAutomata s) k .timing) (M.clockAt (readAutomata s) k .ticks) x) x ≡ cond b (grown (clockAt s sh k .timing) (clockAt s sh k .ticks) x) x
+      one k x true e = ap (λ c. grown (c .timing) (c .ticks) x) (clock-is s sh is k (ltb-true k (sh .clocks) e))
+      one k x false e = refl
+
+highest : (t : Timing) (d : ℕ) → d ≤ 36_000 → top t d ≤ 36_001
+highest after d h = omega arith
+highest every d h = omega arith
+
+pub low-of : (s : List ℕ) (sh : Shape) → Accepted s sh → (r : Run) → timersPossible (automata (readAutomata s)) r ≡ true → Low (sh .clocks) (r .timers)
+low-of s sh ok r e k h =
+    let t : top (clockAt s sh k .timing) (clockAt s sh k .ticks) ≤ 36_001 = highest (clockAt s sh k .timing) (clockAt s sh k .ticks) (ticks-known s sh (ok .shape) (ok .unrefused) k h .1) in
+    let l : getD (r .timers) k 0 ≤ topAt s sh k = leb-true (getD (r .timers) k 0) (topAt s sh k) (all-upto (λ j. leb (getD (r .timers) j 0) (topAt s sh j)) (sh .clocks) k (sym (clocks-are s sh (ok .shape) r) ∙ e) h) in
+    omega arith

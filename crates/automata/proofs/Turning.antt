@@ -1,0 +1,30 @@
+-- Turns of automata: what the laws of turns ask of a machine. Assumes nothing.
+use mathlib.Core.Path.{_≡_}
+use mathlib.Core.List.{List}
+use Prim.Native.Nat.{ℕ, _+_, _-_, _≤_, _<_}
+use native.Mathlib.Omega.{arith}
+use Rattle.records.specs.Refusal.{val}
+use Rattle.model.specs.Runs.{Run, Answer, checked, give, stepped}
+use Rattle.model.specs.AutomataTable.{readAutomata}
+use Rattle.model.specs.Automata.{edgeStep, automata}
+use Rattle.automata_files.specs.declared.Shape.{Shape}
+use Rattle.automata_files.proofs.Readings.{length-initial}
+use Rattle.machines.proofs.Turning as T
+use Rattle.automata.specs.Accepted.{Accepted}
+use Rattle.automata.specs.TurnOf.{Ready, lowAt}
+use Rattle.automata.proofs.Clocks.{low-of}
+use Rattle.automata.proofs.Kept.{step-kept}
+
+module _ (s : List ℕ) (sh : Shape) (ok : Accepted s sh) where
+  pub ready : (given : ℕ) (r : Run) → checked (automata (readAutomata s)) given r ≡ val tt → Ready sh (give given r)
+  ready given r = T.ready (automata (readAutomata s)) (sh .automata) (length-initial s sh (ok .shape)) (lowAt sh) given r (low-of s sh ok r)
+
+  -- an automaton's turn leaves the run ready, at the next position
+  pub ready-next : (r : Run) (y : Answer × Run) → Ready sh r → r .world .position ≤ sh .automata → stepped (automata (readAutomata s)) r ≡ val y →
+      Ready sh (y .1) × (y .1 .world .position ≡ r .world .position + 1)
+  ready-next r y =
+      T.ready-next (automata (readAutomata s)) (sh .automata) (length-initial s sh (ok .shape)) (lowAt sh) (λ cycles k x y h f l. omega (arith, h, f l)) r y
+      (step-kept (readAutomata s) (r .world .position - 1) r)
+
+  pub automaton-place : (r : Run) (a : Answer) (q : Run) → edgeStep (readAutomata s) (r .world .position - 1) r ≡ val (a, q) → q .world .position ≡ r .world .position
+  automaton-place r = T.part-place (automata (readAutomata s)) r (step-kept (readAutomata s) (r .world .position - 1) r)

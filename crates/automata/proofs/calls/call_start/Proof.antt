@@ -1,0 +1,54 @@
+-- `calls::call_start` meets its contract. Assumes nothing.
+use mathlib.Core.Path.{sym, ap, _∙_}
+use borrow.Author.Needs.{needs}
+use denote.Ref.{now}
+use Rattle.records.specs.Refusal.{val, unless-refused}
+use Rattle.model.specs.Outcome.{settled}
+use Rattle.model.specs.Runs.{start}
+use Rattle.model.specs.AutomataTable.{readAutomata}
+use Rattle.model.specs.Automata.{automata}
+use Rattle.automata.specs.Accepted.{Accepted}
+use Rattle.automata.specs.RunOf.{runOf}
+use Rattle.automata.specs.TurnOf.{endingOf}
+use Rattle.automata.proofs.Checking.{accepted-of, refused-of}
+use Rattle.automata.proofs.calls.call_start.Statement.{statement}
+use Rattle.automata.proofs.calls.call_start.Tie as tie
+
+check-requires : tie.Need-check-requires
+check-requires c κs = search needs
+
+enum-told : tie.Need-enum-told
+enum-told c = search needs
+
+undone-requires : tie.Need-undone-requires
+undone-requires c κs = search needs
+
+enum-known-shape : tie.Need-enum-known-shape
+enum-known-shape c = search needs
+
+accepted : (c : tie.After-known-told) → Accepted (now (c .before .before .before .before .before .args .s)) (c .before .shape .given .0 .0)
+accepted c =
+    let k = c .before .before .before in
+    accepted-of (now (k .before .before .args .s)) (k .check .result) (k .check .ensures) (c .before .shape .given .0 .0) (c .before .shape .given .1)
+
+start-requires : tie.Need-start-requires
+start-requires c κs = accepted c .shape
+
+returns : tie.Need-returns
+returns c =
+    let t = c .before in
+    let k = t .before .before in
+    let a = k .before .before .args in
+    (λ i. record { answer = endingOf (c .undone .ensures .0 i); lent = runOf (c .undone .ensures .1 i) })
+    ∙ sym
+    (ap (λ o. settled (runOf (a .run)) (unless-refused o (val (tt, start (automata (readAutomata (now (a .s))))))))
+    (refused-of (now (a .s)) (k .check .result) (k .check .ensures) (t .enum-told .given .1)))
+
+returns-2 : tie.Need-returns-2
+returns-2 c =
+    let a = c .before .before .before .before .before .before .args in
+    ap (λ q. record { answer = val tt; lent = q }) (c .start .ensures)
+    ∙ sym (ap (λ o. settled (runOf (a .run)) (unless-refused o (val (tt, start (automata (readAutomata (now (a .s)))))))) (accepted (c .before) .unrefused))
+
+pub call-start-spec : {M : Type 1} → statement M
+call-start-spec = tie.close (tie.spec check-requires enum-told undone-requires enum-known-shape start-requires returns returns-2)

@@ -1,0 +1,18 @@
+-- `runs::before_turn` meets its contract. Assumes nothing.
+use mathlib.Core.Path.{ap, _∙_}
+use Rattle.machines.specs.Checks.{checkedBy}
+use borrow.Author.Needs.{needs}
+use Rattle.automata.proofs.runs.before_turn.Statement.{statement}
+use Rattle.automata.proofs.runs.before_turn.Tie as tie
+
+is-possible-requires : tie.Need-is-possible-requires
+is-possible-requires c κs = search needs
+
+decide-requires : tie.Need-decide-requires
+decide-requires c κs = search needs
+
+returns : tie.Need-returns
+returns c = let a = c .before .before .before .args in c .decide .ensures ∙ ap (λ b. checkedBy b (a .events) (a .run .position) (a .run .cycles)) (c .before .is-possible .ensures)
+
+pub before-turn-spec : {M : Type 1} → statement M
+before-turn-spec = tie.close (tie.spec is-possible-requires decide-requires returns)

@@ -1,0 +1,25 @@
+-- `runs::clock_possible` meets its contract. Assumes nothing.
+use mathlib.Core.Path.{ap, _∙_}
+use lib.Dec.{leb}
+use Rattle.model.specs.Automata.{top}
+use borrow.Author.Needs.{needs}
+use Rattle.automata.proofs.runs.clock_possible.Statement.{statement}
+use Rattle.automata.proofs.runs.clock_possible.Tie as tie
+
+timing-of-requires : tie.Need-timing-of-requires
+timing-of-requires c κs = search needs
+
+ticks-of-requires : tie.Need-ticks-of-requires
+ticks-of-requires c κs = search needs
+
+top-requires : tie.Need-top-requires
+top-requires c κs = search needs
+
+returns : tie.Need-returns
+returns c =
+    let a = c .before .before .before .before .args in
+    ap (leb (a .x)) (c .top .ensures ∙ (λ i. top (c .before .before .timing-of .ensures i) (c .before .ticks-of .ensures i)))
+
+pub clock-possible-spec : {M : Type 1} → statement M
+clock-possible-spec =
+    tie.close (tie.spec timing-of-requires ticks-of-requires top-requires returns)

@@ -1,0 +1,40 @@
+-- `turns::turn_taken` meets its contract. Assumes nothing.
+use mathlib.Core.Path.{sym, ap, _∙_}
+use native.Mathlib.Omega.{arith}
+use borrow.Author.Needs.{needs}
+use denote.Ref.{now}
+use Rattle.records.specs.Refusal.{val}
+use Rattle.model.specs.Outcome.{settled}
+use Rattle.model.specs.Runs.{time}
+use Rattle.model.specs.AutomataTable.{readAutomata}
+use Rattle.model.specs.Automata.{automata}
+use Rattle.automata_files.proofs.Readings.{length-initial}
+use Rattle.automata.specs.RunOf.{runOf}
+use Rattle.machines.proofs.Turning.{at-time}
+use Rattle.automata.proofs.turns.turn_taken.Statement.{statement}
+use Rattle.automata.proofs.turns.turn_taken.Tie as tie
+
+cast-if1 : tie.Need-cast-if1
+cast-if1 c = search needs
+
+automaton-turn-requires : tie.Need-automaton-turn-requires
+automaton-turn-requires c κs = search needs
+
+time-passed-requires : tie.Need-time-passed-requires
+time-passed-requires c κs =
+    let b = c .before .before .before .before in
+    (b .pre .0 .accepted, (b .pre .1 .unfinished, b .pre .1 .timers))
+
+returns : tie.Need-returns
+returns c = search needs
+
+returns-2 : tie.Need-returns-2
+returns-2 c =
+    let b = c .before .before .before .before .before in
+    let s = now (b .args .s) in
+    let is = b .pre .0 .accepted .shape in
+    ap (λ q. record { answer = val time; lent = q }) (c .time-passed .ensures)
+    ∙ sym (ap (settled (runOf (b .args .lent))) (at-time (automata (readAutomata s)) (b .args .shape .automata) (length-initial s (b .args .shape) is) (runOf (b .args .run)) (omega arith)))
+
+pub turn-taken-spec : {M : Type 1} → statement M
+turn-taken-spec = tie.close (tie.spec cast-if1 automaton-turn-requires time-passed-requires returns returns-2)

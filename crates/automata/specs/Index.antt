@@ -1,0 +1,57 @@
+-- The index of a table, built once: chains over record numbers, one for each owner of each kind that has owners. Assumes nothing: these are definitions.
+use mathlib.Core.Path.{_≡_}
+use mathlib.Core.Logic.{_⊎_}
+use mathlib.Core.Bool.{Bool}
+use mathlib.Core.List.{List}
+use Prim.Native.Nat.{ℕ, _+_, _*_, _-_, _≤_, _<_}
+use lib.Dec.{eqb}
+use lib.ListN.{getD}
+use Rattle.records.specs.Bytes.{two}
+use Rattle.machines.specs.Chains.{earliest}
+use Rattle.automata_files.specs.declared.Shape.{Shape}
+use Rattle.automata_files.specs.Places.{firstEdge, firstLiteral, firstClock, firstUpdate, firstReset}
+use Rattle.automata.specs.declared.index.Span.{Span}
+
+-- An edge's source, and the edge of a literal, of an update and of a reset, stand in the same bytes of the record.
+abbrev pub ownerIn : List ℕ → ℕ → ℕ
+ownerIn s n = two s (16 * n + 2)
+
+abbrev pub owned : List ℕ → ℕ → ℕ → Bool
+owned s o n = eqb (ownerIn s n) o
+
+-- Of the records from `start` up to `end`: of each owner the first, at the owner's key, `base` and its number; of each record the next of its owner.
+-- 65,535 is none.
+pub record Linked (s : List ℕ) (start end base owners : ℕ) (first next : List ℕ) : Type 0 where
+  pub first-of : (o : ℕ) → o < owners → getD first (base + o) 0 ≡ earliest (owned s o) start (end - start)
+  pub next-of : (n : ℕ) → start ≤ n → n < end → getD next n 0 ≡ earliest (owned s (ownerIn s n)) (n + 1) (end - (n + 1))
+
+-- Edges by their source, literals, updates and resets by their edge: keys from 0, 128, 512 and 896 on.
+pub record HasIndex (s : List ℕ) (sh : Shape) (first next : List ℕ) : Type 0 where
+  pub edges : Linked s (firstEdge sh) (firstLiteral sh) 0 128 first next
+  pub literals : Linked s (firstLiteral sh) (firstClock sh) 128 384 first next
+  pub updates : Linked s (firstUpdate sh) (firstReset sh) 512 384 first next
+  pub resets : Linked s (firstReset sh) (firstReset sh + sh .resets) 896 384 first next
+
+-- ---- while it is built
+
+-- no more records than the index has room for
+abbrev pub FewRecords : Shape → Type 0
+FewRecords sh = firstReset sh + sh .resets ≤ 14536
+
+-- outside some places
+abbrev pub Apart : ℕ → ℕ → ℕ → Type 0
+Apart lo hi k = (k < lo) ⊎ (hi ≤ k)
+
+-- a kind that can be linked: its records and keys have room, its records' owners have keys, and nothing is named there yet
+pub record Linkable (s : List ℕ) (sp : Span) (first : List ℕ) : Type 0 where
+  pub ordered : sp .start ≤ sp .end
+  pub space : sp .end ≤ 14536
+  pub room : sp .base + sp .owners ≤ 1280
+  pub own : (n : ℕ) → sp .start ≤ n → n < sp .end → ownerIn s n < sp .owners
+  pub empty : (o : ℕ) → o < sp .owners → getD first (sp .base + o) 0 ≡ 65535
+
+-- it is linked, and what other kinds have stays
+pub record Links (s : List ℕ) (sp : Span) (first₀ next₀ first next : List ℕ) : Type 0 where
+  pub linked : Linked s (sp .start) (sp .end) (sp .base) (sp .owners) first next
+  pub other-firsts : (k : ℕ) → Apart (sp .base) (sp .base + sp .owners) k → getD first k 0 ≡ getD first₀ k 0
+  pub other-nexts : (n : ℕ) → Apart (sp .start) (sp .end) n → getD next n 0 ≡ getD next₀ n 0

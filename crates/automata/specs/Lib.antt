@@ -1,0 +1,6 @@
+pub mod Accepted
+pub mod Values
+pub mod RunOf
+pub mod Index
+pub mod StepOf
+pub mod TurnOf

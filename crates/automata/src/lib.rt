@@ -1,0 +1,9 @@
+// Automata at work: runs, and the turns and cycles that they take by their open edges.
+pub mod calls;
+pub mod edges;
+pub mod index;
+pub mod literals;
+pub mod runs;
+pub mod steps;
+pub mod turns;
+pub mod values;

@@ -1,0 +1,230 @@
+// Turns and cycles of automata.
+ghost use mathlib.Core.Path.{_≡_};
+ghost use Prim.Native.Nat.{_+_, _-_, _≤_};
+ghost use Rattle.model.specs.Outcome.{settled};
+ghost use Rattle.model.specs.Runs.{stepped, turn as model-turn, cycle as model-cycle};
+ghost use Rattle.model.specs.AutomataTable.{readAutomata};
+ghost use Rattle.model.specs.Automata.{automata as machine};
+ghost use Rattle.machines.specs.Turns.{after, finish};
+ghost use Rattle.automata.specs.RunOf.{runOf};
+ghost use Rattle.automata.specs.TurnOf.{turnOf, endingOf, wentOn, calledOf, Known, Ready};
+use super::runs::Run;
+use super::runs::before_turn;
+use super::runs::give;
+use super::runs::moved;
+use super::runs::time_passed;
+use super::steps::Reason;
+use super::steps::Reply;
+use super::steps::edge_step;
+use automata_files::Shape;
+use machines::checks::Before;
+
+// Why no turn was taken: the file is refused, or the run or its events are.
+pub enum Refusal {
+    File,
+    Impossible,
+    Misplaced,
+    Finished,
+}
+
+pub enum Answer {
+    Taken(u16),
+    Time,
+    Fault(Reason),
+    Refused(Refusal),
+}
+
+// A turn's answer, and the run after it.
+pub struct Turned {
+    pub answer: Answer,
+    pub run: Run,
+}
+
+pub enum Ending {
+    Done,
+    Fault(Reason),
+    Refused(Refusal),
+}
+
+// The answer of a call that is done or not, and the run after it.
+pub struct Called {
+    pub answer: Ending,
+    pub run: Run,
+}
+
+// An automaton's turn, and the next position. Where it faults the run is the one that was lent.
+fn automaton_turn(
+    s: &[u8],
+    shape: Shape,
+    first: &[u16; 1280],
+    next: &[u16; 14536],
+    lent: Run,
+    run: Run,
+) -> Turned
+    requires { ⌜ Known (now s) shape (now first) (now next) ⌝ }
+    requires { ⌜ Ready shape (runOf run) ⌝ }
+    requires { ⌜ run .position ≤ shape .automata ⌝ }
+    ensures { λ r. ⌜ turnOf r ≡ settled (runOf lent) (stepped (machine (readAutomata (now (s .entry)))) (runOf run)) ⌝ }
+{
+    let automaton = (run.position - 1) as u16;
+    let step = edge_step(s, shape, first, next, automaton, run);
+    let reply = step.reply;
+    let after = step.run;
+    match reply {
+        Reply::Taken(t) => {
+            let run = moved(after);
+            Turned {
+                answer: Answer::Taken(t),
+                run,
+            }
+        }
+        Reply::Fault(w) => Turned {
+            answer: Answer::Fault(w),
+            run: lent,
+        },
+    }
+}
+
+// The turn of the present position: an automaton's, or time's.
+fn turn_taken(
+    s: &[u8],
+    shape: Shape,
+    first: &[u16; 1280],
+    next: &[u16; 14536],
+    lent: Run,
+    run: Run,
+) -> Turned
+    requires { ⌜ Known (now s) shape (now first) (now next) ⌝ }
+    requires { ⌜ Ready shape (runOf run) ⌝ }
+    ensures { λ r. ⌜ turnOf r ≡ settled (runOf lent) (stepped (machine (readAutomata (now (s .entry)))) (runOf run)) ⌝ }
+{
+    if run.position <= (shape.automata as u32) {
+        automaton_turn(s, shape, first, next, lent, run)
+    } else {
+        let run = time_passed(s, shape, run);
+        Turned {
+            answer: Answer::Time,
+            run,
+        }
+    }
+}
+
+// A refusal before a turn: nothing that was lent has changed.
+pub fn unready(run: Run, refusal: Refusal) -> Turned
+    ensures { λ r. ⌜ (r .answer ≡ Answer.Refused refusal) × (r .run ≡ run) ⌝ }
+{
+    Turned {
+        answer: Answer::Refused(refusal),
+        run,
+    }
+}
+
+// A turn of an accepted table.
+pub fn turn(
+    s: &[u8],
+    shape: Shape,
+    first: &[u16; 1280],
+    next: &[u16; 14536],
+    run: Run,
+    events: u32,
+) -> Turned
+    requires { ⌜ Known (now s) shape (now first) (now next) ⌝ }
+    ensures { λ r. ⌜ turnOf r ≡ settled (runOf run) (model-turn (machine (readAutomata (now (s .entry)))) events (runOf run)) ⌝ }
+{
+    match before_turn(s, shape, run, events) {
+        Before::Impossible => unready(run, Refusal::Impossible),
+        Before::Misplaced => unready(run, Refusal::Misplaced),
+        Before::Finished => unready(run, Refusal::Finished),
+        Before::Fine => {
+            let given = give(run, events);
+            turn_taken(s, shape, first, next, run, given)
+        }
+    }
+}
+
+// How a turn within a cycle ends the cycle; done where it was taken.
+fn ending_of(answer: Answer) -> Ending
+    ensures { λ r. ⌜ endingOf r ≡ wentOn answer ⌝ }
+{
+    match answer {
+        Answer::Taken(_) => Ending::Done,
+        Answer::Time => Ending::Done,
+        Answer::Fault(w) => Ending::Fault(w),
+        Answer::Refused(w) => Ending::Refused(w),
+    }
+}
+
+// The turns from the present position up to time's. Where one faults the run is the one that was lent.
+fn cycle_taken(
+    s: &[u8],
+    shape: Shape,
+    first: &[u16; 1280],
+    next: &[u16; 14536],
+    lent: Run,
+    run: Run,
+) -> Called
+    requires { ⌜ Known (now s) shape (now first) (now next) ⌝ }
+    requires { ⌜ Ready shape (runOf run) ⌝ }
+    ensures { λ r. ⌜ calledOf r ≡ settled (runOf lent) (finish (after (machine (readAutomata (now (s .entry)))) (shape .automata + 2 - run .position) (runOf run))) ⌝ }
+{
+    let mut present = run;
+    while present.position <= (shape.automata as u32) {
+        let turned = automaton_turn(s, shape, first, next, lent, present);
+        let answer = turned.answer;
+        match ending_of(answer) {
+            Ending::Done => {
+                let after = turned.run;
+                present = after;
+            }
+            Ending::Fault(w) => {
+                return Called {
+                    answer: Ending::Fault(w),
+                    run: lent,
+                };
+            }
+            Ending::Refused(w) => {
+                return Called {
+                    answer: Ending::Refused(w),
+                    run: lent,
+                };
+            }
+        }
+    }
+    let run = time_passed(s, shape, present);
+    Called {
+        answer: Ending::Done,
+        run,
+    }
+}
+
+pub fn undone(run: Run, refusal: Refusal) -> Called
+    ensures { λ r. ⌜ (r .answer ≡ Ending.Refused refusal) × (r .run ≡ run) ⌝ }
+{
+    Called {
+        answer: Ending::Refused(refusal),
+        run,
+    }
+}
+
+// A cycle of an accepted table: all its turns, or none.
+pub fn cycle(
+    s: &[u8],
+    shape: Shape,
+    first: &[u16; 1280],
+    next: &[u16; 14536],
+    run: Run,
+    events: u32,
+) -> Called
+    requires { ⌜ Known (now s) shape (now first) (now next) ⌝ }
+    ensures { λ r. ⌜ calledOf r ≡ settled (runOf run) (model-cycle (machine (readAutomata (now (s .entry)))) events (runOf run)) ⌝ }
+{
+    match before_turn(s, shape, run, events) {
+        Before::Impossible => undone(run, Refusal::Impossible),
+        Before::Misplaced => undone(run, Refusal::Misplaced),
+        Before::Finished => undone(run, Refusal::Finished),
+        Before::Fine => {
+            let given = give(run, events);
+            cycle_taken(s, shape, first, next, run, given)
+        }
+    }
+}

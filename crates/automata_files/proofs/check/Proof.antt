@@ -1,0 +1,47 @@
+-- `check` meets its contract: what framing refuses is refused, and the others are of the shape that is checked. Assumes nothing.
+use mathlib.Core.Path.{sym, ap, _∙_}
+use denote.Ref.{now}
+use Rattle.automata_files.specs.Shape.{refusalOf}
+use Rattle.automata_files.proofs.CheckLaws.{refused-framing, refused, accepted}
+use borrow.Author.Needs.{needs}
+use Rattle.automata_files.proofs.check.Statement.{statement}
+use Rattle.automata_files.proofs.check.Tie as tie
+
+shape-of-requires : tie.Need-shape-of-requires
+shape-of-requires c κs = search needs
+
+enum-told : tie.Need-enum-told
+enum-told c = search needs
+
+enum-known-shape : tie.Need-enum-known-shape
+enum-known-shape c = search needs
+
+passes-requires : tie.Need-passes-requires
+passes-requires c κs = c .before .before .before .shape-of .ensures .shape _ (c .before .shape .given .1)
+
+returns : tie.Need-returns
+returns c =
+    let o = c .before .before .shape-of in
+    refused-framing (now (c .before .before .before .before .args .s)) (sym (o .ensures .answer) ∙ ap refusalOf (c .enum-told .given .1))
+
+returns-2 : tie.Need-returns-2
+returns-2 c =
+    let o = c .before .before .before .before .before .shape-of in
+    accepted (now (c .before .before .before .before .before .before .before .args .s)) _ (o .ensures .shape _ (c .before .before .before .shape .given .1)) (sym (c .before .passes .ensures) ∙ c .if1 .taken)
+
+returns-3 : tie.Need-returns-3
+returns-3 c =
+    let o = c .before .before .before .before .before .shape-of in
+    refused (now (c .before .before .before .before .before .before .before .args .s)) _ (o .ensures .shape _ (c .before .before .before .shape .given .1)) (sym (c .before .passes .ensures) ∙ c .if1 .left)
+
+pub check-spec : {M : Type 1} → statement M
+check-spec =
+    tie.close
+    (tie.spec
+    shape-of-requires
+    enum-told
+    enum-known-shape
+    passes-requires
+    returns
+    returns-2
+    returns-3)

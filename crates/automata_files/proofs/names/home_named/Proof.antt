@@ -1,0 +1,20 @@
+-- `names::home_named` meets its contract. Assumes nothing.
+use mathlib.Core.Path.{ap}
+use lib.Dec.{ltb}
+use borrow.Author.Needs.{needs}
+use Rattle.automata_files.proofs.names.home_named.Statement.{statement}
+use Rattle.automata_files.proofs.names.home_named.Tie as tie
+
+home-of-requires : tie.Need-home-of-requires
+home-of-requires c κs = search needs
+
+cast-result : tie.Need-cast-result
+cast-result c = search needs
+
+returns : tie.Need-returns
+returns c =
+    let sh = c .before .before .before .args .shape in
+    ap (λ x. ltb x (sh .automata)) (c .before .home-of .ensures)
+
+pub home-named-spec : {M : Type 1} → statement M
+home-named-spec = tie.close (tie.spec home-of-requires cast-result returns)

@@ -1,0 +1,49 @@
+-- `names::updates_named` meets its contract: the invariant is that those below u passed. Assumes nothing.
+use mathlib.Core.Path.{sym, _∙_}
+use Prim.Native.Nat.{_-_}
+use native.Mathlib.Omega.{arith}
+use borrow.Author.Tests.{not-true, not-false}
+use denote.Ref.{now}
+use Rattle.expressions.proofs.Loops.{Passed, passed-none, passed-more, passed-all, passed-not}
+use Rattle.automata_files.specs.Names.{updateNamed}
+use Rattle.automata_files.proofs.names.updates_named.Statement.{statement}
+use Rattle.automata_files.proofs.names.updates_named.Tie as tie
+
+abbrev Inv-loop : tie.InvT-loop
+Inv-loop s shape size u₀ u = Passed (updateNamed s shape) (shape .updates) u
+
+abbrev μ-loop : tie.MeasureT-loop
+μ-loop s shape size u₀ u = shape .updates - u
+
+loop-holds : tie.Need-loop-holds Inv-loop μ-loop
+loop-holds c = let a = c .before .args in passed-none (updateNamed (now (a .s)) (a .shape)) (a .shape .updates)
+
+update-named-requires : tie.Need-update-named-requires Inv-loop μ-loop
+update-named-requires c κs = tt
+
+returns : tie.Need-returns Inv-loop μ-loop
+returns c =
+    let a = c .before .before .before .before .before .args in
+    let l = c .before .before .before .loop in
+    sym
+    (passed-not (updateNamed (now (a .s)) (a .shape)) (a .shape .updates) (l .u) (l .inv) (c .before .before .loop-test .taken) (sym (c .before .update-named .ensures) ∙ not-true _ (c .if1 .taken)))
+
+add-u : tie.Need-add-u Inv-loop μ-loop
+add-u c = omega (arith, c .before .before .before .before .before .good)
+
+loop-less : tie.Need-loop-less Inv-loop μ-loop
+loop-less c = omega arith
+
+loop-again : tie.Need-loop-again Inv-loop μ-loop
+loop-again c =
+    let a = c .before .before .before .before .before .args in
+    let l = c .before .before .before .loop in
+    passed-more (updateNamed (now (a .s)) (a .shape)) (a .shape .updates) (l .u) (l .inv) (c .before .before .loop-test .taken) (sym (c .before .update-named .ensures) ∙ not-false _ (c .if1 .left))
+
+returns-2 : tie.Need-returns-2 Inv-loop μ-loop
+returns-2 c =
+    let a = c .before .before .before .args in
+    sym (passed-all (updateNamed (now (a .s)) (a .shape)) (a .shape .updates) (c .before .loop .u) (c .before .loop .inv) (c .loop-test .left))
+
+pub updates-named-spec : {M : Type 1} → statement M
+updates-named-spec = tie.close (tie.spec Inv-loop μ-loop loop-holds update-named-requires returns add-u loop-less loop-again returns-2)

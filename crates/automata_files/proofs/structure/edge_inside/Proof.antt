@@ -1,0 +1,44 @@
+-- `structure::edge_inside` meets its contract: the homes of both ends. Assumes nothing.
+use mathlib.Core.Path.{ap, _∙_}
+use mathlib.Core.Bool.{_&&_}
+use denote.Ref.{now}
+use lib.Dec.{eqb}
+use Rattle.model.specs.AutomataTable.{readAutomata}
+use Rattle.model.specs.AutomataFile.{homeOf}
+use borrow.Author.Needs.{needs}
+use Rattle.automata_files.proofs.structure.edge_inside.Statement.{statement}
+use Rattle.automata_files.proofs.structure.edge_inside.Tie as tie
+
+automaton-of-requires : tie.Need-automaton-of-requires
+automaton-of-requires c κs = search needs
+
+source-of-requires : tie.Need-source-of-requires
+source-of-requires c κs = search needs
+
+automaton-at-requires : tie.Need-automaton-at-requires
+automaton-at-requires c κs = search needs
+
+target-of-requires : tie.Need-target-of-requires
+target-of-requires c κs = search needs
+
+automaton-at-requires-2 : tie.Need-automaton-at-requires-2
+automaton-at-requires-2 c κs = search needs
+
+returns : tie.Need-returns
+returns c =
+    let s = now (c .before .before .before .before .before .before .args .s) in
+    let a = c .before .before .before .before .automaton-of .ensures in
+    λ j.
+    eqb ((c .before .before .automaton-at .ensures ∙ ap (homeOf (readAutomata s)) (c .before .before .before .source-of .ensures)) j) (a j)
+    && eqb ((c .automaton-at2 .ensures ∙ ap (homeOf (readAutomata s)) (c .before .target-of .ensures)) j) (a j)
+
+pub edge-inside-spec : {M : Type 1} → statement M
+edge-inside-spec =
+    tie.close
+    (tie.spec
+    automaton-of-requires
+    source-of-requires
+    automaton-at-requires
+    target-of-requires
+    automaton-at-requires-2
+    returns)

@@ -1,0 +1,49 @@
+-- `structure::edges_inside` meets its contract: the invariant is that those below e passed. Assumes nothing.
+use mathlib.Core.Path.{sym, _∙_}
+use Prim.Native.Nat.{_-_}
+use native.Mathlib.Omega.{arith}
+use borrow.Author.Tests.{not-true, not-false}
+use denote.Ref.{now}
+use Rattle.expressions.proofs.Loops.{Passed, passed-none, passed-more, passed-all, passed-not}
+use Rattle.automata_files.specs.Structure.{edgeInside}
+use Rattle.automata_files.proofs.structure.edges_inside.Statement.{statement}
+use Rattle.automata_files.proofs.structure.edges_inside.Tie as tie
+
+abbrev Inv-loop : tie.InvT-loop
+Inv-loop s shape size e₀ e = Passed (edgeInside s shape) (shape .edges) e
+
+abbrev μ-loop : tie.MeasureT-loop
+μ-loop s shape size e₀ e = shape .edges - e
+
+loop-holds : tie.Need-loop-holds Inv-loop μ-loop
+loop-holds c = let a = c .before .args in passed-none (edgeInside (now (a .s)) (a .shape)) (a .shape .edges)
+
+edge-inside-requires : tie.Need-edge-inside-requires Inv-loop μ-loop
+edge-inside-requires c κs = c .before .before .before .pre
+
+returns : tie.Need-returns Inv-loop μ-loop
+returns c =
+    let a = c .before .before .before .before .before .args in
+    let l = c .before .before .before .loop in
+    sym
+    (passed-not (edgeInside (now (a .s)) (a .shape)) (a .shape .edges) (l .e) (l .inv) (c .before .before .loop-test .taken) (sym (c .before .edge-inside .ensures) ∙ not-true _ (c .if1 .taken)))
+
+add-e : tie.Need-add-e Inv-loop μ-loop
+add-e c = omega (arith, c .before .before .before .before .before .good)
+
+loop-less : tie.Need-loop-less Inv-loop μ-loop
+loop-less c = omega arith
+
+loop-again : tie.Need-loop-again Inv-loop μ-loop
+loop-again c =
+    let a = c .before .before .before .before .before .args in
+    let l = c .before .before .before .loop in
+    passed-more (edgeInside (now (a .s)) (a .shape)) (a .shape .edges) (l .e) (l .inv) (c .before .before .loop-test .taken) (sym (c .before .edge-inside .ensures) ∙ not-false _ (c .if1 .left))
+
+returns-2 : tie.Need-returns-2 Inv-loop μ-loop
+returns-2 c =
+    let a = c .before .before .before .args in
+    sym (passed-all (edgeInside (now (a .s)) (a .shape)) (a .shape .edges) (c .before .loop .e) (c .before .loop .inv) (c .loop-test .left))
+
+pub edges-inside-spec : {M : Type 1} → statement M
+edges-inside-spec = tie.close (tie.spec Inv-loop μ-loop loop-holds edge-inside-requires returns add-e loop-less loop-again returns-2)

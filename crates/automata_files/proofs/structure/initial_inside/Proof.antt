@@ -1,0 +1,27 @@
+-- `structure::initial_inside` meets its contract. Assumes nothing.
+use mathlib.Core.Path.{ap, _∙_}
+use denote.Ref.{now}
+use lib.Dec.{eqb}
+use Rattle.model.specs.AutomataTable.{readAutomata}
+use Rattle.model.specs.AutomataFile.{homeOf}
+use borrow.Author.Needs.{needs}
+use Rattle.automata_files.proofs.structure.initial_inside.Statement.{statement}
+use Rattle.automata_files.proofs.structure.initial_inside.Tie as tie
+
+initial-of-requires : tie.Need-initial-of-requires
+initial-of-requires c κs = search needs
+
+automaton-at-requires : tie.Need-automaton-at-requires
+automaton-at-requires c κs = search needs
+
+cast-home : tie.Need-cast-home
+cast-home c = search needs
+
+returns : tie.Need-returns
+returns c =
+    let a = c .before .before .before .args in
+    ap (λ h. eqb h (a .a)) (c .automaton-at .ensures ∙ ap (homeOf (readAutomata (now (a .s)))) (c .before .initial-of .ensures))
+
+pub initial-inside-spec : {M : Type 1} → statement M
+initial-inside-spec =
+    tie.close (tie.spec initial-of-requires automaton-at-requires cast-home returns)

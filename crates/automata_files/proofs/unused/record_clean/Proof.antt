@@ -1,0 +1,157 @@
+-- `unused::record_clean` meets its contract: each arm is the table's entry of its kind. Assumes nothing.
+use mathlib.Core.Path.{_≡_, refl, sym, ap, _∙_}
+use mathlib.Core.List.{List, [], _∷_}
+use Prim.Native.Nat.{ℕ}
+use borrow.Author.Tests.{ne-eqb}
+use Rattle.records.specs.Lists.{all, caseOf}
+use Rattle.model.specs.ChartFile.{unusedVariable, unusedNode, unusedAreZero}
+use Rattle.model.specs.AutomataFile.{unusedLiteral, unusedUpdate}
+use Rattle.chart_files.proofs.ListLaws.{entry}
+use Rattle.chart_files.proofs.RecordLoops.{unused-one, unused-two}
+use borrow.Author.Needs.{needs}
+use Rattle.automata_files.proofs.unused.record_clean.Statement.{statement}
+use Rattle.automata_files.proofs.unused.record_clean.Tie as tie
+
+abbrev table : List ℕ → List (ℕ × List (ℕ × ℕ))
+table r =
+    (33, (1, 2) ∷ (4, 16) ∷ [])
+    ∷ (34, (2, 16) ∷ [])
+    ∷ (35, (7, 16) ∷ [])
+    ∷ (36, unusedLiteral r)
+    ∷ (37, (4, 16) ∷ [])
+    ∷ (38, unusedVariable)
+    ∷ (39, unusedNode r)
+    ∷ (40, unusedUpdate r)
+    ∷ (41, (1, 2) ∷ (6, 16) ∷ [])
+    ∷ []
+
+byte-at-requires : tie.Need-byte-at-requires
+byte-at-requires c κs = search needs
+
+zeros-requires : tie.Need-zeros-requires
+zeros-requires c κs = search needs
+
+zeros-requires-2 : tie.Need-zeros-requires-2
+zeros-requires-2 c κs = search needs
+
+zeros-requires-3 : tie.Need-zeros-requires-3
+zeros-requires-3 c κs = search needs
+
+zeros-requires-4 : tie.Need-zeros-requires-4
+zeros-requires-4 c κs = search needs
+
+literal-clean-requires : tie.Need-literal-clean-requires
+literal-clean-requires c κs = search needs
+
+zeros-requires-5 : tie.Need-zeros-requires-5
+zeros-requires-5 c κs = search needs
+
+zeros-requires-6 : tie.Need-zeros-requires-6
+zeros-requires-6 c κs = search needs
+
+zeros-requires-7 : tie.Need-zeros-requires-7
+zeros-requires-7 c κs = search needs
+
+node-clean-requires : tie.Need-node-clean-requires
+node-clean-requires c κs = search needs
+
+update-clean-requires : tie.Need-update-clean-requires
+update-clean-requires c κs = search needs
+
+zeros-requires-8 : tie.Need-zeros-requires-8
+zeros-requires-8 c κs = search needs
+
+zeros-requires-9 : tie.Need-zeros-requires-9
+zeros-requires-9 c κs = search needs
+
+returns : tie.Need-returns
+unfolding all caseOf
+returns c =
+    let r = c .before .before .before .before .before .args .r .now in
+    unused-two r (1, 2) (4, 16) ((4, 16) ∷ []) (c .before .zeros .ensures) (c .zeros2 .ensures) refl ∙ ap (λ l. unusedAreZero l r) (entry (table r) [] 33 (c .before .before .match .keys1) (c .before .before .before .byte-at .ensures))
+
+returns-2 : tie.Need-returns-2
+unfolding all caseOf
+returns-2 c =
+    let r = c .before .before .before .before .args .r .now in
+    unused-one r (2, 16) [] (c .zeros3 .ensures) refl ∙ ap (λ l. unusedAreZero l r) (entry (table r) [] 34 (c .before .match .keys2) (c .before .before .byte-at .ensures))
+
+returns-3 : tie.Need-returns-3
+unfolding all caseOf
+returns-3 c =
+    let r = c .before .before .before .before .args .r .now in
+    unused-one r (7, 16) [] (c .zeros4 .ensures) refl ∙ ap (λ l. unusedAreZero l r) (entry (table r) [] 35 (c .before .match .keys3) (c .before .before .byte-at .ensures))
+
+returns-4 : tie.Need-returns-4
+unfolding all caseOf
+returns-4 c =
+    let r = c .before .before .before .before .args .r .now in
+    c .literal-clean .ensures ∙ ap (λ l. unusedAreZero l r) (entry (table r) [] 36 (c .before .match .keys4) (c .before .before .byte-at .ensures))
+
+returns-5 : tie.Need-returns-5
+unfolding all caseOf
+returns-5 c =
+    let r = c .before .before .before .before .args .r .now in
+    unused-one r (4, 16) [] (c .zeros5 .ensures) refl ∙ ap (λ l. unusedAreZero l r) (entry (table r) [] 37 (c .before .match .keys5) (c .before .before .byte-at .ensures))
+
+returns-6 : tie.Need-returns-6
+unfolding all caseOf
+returns-6 c =
+    let r = c .before .before .before .before .before .args .r .now in
+    unused-two r (1, 2) (8, 16) ((8, 16) ∷ []) (c .before .zeros6 .ensures) (c .zeros7 .ensures) refl ∙ ap (λ l. unusedAreZero l r) (entry (table r) [] 38 (c .before .before .match .keys6) (c .before .before .before .byte-at .ensures))
+
+returns-7 : tie.Need-returns-7
+unfolding all caseOf
+returns-7 c =
+    let r = c .before .before .before .before .args .r .now in
+    c .node-clean .ensures ∙ ap (λ l. unusedAreZero l r) (entry (table r) [] 39 (c .before .match .keys7) (c .before .before .byte-at .ensures))
+
+returns-8 : tie.Need-returns-8
+unfolding all caseOf
+returns-8 c =
+    let r = c .before .before .before .before .args .r .now in
+    c .update-clean .ensures ∙ ap (λ l. unusedAreZero l r) (entry (table r) [] 40 (c .before .match .keys8) (c .before .before .byte-at .ensures))
+
+returns-9 : tie.Need-returns-9
+unfolding all caseOf
+returns-9 c =
+    let r = c .before .before .before .before .before .args .r .now in
+    unused-two r (1, 2) (6, 16) ((6, 16) ∷ []) (c .before .zeros8 .ensures) (c .zeros9 .ensures) refl ∙ ap (λ l. unusedAreZero l r) (entry (table r) [] 41 (c .before .before .match .keys9) (c .before .before .before .byte-at .ensures))
+
+returns-10 : tie.Need-returns-10
+unfolding all caseOf
+returns-10 c =
+    let r = c .before .before .before .args .r .now in
+    let k = c .before .byte-at .result in
+    let none : caseOf k (table r) [] ≡ [] =
+    rw (ne-eqb k 33 (c .match .rest .0 .0 .0 .0 .0 .0 .0 .0 .1), ne-eqb k 34 (c .match .rest .0 .0 .0 .0 .0 .0 .0 .1), ne-eqb k 35 (c .match .rest .0 .0 .0 .0 .0 .0 .1), ne-eqb k 36 (c .match .rest .0 .0 .0 .0 .0 .1), ne-eqb k 37 (c .match .rest .0 .0 .0 .0 .1), ne-eqb k 38 (c .match .rest .0 .0 .0 .1), ne-eqb k 39 (c .match .rest .0 .0 .1), ne-eqb k 40 (c .match .rest .0 .1), ne-eqb k 41 (c .match .rest .1))
+    in
+    ap (λ l. unusedAreZero l r) (sym none ∙ entry (table r) [] k refl (c .before .byte-at .ensures))
+
+pub record-clean-spec : {M : Type 1} → statement M
+record-clean-spec =
+    tie.close
+    (tie.spec
+    byte-at-requires
+    zeros-requires
+    zeros-requires-2
+    zeros-requires-3
+    zeros-requires-4
+    literal-clean-requires
+    zeros-requires-5
+    zeros-requires-6
+    zeros-requires-7
+    node-clean-requires
+    update-clean-requires
+    zeros-requires-8
+    zeros-requires-9
+    returns
+    returns-2
+    returns-3
+    returns-4
+    returns-5
+    returns-6
+    returns-7
+    returns-8
+    returns-9
+    returns-10)

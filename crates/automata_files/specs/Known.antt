@@ -1,0 +1,21 @@
+-- What an accepted file's literals and updates keep to: the numbers in them name things of the file, and events are below 32. Assumes nothing: these are definitions.
+use mathlib.Core.Option.{Option, some, none}
+use Prim.Native.Nat.{ℕ, _<_}
+use Rattle.model.specs.Runs.{Deed, assign, raise}
+use Rattle.model.specs.AutomataTable.{Cause, always, event, clock}
+
+-- of so many clocks
+abbrev pub CauseKnown : ℕ → Cause → Type 0
+CauseKnown clocks always = Unit
+CauseKnown clocks (event e) = e < 32
+CauseKnown clocks (clock k) = k < clocks
+
+-- of so many nodes
+abbrev pub GuardKnown : ℕ → Option ℕ → Type 0
+GuardKnown nodes none = Unit
+GuardKnown nodes (some n) = n < nodes
+
+-- of so many variables and nodes
+abbrev pub DeedKnown : ℕ → ℕ → Deed → Type 0
+DeedKnown variables nodes (assign v n) = (v < variables) × (n < nodes)
+DeedKnown variables nodes (raise e) = e < 32

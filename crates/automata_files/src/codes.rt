@@ -1,0 +1,59 @@
+// Refusal 5, read for an automata file: codes and ranges, record by record.
+ghost use mathlib.Core.Path.{_≡_};
+ghost use mathlib.Core.Bool.{true};
+ghost use mathlib.Core.List.{[], _∷_};
+ghost use Rattle.records.specs.Lists.{all, caseOf};
+ghost use Rattle.records.specs.Bytes.{records};
+ghost use Rattle.model.specs.ChartFile.{isEvent};
+ghost use Rattle.model.specs.AutomataFile.{literalInCode, tableInCode};
+use chart_files::codes::deed_in_code;
+use chart_files::codes::node_in_code;
+use chart_files::codes::variable_in_code;
+use records::byte_at;
+
+fn cause_in_code(code: u8, event: u8) -> bool
+    ensures { λ r. ⌜ r ≡ caseOf code ((1, isEvent event) ∷ []) true ⌝ }
+{
+    match code {
+        1 => event <= 31,
+        _ => true,
+    }
+}
+
+fn literal_in_code(r: &[u8]) -> bool
+    ensures { λ t. ⌜ t ≡ literalInCode (now (r .entry)) ⌝ }
+{
+    let sign = byte_at(r, 1);
+    let code = byte_at(r, 4);
+    (1 <= sign) & (sign <= 2) & (code <= 2) & cause_in_code(code, byte_at(r, 5))
+}
+
+fn in_code(r: &[u8]) -> bool
+    ensures { λ t. ⌜ t ≡ tableInCode (now (r .entry)) ⌝ }
+{
+    let code = byte_at(r, 1);
+    match byte_at(r, 0) {
+        35 => byte_at(r, 6) <= 1,
+        36 => literal_in_code(r),
+        37 => (2 <= code) & (code <= 3),
+        38 => variable_in_code(r),
+        39 => node_in_code(r),
+        40 => deed_in_code(code, byte_at(r, 4)),
+        _ => true,
+    }
+}
+
+pub fn all_in_code(s: &[u8]) -> bool
+    ensures { λ r. ⌜ r ≡ all tableInCode (records (now (s .entry))) ⌝ }
+{
+    let mut i: usize = 0;
+    while i < s.len() / 16 {
+        let at = 16 * i;
+        let end = at + 16;
+        if !in_code(&s[at..end]) {
+            return false;
+        }
+        i += 1;
+    }
+    true
+}

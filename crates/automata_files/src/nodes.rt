@@ -1,0 +1,87 @@
+// The nodes of refusal 11: operands, guards that are truths, assigned nodes that are numbers, no operand twice.
+ghost use mathlib.Core.Path.{_≡_};
+ghost use Prim.Native.Nat.{_≤_};
+ghost use lib.Dec.{leb};
+ghost use lib.ListN.{length, getD};
+ghost use Rattle.records.specs.Lists.{all, upto};
+ghost use Rattle.expressions.specs.Nodes.{nodeAt};
+ghost use Rattle.expressions.specs.Sorts.{operandUses};
+ghost use Rattle.model.specs.AutomataTable.{readAutomata};
+ghost use Rattle.model.specs.AutomataFile.{tableNodesFit};
+ghost use Rattle.chart_files.specs.Used.{truths, numbers};
+ghost use Rattle.automata_files.specs.Shape.{IsShape};
+ghost use Rattle.automata_files.specs.Places.{nodePart};
+ghost use Rattle.automata_files.specs.Structure.{guardAt, assignedAt};
+use super::Shape;
+use super::fields::deed_of;
+use super::fields::guard_of;
+use super::fields::node_records;
+use chart_files::uses::deed_sorted;
+use chart_files::uses::guard_sorted;
+use expressions::sorts::operand_uses;
+use expressions::sorts::operands_fit;
+
+fn guards_fit(s: &[u8], shape: Shape) -> bool
+    requires { ⌜ IsShape (now s) shape ⌝ }
+    ensures { λ r. ⌜ r ≡ all (λ l. truths (nodeAt (nodePart (now (s .entry)) shape)) (guardAt (now (s .entry)) shape l)) (upto (shape .literals)) ⌝ }
+{
+    let nodes = node_records(s, shape);
+    let n = shape.literals;
+    let mut l = 0;
+    while l < n {
+        if !guard_sorted(guard_of(s, shape, l), nodes) {
+            return false;
+        }
+        l += 1;
+    }
+    true
+}
+
+fn assigned_fit(s: &[u8], shape: Shape) -> bool
+    requires { ⌜ IsShape (now s) shape ⌝ }
+    ensures { λ r. ⌜ r ≡ all (λ u. numbers (nodeAt (nodePart (now (s .entry)) shape)) (assignedAt (now (s .entry)) shape u)) (upto (shape .updates)) ⌝ }
+{
+    let nodes = node_records(s, shape);
+    let n = shape.updates;
+    let mut u = 0;
+    while u < n {
+        if !deed_sorted(deed_of(s, shape, u), nodes) {
+            return false;
+        }
+        u += 1;
+    }
+    true
+}
+
+// None of the first `size` nodes is used twice.
+fn none_twice(uses: &[u8], size: u16) -> bool
+    requires { ⌜ size ≤ length (now uses) ⌝ }
+    ensures { λ r. ⌜ r ≡ all (λ n. leb (getD (now (uses .entry)) n 0) 1) (upto size) ⌝ }
+{
+    let mut n = 0;
+    while n < size {
+        if 1 < uses[n as usize] {
+            return false;
+        }
+        n += 1;
+    }
+    true
+}
+
+fn used_once(s: &[u8], shape: Shape) -> bool
+    requires { ⌜ IsShape (now s) shape ⌝ }
+    ensures { λ r. ⌜ r ≡ all (λ n. leb (operandUses (nodeAt (nodePart (now (s .entry)) shape)) (shape .nodes) n) 1) (upto (shape .nodes)) ⌝ }
+{
+    let uses = operand_uses(node_records(s, shape), shape.nodes);
+    none_twice(&uses, shape.nodes)
+}
+
+pub fn table_nodes_fit(s: &[u8], shape: Shape) -> bool
+    requires { ⌜ IsShape (now s) shape ⌝ }
+    ensures { λ r. ⌜ r ≡ tableNodesFit (readAutomata (now (s .entry))) ⌝ }
+{
+    operands_fit(node_records(s, shape), shape.nodes)
+        & guards_fit(s, shape)
+        & assigned_fit(s, shape)
+        & used_once(s, shape)
+}

@@ -1,0 +1,39 @@
+-- `uses::deed_sorted` meets its contract: the test of the node that an arm has. Assumes nothing.
+use mathlib.Core.Path.{_≡_, sym, ap, _∙_}
+use mathlib.Core.List.{List}
+use Prim.Native.Nat.{ℕ}
+use denote.Ref.{now}
+use Rattle.records.specs.Lists.{all}
+use Rattle.expressions.specs.Nodes.{nodeAt}
+use Rattle.expressions.proofs.Loops.{and-one}
+use Rattle.model.specs.ChartFile.{assignedNodes}
+use Rattle.chart_files.specs.declared.fields.Deed.{Deed}
+use Rattle.chart_files.specs.Parts.{deedFor}
+use Rattle.chart_files.specs.Used.{numbers}
+use borrow.Author.Needs.{needs}
+use Rattle.chart_files.proofs.uses.deed_sorted.Statement.{statement}
+use Rattle.chart_files.proofs.uses.deed_sorted.Tie as tie
+
+tested : (nodes : List ℕ) {o x : Deed} → o ≡ x → numbers (nodeAt nodes) (assignedNodes (deedFor x)) ≡ numbers (nodeAt nodes) (assignedNodes (deedFor o))
+tested nodes e = ap (λ g. numbers (nodeAt nodes) (assignedNodes (deedFor g))) (sym e)
+
+enum-known-deed : tie.Need-enum-known-deed
+enum-known-deed c = search needs
+
+is-number-requires : tie.Need-is-number-requires
+is-number-requires c κs = search needs
+
+enum-told : tie.Need-enum-told
+enum-told c = search needs
+
+returns : tie.Need-returns
+unfolding all
+returns c = c .is-number .ensures ∙ and-one _ ∙ tested (now (c .before .before .before .before .before .args .nodes)) (c .before .before .deed .given .1)
+
+returns-2 : tie.Need-returns-2
+unfolding all
+returns-2 c = tested (now (c .before .before .before .args .nodes)) (c .enum-told .given .1)
+
+pub deed-sorted-spec : {M : Type 1} → statement M
+deed-sorted-spec =
+    tie.close (tie.spec enum-known-deed is-number-requires enum-told returns returns-2)

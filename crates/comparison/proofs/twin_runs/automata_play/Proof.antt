@@ -1,0 +1,24 @@
+-- `twin_runs::automata_play` meets its contract, by those of its calls. Assumes nothing.
+use mathlib.Core.Path.{_≡_, ap, _∙_}
+use mir.Syntax.{w32}
+use mir.Val.{toZ, ofZ}
+use Rattle.model.specs.Calls.{numbered}
+use Rattle.comparison.specs.Playing.{countCode}
+use borrow.Author.Needs.{needs}
+use Rattle.comparison.proofs.twin_runs.automata_play.Statement.{statement}
+use Rattle.comparison.proofs.twin_runs.automata_play.Tie as tie
+
+play-requires : tie.Need-play-requires
+play-requires c κs = search needs
+
+count-code-requires : tie.Need-count-code-requires
+count-code-requires c κs = search needs
+
+returns : tie.Need-returns
+returns c =
+    let kept : toZ w32 (ofZ w32 (c .count-code .result)) ≡ c .count-code .result = search needs in
+    let is = c .before .before .before .before .before .play .ensures .0 in
+    (kept ∙ c .count-code .ensures ∙ ap (λ o. numbered countCode (o .answer)) is, ap (λ o. o .lent) is)
+
+pub automata-play-spec : {M : Type 1} → statement M
+automata-play-spec = tie.close (tie.spec play-requires count-code-requires returns)

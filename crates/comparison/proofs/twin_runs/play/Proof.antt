@@ -1,0 +1,76 @@
+-- `twin_runs::play` meets its contract: a file that is not refused is one whose cycles can be played. Assumes nothing.
+use mathlib.Core.Path.{sym, ap, _∙_}
+use denote.Ref.{now}
+use Rattle.records.specs.Refusal.{unless-refused, val, _>>=_}
+use Rattle.model.specs.Outcome.{settled}
+use Rattle.model.specs.AutomataTable.{readAutomata}
+use Rattle.model.specs.Automata.{automata}
+use Rattle.automata.specs.Accepted.{Accepted}
+use Rattle.automata.specs.RunOf.{runOf}
+use Rattle.automata.proofs.Checking.{accepted-of, refused-of}
+use Rattle.comparison.specs.Playing.{playing}
+use Rattle.comparison.specs.TwinPlaying.{counted}
+use native.Mathlib.Omega.{arith}
+use borrow.Author.Needs.{needs}
+use Rattle.comparison.proofs.twin_runs.play.Statement.{statement}
+use Rattle.comparison.proofs.twin_runs.play.Tie as tie
+
+check-requires : tie.Need-check-requires
+check-requires c κs = search needs
+
+enum-told : tie.Need-enum-told
+enum-told c = search needs
+
+unplayed-requires : tie.Need-unplayed-requires
+unplayed-requires c κs = search needs
+
+enum-known-shape : tie.Need-enum-known-shape
+enum-known-shape c = search needs
+
+accepted : (c : tie.After-known-told) → Accepted (now (c .before .before .before .before .before .before .args .s)) (c .before .shape .given .0 .0)
+accepted c =
+    let k = c .before .before .before in
+    accepted-of (now (k .before .before .before .args .s)) (k .check .result) (k .check .ensures) (c .before .shape .given .0 .0) (c .before .shape .given .1)
+
+index-of-requires : tie.Need-index-of-requires
+index-of-requires c κs = accepted c
+
+cycles-played-requires : tie.Need-cycles-played-requires
+cycles-played-requires c κs =
+    let a = c .before .before .before .before in
+    record { accepted = accepted (a .before); has-index = a .index-of .ensures }
+
+returns : tie.Need-returns
+returns c =
+    let t = c .before in
+    let k = t .before .before in
+    let a = k .before .before .before .args in
+    let n = c .unplayed .ensures .2 in (
+      (λ i. record { answer = counted (c .unplayed .ensures .0 i) (c .unplayed .ensures .2 i); lent = runOf (c .unplayed .ensures .1 i) })
+          ∙ sym
+          (ap (λ o. settled (runOf (a .run)) (unless-refused o (playing (automata (readAutomata (now (a .s)))) (now (a .masks)) (runOf (a .run)))))
+          (refused-of (now (a .s)) (k .check .result) (k .check .ensures) (t .enum-told .given .1))),
+      omega (arith, n),
+    )
+
+returns-2 : tie.Need-returns-2
+returns-2 c =
+    let t = c .before .before .before .before .before .before in
+    let a = t .before .before .before .before .before .before .args in (
+      c .cycles-played .ensures .0
+          ∙ sym (ap (λ o. settled (runOf (a .run)) (unless-refused o (playing (automata (readAutomata (now (a .s)))) (now (a .masks)) (runOf (a .run))))) (accepted t .unrefused)),
+      c .cycles-played .ensures .1,
+    )
+
+pub play-spec : {M : Type 1} → statement M
+play-spec =
+    tie.close
+    (tie.spec
+    check-requires
+    enum-told
+    unplayed-requires
+    enum-known-shape
+    index-of-requires
+    cycles-played-requires
+    returns
+    returns-2)

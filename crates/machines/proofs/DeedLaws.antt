@@ -1,0 +1,106 @@
+-- Deeds: an assignment's cases, a raised event's bits, and deeds one by one along a chain. Assumes nothing.
+use mathlib.Core.Path.{_≡_, refl, sym, ap, _∙_}
+use mathlib.Core.Bool.{Bool, true, false, not, cond}
+use mathlib.Core.Option.{some, none}
+use mathlib.Core.List.{List, [], _∷_, map}
+use Prim.Native.Nat.{ℕ, suc, _+_, _-_, _*_, _/_, _%_, _^_, _≤_, _<_}
+use native.Mathlib.Nat.{mod-lt, mul-le-mul-right, pow-succ', sub-zero}
+use native.Mathlib.Omega.{arith}
+use borrow.Author.Tests.{leb-true, eq-eqb, ne-eqb, eqb-true, eqb-false}
+use lib.Dec.{eqb}
+use lib.IntN.{ℤ, pos, negsuc}
+use lib.ListN.{getD, set}
+use lib.Pow.{pow-pos, pow-add, split, shr-lt}
+use lib.Signed.{leZ, mag}
+use Rattle.records.specs.Lists.{keep, from, upto}
+use Rattle.records.specs.Refusal.{Refusal, Out, val, fault, out-of-bounds, _>>=_, _>>_, fault-if}
+use Rattle.records.proofs.FramingLaws.{impossible}
+use Rattle.expressions.specs.Nodes.{Node, nodeOf}
+use Rattle.expressions.specs.Values.{number}
+use Rattle.model.specs.Runs.{Variable, noVariable, within, present, World, setVar, Deed, assign, deed, deeds}
+use Rattle.machines.specs.Worlds.{worldIn}
+
+-- ---- numbers within bounds
+
+-- between two numbers of 16 bits, of 16 bits
+pub between : (l z h : ℤ) → mag l < 2 ^ 15 → mag h < 2 ^ 15 → leZ l z ≡ true → leZ z h ≡ true → mag z < 2 ^ 15
+between l (pos n) (pos m) a b e f = let k : n ≤ m = leb-true n m f in omega arith
+between l (pos n) (negsuc m) a b e f = impossible (sym f)
+between (pos m) (negsuc n) h a b e f = impossible (sym e)
+between (negsuc m) (negsuc n) h a b e f = let k : n ≤ m = leb-true n m e in omega arith
+
+-- ---- an assignment
+
+module _ (nodes : List Node) (variables : List Variable) (vars : List ℤ) (events v n : ℕ) where
+  abbrev fits : ℤ → Bool
+  fits z = within (getD variables v noVariable) z
+
+  module _ (p c : ℕ) where
+    abbrev then-set : ℤ → Out World
+    then-set z = fault-if (not (fits z)) out-of-bounds >> val (setVar v z (worldIn vars events p c))
+
+    pub assign-fault : (w : Refusal) → fault w ≡ number (nodeOf nodes) vars n → fault w ≡ deed nodes variables (assign v n) (worldIn vars events p c)
+    assign-fault w e = ap (λ o. o >>= then-set) e
+
+    pub assign-outside : (z : ℤ) → val z ≡ number (nodeOf nodes) vars n → none ≡ cond (fits z) (some z) none →
+        fault out-of-bounds ≡ deed nodes variables (assign v n) (worldIn vars events p c)
+    assign-outside z e f = go (fits z) f ∙ ap (λ o. o >>= then-set) e
+      where
+        go : (b : Bool) → none ≡ cond b (some z) none → fault out-of-bounds ≡ (fault-if (not b) out-of-bounds >> val (setVar v z (worldIn vars events p c)))
+        go true g = let x : _≡_ {A = ℕ} 0 1 = cc in absurd (omega arith)
+        go false g = refl
+
+    pub assign-within : (z x : ℤ) → val z ≡ number (nodeOf nodes) vars n → some x ≡ cond (fits z) (some z) none →
+        val (worldIn (set vars v x) events p c) ≡ deed nodes variables (assign v n) (worldIn vars events p c)
+    assign-within z x e f = go (fits z) f ∙ ap (λ o. o >>= then-set) e
+      where
+        go : (b : Bool) → some x ≡ cond b (some z) none →
+            val (worldIn (set vars v x) events p c) ≡ (fault-if (not b) out-of-bounds >> val (setVar v z (worldIn vars events p c)))
+        go true g = let y : x ≡ z = cc in ap (λ u. val (worldIn (set vars v u) events p c)) y
+        go false g = let y : _≡_ {A = ℕ} 0 1 = cc in absurd (omega arith)
+
+-- ---- events
+
+-- a bit that is 0 can be added
+pub bit-fits : (e mask : ℕ) → e < 32 → mask < 2 ^ 32 → present e mask ≡ false → mask + 2 ^ e < 2 ^ 32
+bit-fits e mask h m off =
+    let k : ℕ = 31 - e in
+    let i : suc k + e ≡ 32 = omega arith in
+    let q : mask / 2 ^ e < 2 ^ suc k = shr-lt (suc k) e (rw i m) in
+    let d : 2 ^ suc k ≡ 2 * 2 ^ k = pow-succ' 2 k in
+    let o : mask / 2 ^ e % 2 ≡ 1 → ⊥ = eqb-false (mask / 2 ^ e % 2) 1 off in
+    let u : mask / 2 ^ e + 2 ≤ 2 ^ suc k = omega arith in
+    let w : (mask / 2 ^ e + 2) * 2 ^ e ≤ 2 ^ suc k * 2 ^ e = mul-le-mul-right (2 ^ e) u in
+    let x : 2 ^ suc k * 2 ^ e ≡ 2 ^ 32 = sym (pow-add 2 (suc k) e) ∙ ap (λ n. 2 ^ n) i in
+    let s : mask / 2 ^ e * 2 ^ e + mask % 2 ^ e ≡ mask = split mask e in
+    let r : mask % 2 ^ e < 2 ^ e = mod-lt mask (pow-pos e) in
+    omega arith
+
+-- ---- deeds one by one
+
+module _ (nodes : List Node) (variables : List Variable) (act : ℕ → Deed) (vars₀ : List ℤ) (events₀ : ℕ) (all-of : List ℕ) where
+  -- what is left to do of all the deeds: those of the list, in the world as it is now
+  abbrev pub Left : List ℤ → ℕ → List ℕ → Type 0
+  Left vars events rest = (q c : ℕ) → deeds nodes variables (map act all-of) (worldIn vars₀ events₀ q c) ≡ deeds nodes variables (map act rest) (worldIn vars events q c)
+
+  pub left-all : (rest : List ℕ) → all-of ≡ rest → Left vars₀ events₀ rest
+  left-all rest e q c = ap (λ l. deeds nodes variables (map act l) (worldIn vars₀ events₀ q c)) e
+
+  module _ (vars : List ℤ) (events a : ℕ) (rest behind : List ℕ) (left : Left vars events rest) (one : rest ≡ a ∷ behind) where
+    one-more : (q c : ℕ) → deeds nodes variables (map act all-of) (worldIn vars₀ events₀ q c)
+        ≡ (deed nodes variables (act a) (worldIn vars events q c) >>= λ w. deeds nodes variables (map act behind) w)
+    unfolding deeds
+    one-more q c = left q c ∙ ap (λ l. deeds nodes variables (map act l) (worldIn vars events q c)) one
+
+    pub left-fault : (w : Refusal) → ((q c : ℕ) → fault w ≡ deed nodes variables (act a) (worldIn vars events q c)) →
+        (q c : ℕ) → fault w ≡ deeds nodes variables (map act all-of) (worldIn vars₀ events₀ q c)
+    left-fault w d q c = ap (λ o. o >>= λ w. deeds nodes variables (map act behind) w) (d q c) ∙ sym (one-more q c)
+
+    pub left-more : (vars′ : List ℤ) (events′ : ℕ) → ((q c : ℕ) → val (worldIn vars′ events′ q c) ≡ deed nodes variables (act a) (worldIn vars events q c)) →
+        Left vars′ events′ behind
+    left-more vars′ events′ d q c = one-more q c ∙ ap (λ o. o >>= λ w. deeds nodes variables (map act behind) w) (sym (d q c))
+
+  pub left-none : (vars : List ℤ) (events : ℕ) (rest : List ℕ) → Left vars events rest → rest ≡ [] →
+      (q c : ℕ) → val (worldIn vars events q c) ≡ deeds nodes variables (map act all-of) (worldIn vars₀ events₀ q c)
+  unfolding deeds
+  left-none vars events rest left e q c = sym (left q c ∙ ap (λ l. deeds nodes variables (map act l) (worldIn vars events q c)) e)

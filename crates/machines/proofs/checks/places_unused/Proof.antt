@@ -1,0 +1,51 @@
+-- `checks::places_unused` meets its contract: the invariant is that the places before k passed. Assumes nothing.
+use mathlib.Core.Path.{_≡_, refl, sym}
+use Prim.Native.Nat.{_-_}
+use native.Mathlib.Omega.{arith}
+use borrow.Author.Needs.{needs}
+use borrow.Author.Tests.{eq-eqb, ne-eqb}
+use lib.Dec.{eqb}
+use lib.ListN.{length}
+use Rattle.machines.proofs.Behind.{Behind, behind-more, behind-not, behind-all}
+use Rattle.machines.proofs.checks.places_unused.Statement.{statement}
+use Rattle.machines.proofs.checks.places_unused.Tie as tie
+
+abbrev Inv-loop : tie.InvT-loop
+Inv-loop parts at k₀ k = (length at ≡ 8) × Behind (λ x. eqb x 0) 0 parts at k
+
+abbrev μ-loop : tie.MeasureT-loop
+μ-loop parts at k₀ k = 8 - k
+
+loop-holds : tie.Need-loop-holds Inv-loop μ-loop
+loop-holds c = (search needs, refl)
+
+mul-if1 : tie.Need-mul-if1 Inv-loop μ-loop
+mul-if1 c = search needs
+
+array-read-if1 : tie.Need-array-read-if1 Inv-loop μ-loop
+array-read-if1 c = search needs
+
+returns : tie.Need-returns Inv-loop μ-loop
+returns c =
+    let a = c .before .before .before .args in
+    sym (behind-not (λ x. eqb x 0) 0 (a .parts) (a .t2) (c .before .before .loop .k) (c .before .before .loop .inv .1) (omega arith) (ne-eqb _ 0 (c .if1 .taken)))
+
+add-k : tie.Need-add-k Inv-loop μ-loop
+add-k c = search needs
+
+loop-less : tie.Need-loop-less Inv-loop μ-loop
+loop-less c = search needs
+
+loop-again : tie.Need-loop-again Inv-loop μ-loop
+loop-again c =
+    let a = c .before .before .before .args in
+    let l = c .before .before .loop in
+    (l .inv .0, behind-more (λ x. eqb x 0) 0 (a .parts) (a .t2) (l .k) (l .inv .1) (omega arith) (eq-eqb _ 0 (c .if1 .left)))
+
+returns-2 : tie.Need-returns-2 Inv-loop μ-loop
+returns-2 c =
+    let a = c .before .before .args in
+    sym (behind-all (λ x. eqb x 0) 0 (a .parts) (a .t2) (c .before .loop .k) (c .before .loop .inv .1) (omega arith))
+
+pub places-unused-spec : {M : Type 1} → statement M
+places-unused-spec = tie.close (tie.spec Inv-loop μ-loop loop-holds mul-if1 array-read-if1 returns add-k loop-less loop-again returns-2)

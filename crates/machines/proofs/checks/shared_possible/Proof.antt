@@ -1,0 +1,51 @@
+-- `checks::shared_possible` meets its contract: each clause is a call's. Assumes nothing.
+use mathlib.Core.Path.{ap, _∙_, sym}
+use mathlib.Core.Bool.{_&&_}
+use borrow.Author.Needs.{needs}
+use denote.Ref.{now}
+use Rattle.machines.specs.Checks.{zeroValues}
+use Rattle.machines.proofs.FileLaws.{length-variables}
+use Rattle.machines.proofs.checks.shared_possible.Statement.{statement}
+use Rattle.machines.proofs.checks.shared_possible.Tie as tie
+
+-- src/checks.rt:142:5
+places-possible-requires : tie.Need-places-possible-requires
+places-possible-requires c κs = search needs
+
+-- src/checks.rt:143:11
+variables-possible-requires : tie.Need-variables-possible-requires
+variables-possible-requires c κs = search needs
+
+-- src/checks.rt:144:11
+counts-possible-requires : tie.Need-counts-possible-requires
+counts-possible-requires c κs = search needs
+
+-- src/checks.rt:145:11
+places-unused-requires : tie.Need-places-unused-requires
+places-unused-requires c κs = search needs
+
+-- src/checks.rt:146:11
+variables-unused-requires : tie.Need-variables-unused-requires
+variables-unused-requires c κs = search needs
+
+-- src/checks.rt:127:1
+returns : tie.Need-returns
+returns c =
+    let a = c .before .before .before .before .before .before .args in
+    let behind = c .variables-unused .ensures ∙ sym (ap (λ n. zeroValues n (a .variables)) (length-variables (now (a .s)) (a .values))) in
+    λ i. c .before .before .before .before .places-possible .ensures i
+    && c .before .before .before .variables-possible .ensures i
+    && c .before .before .counts-possible .ensures i
+    && c .before .places-unused .ensures i
+    && behind i
+
+pub shared-possible-spec : {M : Type 1} → statement M
+shared-possible-spec =
+    tie.close
+    (tie.spec
+    places-possible-requires
+    variables-possible-requires
+    counts-possible-requires
+    places-unused-requires
+    variables-unused-requires
+    returns)

@@ -1,0 +1,28 @@
+-- `values::number_at` meets its contract: the nodes' records stand together. Assumes nothing.
+use mathlib.Core.Path.{sym, ap, _∙_}
+use denote.Ref.{now}
+use borrow.Author.Needs.{needs}
+use Rattle.expressions.specs.Nodes.{nodeAt}
+use Rattle.expressions.specs.Values.{number}
+use Rattle.machines.proofs.FileLaws.{lookup-is}
+use Rattle.machines.proofs.values.number_at.Statement.{statement}
+use Rattle.machines.proofs.values.number_at.Tie as tie
+
+-- src/values.rt:86:15
+node-records-requires : tie.Need-node-records-requires
+node-records-requires c κs = search needs
+
+-- src/values.rt:86:5
+number-of-requires : tie.Need-number-of-requires
+number-of-requires c κs = search needs
+
+-- src/values.rt:82:1
+returns : tie.Need-returns
+returns c =
+    let a = c .before .before .before .args in
+    c .number-of .ensures
+    ∙ ap (λ l. number (nodeAt l) (now (a .vars)) (a .n)) (c .before .node-records .ensures)
+    ∙ ap (λ f. number f (now (a .vars)) (a .n)) (sym (lookup-is (now (a .s)) (a .values)))
+
+pub number-at-spec : {M : Type 1} → statement M
+number-at-spec = tie.close (tie.spec node-records-requires number-of-requires returns)

@@ -1,0 +1,5 @@
+pub mod Files
+pub mod Worlds
+pub mod Checks
+pub mod Turns
+pub mod Chains

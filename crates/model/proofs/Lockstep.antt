@@ -1,0 +1,175 @@
+-- A call on a set's run and on its twin's goes turn for turn, and leaves runs at rest again. Assumes nothing.
+use mathlib.Core.Path.{_≡_, refl, sym, ap, _∙_, subst}
+use mathlib.Core.Bool.{false, not, cond, _||_}
+use Prim.Native.Nat.{ℕ, zero, suc, _+_, _-_, _≤_, _<_}
+use native.Mathlib.Omega.{arith}
+use lib.Dec.{T, leb, eqb, le→leb}
+use lib.ListN.{length}
+use Rattle.records.specs.Refusal.{refusalNumber, Out, val, fault}
+use Rattle.model.specs.Runs.{Run, Answer, taken, idle, time, Machine, stepped, give, Call, one-turn, whole-cycle, given, Trace, done, stopped, turned, onto, unless-stopped, turns, turnsOf, trace, ended}
+use Rattle.model.specs.ChartSet.{ChartSet}
+use Rattle.model.specs.Charts.{charts}
+use Rattle.model.specs.Automata.{automata}
+use Rattle.model.specs.Translation.{twin}
+use Rattle.model.specs.Correspondence.{AnswersMatch, TracesMatch}
+use Rattle.model.proofs.BoolLaws.{of-true, to-right, eq→eqb, ne→eqb}
+use Rattle.model.proofs.Traces.{left}
+use Rattle.model.proofs.Alike.{Sound, Alike}
+use Rattle.model.proofs.TwinTurns.{Went, TurnsMatch, given-alike, stepped-match}
+use Rattle.model.proofs.Corresponding.{alike-corresponds}
+use Rattle.model.proofs.PossibleRuns.{Resting, AtRest, charts-possible, twin-possible, gate, checked-is, gate-count}
+
+-- Two traces turn for turn, the next turn being taken in r.
+unfoldable pub Lockstep : ChartSet → Run → Trace → Trace → Type 0
+Lockstep cs r done done = Unit
+Lockstep cs r (stopped w) (stopped v) = w ≡ v
+Lockstep cs r (turned r₀ a r₁ t) (turned q₀ b q₁ u) =
+    (r₀ ≡ r) × (r .world .cycles ≤ 999_999) × AnswersMatch (twin cs) r₀ q₀ a b × Went cs r a b r₁ × AtRest cs r₁ q₁ × Lockstep cs r₁ t u
+Lockstep cs r done (stopped v) = ⊥
+Lockstep cs r done (turned q₀ b q₁ u) = ⊥
+Lockstep cs r (stopped w) done = ⊥
+Lockstep cs r (stopped w) (turned q₀ b q₁ u) = ⊥
+Lockstep cs r (turned r₀ a r₁ t) done = ⊥
+Lockstep cs r (turned r₀ a r₁ t) (stopped v) = ⊥
+
+-- ---- what a turn leaves
+
+module _ (cs : ChartSet) (r r₁ : Run) where
+  -- past a chart's turn the position is not 1
+  onward : r .world .position ≤ length (cs .initial) → r .world .cycles ≤ 999_999 → 1 ≤ r .world .position → r₁ .world .position ≡ r .world .position + 1 → r₁ .world .cycles ≡ r .world .cycles → Resting cs (r₁ .world)
+  onward l few low p c =
+      let no : eqb (r₁ .world .position) 1 ≡ false = ne→eqb {a = r₁ .world .position} {b = 1} (λ e. omega arith) in
+      record {
+        low = omega arith;
+        high = omega arith;
+        count = subst (λ x. T (leb (r₁ .world .cycles) (cond x 1_000_000 999_999))) (sym no) (le→leb (r₁ .world .cycles) 999_999 (omega arith));
+        events = subst (λ x. T (not x || eqb (r₁ .world .events) 0)) (sym no) tt;
+      }
+
+  -- the world is at rest after a turn
+  pub rests : 1 ≤ r .world .position → r .world .position ≤ length (cs .initial) + 1 → r .world .cycles ≤ 999_999 → (a b : Answer) → Went cs r a b r₁ → Resting cs (r₁ .world)
+  rests low high few (taken t) b w = onward (w .1) few low (w .2) (w .3)
+  rests low high few idle b w = onward (w .1) few low (w .2) (w .3)
+  rests low high few time time w =
+      let p : r₁ .world .position ≡ 1 = w .2 in
+      let c : r₁ .world .cycles ≡ r .world .cycles + 1 = w .3 in
+      record {
+        low = omega arith;
+        high = omega arith;
+        count = subst (λ x. T (leb (r₁ .world .cycles) (cond x 1_000_000 999_999))) (sym (eq→eqb p)) (le→leb (r₁ .world .cycles) 1_000_000 (omega arith));
+        events = to-right (not (eqb (r₁ .world .position) 1)) (eqb (r₁ .world .events) 0) (of-true (eq→eqb (w .4)));
+      }
+  rests low high few time (taken e) w = absurd w
+  rests low high few time idle w = absurd w
+
+  -- a chart's turn goes one position on
+  pub goes-on : r .world .position ≤ length (cs .initial) → (a b : Answer) → Went cs r a b r₁ → (r₁ .world .position ≡ r .world .position + 1) × (r₁ .world .cycles ≡ r .world .cycles)
+  goes-on l (taken t) b w = (w .2, w .3)
+  goes-on l idle b w = (w .2, w .3)
+  goes-on l time time w = let k : length (cs .initial) < r .world .position = w .0 in absurd (omega arith)
+  goes-on l time (taken e) w = absurd w
+  goes-on l time idle w = absurd w
+
+-- ---- a call
+
+module _ (cs : ChartSet) (ok : Sound cs) where
+  onto-lockstep : (r q : Run) → 1 ≤ r .world .position → r .world .position ≤ length (cs .initial) + 1 → r .world .cycles ≤ 999_999 →
+      (x y : Out (Answer × Run)) (f g : Run → Trace) → TurnsMatch cs r q x y →
+      ((a b : Answer) (r₁ q₁ : Run) → Went cs r a b r₁ → Alike cs r₁ q₁ → Lockstep cs r₁ (f r₁) (g q₁)) → Lockstep cs r (onto r x f) (onto q y g)
+  unfolding Lockstep
+  onto-lockstep r q low high few (fault w) (fault v) f g h k = h
+  onto-lockstep r q low high few (fault w) (val y) f g h k = absurd h
+  onto-lockstep r q low high few (val x) (fault v) f g h k = absurd h
+  onto-lockstep r q low high few (val x) (val y) f g h k =
+      (refl, few, h .0, h .1, record { alike = h .2; resting = rests cs r (x .1) low high few (x .0) (y .0) (h .1) }, k (x .0) (y .0) (x .1) (y .1) (h .1) (h .2))
+
+  -- turns of one cycle
+  turns-lockstep : (k : ℕ) (r q : Run) → Alike cs r q → 1 ≤ r .world .position → k + r .world .position ≤ length (cs .initial) + 2 → r .world .cycles ≤ 999_999 →
+      Lockstep cs r (turns (charts cs) k r) (turns (automata (twin cs)) k q)
+  unfolding turns Lockstep
+  turns-lockstep zero r q al low high few = tt
+  turns-lockstep (suc zero) r q al low high few =
+      onto-lockstep r q low (omega arith) few (stepped (charts cs) r) (stepped (automata (twin cs)) q) (turns (charts cs) zero) (turns (automata (twin cs)) zero) (stepped-match cs ok r q al low)
+      (λ a b r₁ q₁ w al₁. tt)
+  turns-lockstep (suc (suc k)) r q al low high few =
+      onto-lockstep r q low (omega arith) few (stepped (charts cs) r) (stepped (automata (twin cs)) q) (turns (charts cs) (suc k)) (turns (automata (twin cs)) (suc k)) (stepped-match cs ok r q al low)
+      (λ a b r₁ q₁ w al₁.
+      let n : (r₁ .world .position ≡ r .world .position + 1) × (r₁ .world .cycles ≡ r .world .cycles) = goes-on cs r r₁ (omega arith) a b w in
+      let p : r₁ .world .position ≡ r .world .position + 1 = n .0 in
+      let c : r₁ .world .cycles ≡ r .world .cycles = n .1 in
+      turns-lockstep (suc k) r₁ q₁ al₁ (omega arith) (omega arith) (omega arith))
+
+  pub trace-lockstep : (c : Call) (r q : Run) → AtRest cs r q → Lockstep cs (give (given c) r) (trace (charts cs) c r) (trace (automata (twin cs)) c q)
+  unfolding Lockstep
+  trace-lockstep c r q h =
+      subst (λ o. Lockstep cs (give (given c) r) (unless-stopped o (turns (charts cs) (turnsOf (charts cs) c r) (give (given c) r))) (trace (automata (twin cs)) c q))
+      (sym (checked-is (charts cs) (given c) r (charts-possible cs r q h)))
+      (subst (λ o. Lockstep cs (give (given c) r) (unless-stopped (gate (given c) (r .world)) (turns (charts cs) (turnsOf (charts cs) c r) (give (given c) r))) (unless-stopped o (turns (automata (twin cs)) (turnsOf (automata (twin cs)) c q) (give (given c) q))))
+      (ap (gate (given c)) (h .alike .worlds) ∙ sym (checked-is (automata (twin cs)) (given c) q (twin-possible cs r q h)))
+      (subst (λ k. Lockstep cs (give (given c) r) (unless-stopped (gate (given c) (r .world)) (turns (charts cs) (turnsOf (charts cs) c r) (give (given c) r))) (unless-stopped (gate (given c) (r .world)) (turns (automata (twin cs)) k (give (given c) q))))
+      (as-many c)
+      (go (gate (given c) (r .world)) refl)))
+    where
+      as-many : (c : Call) → turnsOf (charts cs) c r ≡ turnsOf (automata (twin cs)) c q
+      as-many (one-turn events) = refl
+      as-many (whole-cycle events) = ap (λ w. length (cs .initial) + 2 - w .position) (h .alike .worlds)
+
+      in-cycle : (c : Call) → turnsOf (charts cs) c r + r .world .position ≤ length (cs .initial) + 2
+      in-cycle (one-turn events) = let l : r .world .position ≤ length (cs .initial) + 1 = h .resting .high in omega arith
+      in-cycle (whole-cycle events) = let l : r .world .position ≤ length (cs .initial) + 1 = h .resting .high in omega arith
+
+      go : (o : Out (Unit {0})) → gate (given c) (r .world) ≡ o →
+          Lockstep cs (give (given c) r) (unless-stopped o (turns (charts cs) (turnsOf (charts cs) c r) (give (given c) r))) (unless-stopped o (turns (automata (twin cs)) (turnsOf (charts cs) c r) (give (given c) q)))
+      go (fault w) e = refl
+      go (val u) e =
+          turns-lockstep (turnsOf (charts cs) c r) (give (given c) r) (give (given c) q) (given-alike cs r q (h .alike) (given c)) (h .resting .low) (in-cycle c)
+          (gate-count cs (given c) (r .world) u (h .resting .count) e)
+
+-- ---- what follows of the traces
+
+module _ (cs : ChartSet) where
+  pub traces-match : (t u : Trace) (r : Run) → Lockstep cs r t u → TracesMatch cs (twin cs) t u
+  unfolding Lockstep TracesMatch
+  traces-match done done r h = tt
+  traces-match (stopped w) (stopped v) r h = ap refusalNumber h
+  traces-match (turned r₀ a r₁ t) (turned q₀ b q₁ u) r h = (h .2, alike-corresponds cs r₁ q₁ (h .4 .alike), traces-match t u r₁ (h .5))
+  traces-match done (stopped v) r h = absurd h
+  traces-match done (turned q₀ b q₁ u) r h = absurd h
+  traces-match (stopped w) done r h = absurd h
+  traces-match (stopped w) (turned q₀ b q₁ u) r h = absurd h
+  traces-match (turned r₀ a r₁ t) done r h = absurd h
+  traces-match (turned r₀ a r₁ t) (stopped v) r h = absurd h
+
+  -- both end, or both stop
+  abbrev pub EndsMatch : Out Run → Out Run → Type 0
+  EndsMatch (val r) (val q) = AtRest cs r q
+  EndsMatch (fault w) (fault v) = w ≡ v
+  EndsMatch (val r) (fault v) = ⊥
+  EndsMatch (fault w) (val q) = ⊥
+
+  pub ends-match : (t u : Trace) (r₀ r q : Run) → Lockstep cs r₀ t u → AtRest cs r q → EndsMatch (ended r t) (ended q u)
+  unfolding Lockstep ended
+  ends-match done done r₀ r q h rest = rest
+  ends-match (stopped w) (stopped v) r₀ r q h rest = h
+  ends-match (turned r₁ a r₂ t) (turned q₁ b q₂ u) r₀ r q h rest = ends-match t u r₂ r₂ q₂ (h .5) (h .4)
+  ends-match done (stopped v) r₀ r q h rest = absurd h
+  ends-match done (turned q₀ b q₁ u) r₀ r q h rest = absurd h
+  ends-match (stopped w) done r₀ r q h rest = absurd h
+  ends-match (stopped w) (turned q₀ b q₁ u) r₀ r q h rest = absurd h
+  ends-match (turned r₁ a r₂ t) done r₀ r q h rest = absurd h
+  ends-match (turned r₁ a r₂ t) (stopped v) r₀ r q h rest = absurd h
+
+  left-rest : (r q : Run) → AtRest cs r q → (x y : Out Run) → EndsMatch x y → AtRest cs (left r x) (left q y)
+  left-rest r q rest (val x) (val y) h = h
+  left-rest r q rest (fault w) (fault v) h = rest
+  left-rest r q rest (val x) (fault v) h = absurd h
+  left-rest r q rest (fault w) (val y) h = absurd h
+
+-- the run that a call of a machine leaves
+abbrev pub next : Machine → Call → Run → Run
+next m c r = left r (ended r (trace m c r))
+
+pub next-rest : (cs : ChartSet) → Sound cs → (c : Call) (r q : Run) → AtRest cs r q → AtRest cs (next (charts cs) c r) (next (automata (twin cs)) c q)
+next-rest cs ok c r q h =
+    left-rest cs r q h (ended r (trace (charts cs) c r)) (ended q (trace (automata (twin cs)) c q))
+    (ends-match cs (trace (charts cs) c r) (trace (automata (twin cs)) c q) (give (given c) r) r q (trace-lockstep cs ok c r q h) h)

@@ -1,0 +1,198 @@
+-- Check 12 holds of runs that are alike between calls, on both sides, and so 12 to 14 come to the same. Assumes nothing.
+use mathlib.Core.Path.{_≡_, refl, sym, ap, _∙_, subst}
+use mathlib.Core.Bool.{Bool, true, false, not, cond, _&&_}
+use mathlib.Core.List.{List, [], _∷_, _++_, map}
+use Prim.Native.Nat.{ℕ, zero, suc, _+_, _-_, _≤_, _<_, zero-le}
+use native.Mathlib.Omega.{arith}
+use lib.Dec.{T, leb, ltb, eqb, le→leb, lt→ltb, leb→le, nltb→le, ltb→lt}
+use lib.IntN.{ℤ, pos, negsuc}
+use lib.ListN.{length, getD, drop, replicate, length-append, length-replicate, length-map, List·getD-append, List·getD-eq-default, List·getD-map}
+use lib.Seq.{getD-append-add}
+use Rattle.records.specs.Lists.{all}
+use Rattle.records.specs.Refusal.{impossible-run, misplaced-events, cycles-done, Out, val, _>>=_, fault-if}
+use Rattle.expressions.specs.Values.{isZero}
+use Rattle.model.specs.Runs.{noVariable, within, World, Run, Machine, start, parts, allPlaces, placesPossible, variablesPossible, timersPossible, positionPossible, countPossible, eventsPossible, unusedZero, possible, checked}
+use Rattle.model.specs.ChartSet.{ChartSet}
+use Rattle.model.specs.Charts.{charts}
+use Rattle.model.specs.AutomataTable.{clockAt}
+use Rattle.model.specs.Automata.{top, automata}
+use Rattle.model.specs.Translation.{states, chartOf, clockOf, twin}
+use Rattle.model.specs.Correspondence.{clockFor}
+use Rattle.model.proofs.BoolLaws.{and-right, is-true, of-true, not-false, both-of, eq→eqb, eqb-ne}
+use Rattle.model.proofs.ListLaws.{all-upto, all-rest}
+use Rattle.model.proofs.TwinTime.{fresh-same}
+use Rattle.model.proofs.Deeds.{Valued}
+use Rattle.model.proofs.Alike.{Sound, Placed, Timed, Alike}
+
+-- Between calls the position is one of a cycle's, the count is not over, and no events are present at position 1.
+pub record Resting (cs : ChartSet) (w : World) : Type 0 where
+  pub low : 1 ≤ w .position
+  pub high : w .position ≤ length (cs .initial) + 1
+  pub count : T (countPossible (charts cs) w)
+  pub events : T (eventsPossible (charts cs) w)
+
+-- ---- variables not in use
+
+zero-within : (z : ℤ) → T (within noVariable z) → T (isZero z)
+zero-within (pos n) t = of-true (eq→eqb (low n (leb→le n 0 (and-right (leb 0 n) (leb n 0) t))))
+  where
+    low : (n : ℕ) → n ≤ 0 → n ≡ 0
+    low n h = omega arith
+zero-within (negsuc n) t = absurd t
+
+all-zero-from : (k : ℕ) (vars : List ℤ) → ((v : ℕ) → k ≤ v → T (isZero (getD vars v (pos 0)))) → T (all isZero (drop k vars))
+unfolding all
+all-zero-from zero [] h = tt
+all-zero-from zero (z ∷ vars) h = both-of (isZero z) (all isZero vars) (h 0 zero-le) (all-zero-from zero vars (λ v l. h (suc v) zero-le))
+all-zero-from (suc k) [] h = tt
+all-zero-from (suc k) (z ∷ vars) h = all-zero-from k vars (λ v l. h (suc v) (omega arith))
+
+-- ---- check 12, from what it asks
+
+module _ (cs : ChartSet) (m : Machine) (initial : m .initial ≡ cs .initial) (homes : m .homes ≡ cs .homes) (variables : m .variables ≡ cs .variables) (r : Run) where
+  pub possible-of : Placed cs (r .at) → Valued (cs .variables) (r .world .vars) → Resting cs (r .world) → length (r .timers) ≡ m .timers-room →
+      ((k : ℕ) → k < m .timers-used → T (m .timer-possible (r .world .cycles) k (getD (r .timers) k 0))) → ((k : ℕ) → m .timers-used ≤ k → getD (r .timers) k 0 ≡ 0) → T (possible m r)
+  possible-of placed valued rest room timers past =
+      both-of (allPlaces m r && placesPossible m r && variablesPossible m r && timersPossible m r && positionPossible m (r .world) && countPossible m (r .world) && eventsPossible m (r .world)) (unusedZero m r)
+      (both-of (allPlaces m r && placesPossible m r && variablesPossible m r && timersPossible m r && positionPossible m (r .world) && countPossible m (r .world)) (eventsPossible m (r .world))
+      (both-of (allPlaces m r && placesPossible m r && variablesPossible m r && timersPossible m r && positionPossible m (r .world)) (countPossible m (r .world))
+      (both-of (allPlaces m r && placesPossible m r && variablesPossible m r && timersPossible m r) (positionPossible m (r .world))
+      (both-of (allPlaces m r && placesPossible m r && variablesPossible m r) (timersPossible m r)
+      (both-of (allPlaces m r && placesPossible m r) (variablesPossible m r) (both-of (allPlaces m r) (placesPossible m r) rooms in-places) in-variables) in-timers) position) (rest .count)) (rest .events)) zeros
+    where
+      rooms : T (allPlaces m r)
+      rooms = both-of (eqb (length (r .at)) 8 && eqb (length (r .timers)) (m .timers-room)) (eqb (length (r .world .vars)) 64)
+          (both-of (eqb (length (r .at)) 8) (eqb (length (r .timers)) (m .timers-room)) (of-true (eq→eqb (placed .room))) (of-true (eq→eqb room))) (of-true (eq→eqb (valued .room)))
+
+      place : ℕ → Bool
+      place c = ltb (getD (r .at) c 0) (length (m .homes)) && eqb (getD (m .homes) (getD (r .at) c 0) 0) c
+
+      in-places : T (placesPossible m r)
+      in-places = all-upto place (parts m) (λ c h.
+          let p : (getD (r .at) c 0 < states cs) × (chartOf cs (getD (r .at) c 0) ≡ c) = placed .home c (subst (λ l. c < length l) initial h) in
+          both-of (ltb (getD (r .at) c 0) (length (m .homes))) (eqb (getD (m .homes) (getD (r .at) c 0) 0) c)
+          (lt→ltb (getD (r .at) c 0) (length (m .homes)) (subst (λ l. getD (r .at) c 0 < length l) (sym homes) (p .0)))
+          (of-true (eq→eqb (ap (λ l. getD l (getD (r .at) c 0) 0) homes ∙ p .1))))
+
+      in-variables : T (variablesPossible m r)
+      in-variables = all-upto (λ v. within (getD (m .variables) v noVariable) (getD (r .world .vars) v (pos 0))) (length (m .variables))
+          (λ v h. subst (λ l. T (within (getD l v noVariable) (getD (r .world .vars) v (pos 0)))) (sym variables) (valued .bounded v))
+
+      in-timers : T (timersPossible m r)
+      in-timers = all-upto (λ k. m .timer-possible (r .world .cycles) k (getD (r .timers) k 0)) (m .timers-used) timers
+
+      position : T (positionPossible m (r .world))
+      position = both-of (leb 1 (r .world .position)) (leb (r .world .position) (parts m + 1)) (le→leb 1 (r .world .position) (rest .low))
+          (le→leb (r .world .position) (parts m + 1) (subst (λ l. r .world .position ≤ length l + 1) (sym initial) (rest .high)))
+
+      zeros : T (unusedZero m r)
+      zeros = both-of (all (λ s. eqb s 0) (drop (parts m) (r .at)) && all (λ t. eqb t 0) (drop (m .timers-used) (r .timers))) (all isZero (drop (length (m .variables)) (r .world .vars)))
+          (both-of (all (λ s. eqb s 0) (drop (parts m) (r .at))) (all (λ t. eqb t 0) (drop (m .timers-used) (r .timers)))
+          (all-rest (parts m) (r .at) (λ k l. placed .rest k (subst (λ z. length z ≤ k) initial l))) (all-rest (m .timers-used) (r .timers) past))
+          (all-zero-from (length (m .variables)) (r .world .vars) (λ v l. zero-within (getD (r .world .vars) v (pos 0))
+          (subst (λ x. T (within x (getD (r .world .vars) v (pos 0)))) (List·getD-eq-default (cs .variables) noVariable (subst (λ z. length z ≤ v) variables l)) (valued .bounded v))))
+
+-- ---- alike and at rest: the state of two runs between calls
+
+pub record AtRest (cs : ChartSet) (r q : Run) : Type 0 where
+  pub alike : Alike cs r q
+  pub resting : Resting cs (r .world)
+
+module _ (cs : ChartSet) (r q : Run) (h : AtRest cs r q) where
+  pub charts-possible : T (possible (charts cs) r)
+  charts-possible =
+      possible-of cs (charts cs) refl refl refl r (h .alike .placed) (h .alike .valued) (h .resting) (h .alike .timed .age-room)
+      (λ c l. le→leb (getD (r .timers) c 0) (r .world .cycles) (h .alike .timed .age-low c l)) (h .alike .timed .age-rest)
+
+  pub twin-possible : T (possible (automata (twin cs)) q)
+  twin-possible =
+      possible-of cs (automata (twin cs)) refl refl refl q (subst (Placed cs) (h .alike .ats) (h .alike .placed))
+      (subst (λ w. Valued (cs .variables) (w .vars)) (h .alike .worlds) (h .alike .valued)) (subst (Resting cs) (h .alike .worlds) (h .resting)) (h .alike .timed .clock-room)
+      (λ k l. le→leb (getD (q .timers) k 0) (top (clockAt (twin cs) k .timing) (clockAt (twin cs) k .ticks)) (h .alike .timed .clock-low k l)) (h .alike .timed .clock-rest)
+
+-- ---- checks 13 and 14, of the world alone
+
+abbrev pub gate : ℕ → World → Out (Unit {0})
+gate given w =
+    fault-if (not (eqb (w .position) 1) && not (eqb given 0)) misplaced-events >>= λ _. fault-if (eqb (w .position) 1 && eqb (w .cycles) 1_000_000) cycles-done
+
+pub checked-is : (m : Machine) (given : ℕ) (r : Run) → T (possible m r) → checked m given r ≡ gate given (r .world)
+checked-is m given r t = ap (λ b. fault-if (not b) impossible-run >>= λ _. gate given (r .world)) (is-true {b = possible m r} t)
+
+-- past them the count is below 1,000,000
+pub gate-count : (cs : ChartSet) (given : ℕ) (w : World) (u : Unit {0}) → T (countPossible (charts cs) w) → gate given w ≡ val u → w .cycles ≤ 999_999
+gate-count cs given w u t e = go (eqb (w .position) 1) (eqb (w .cycles) 1_000_000) refl t e
+  where
+    go : (a b : Bool) → eqb (w .cycles) 1_000_000 ≡ b → T (leb (w .cycles) (cond a 1_000_000 999_999)) →
+        (fault-if (not a && not (eqb given 0)) misplaced-events >>= λ _. fault-if (a && b) cycles-done) ≡ val u → w .cycles ≤ 999_999
+    go false b q t e = leb→le (w .cycles) 999_999 t
+    go true true q t e = let z : _≡_ {A = ℕ} 0 1 = cc in absurd (omega arith)
+    go true false q t e = let l : w .cycles ≤ 1_000_000 = leb→le (w .cycles) 1_000_000 t in let n : w .cycles ≡ 1_000_000 → ⊥ = eqb-ne q in omega arith
+
+-- ---- fresh runs
+
+getD-zeros : (n k : ℕ) → _≡_ {A = ℕ} (getD (replicate n 0) k 0) 0
+getD-zeros zero k = refl
+getD-zeros (suc n) zero = refl
+getD-zeros (suc n) (suc k) = getD-zeros n k
+
+getD-zeros± : (n k : ℕ) → getD (replicate n (pos 0)) k (pos 0) ≡ pos 0
+getD-zeros± zero k = refl
+getD-zeros± (suc n) zero = refl
+getD-zeros± (suc n) (suc k) = getD-zeros± n k
+
+module _ (cs : ChartSet) (ok : Sound cs) where
+  start-placed : Placed cs (start (charts cs) .at)
+  start-placed = record {
+    room = length-append (cs .initial) (replicate (8 - length (cs .initial)) 0)
+        ∙ rw (length-replicate {A = ℕ} (8 - length (cs .initial)) 0) (let h : length (cs .initial) ≤ 8 = ok .charts-fit in omega arith);
+    home = λ c h. subst (λ s. (s < states cs) × (chartOf cs s ≡ c)) (sym (List·getD-append (cs .initial) (replicate (8 - length (cs .initial)) 0) 0 c h)) (ok .initials c h);
+    rest = λ k l.
+        let e : length (cs .initial) + (k - length (cs .initial)) ≡ k = omega arith in
+        ap (λ n. getD (cs .initial ++ replicate (8 - length (cs .initial)) 0) n 0) (sym e)
+        ∙ getD-append-add (cs .initial) (replicate (8 - length (cs .initial)) 0) (k - length (cs .initial)) 0 ∙ getD-zeros (8 - length (cs .initial)) (k - length (cs .initial));
+  }
+
+  start-valued : Valued (cs .variables) (start (charts cs) .world .vars)
+  start-valued = record {
+    room = length-append (map (λ v. v .start) (cs .variables)) (replicate (64 - length (map (λ v. v .start) (cs .variables))) (pos 0))
+        ∙ rw (length-replicate {A = ℤ} (64 - length (map (λ v. v .start) (cs .variables))) (pos 0), length-map (cs .variables) (λ v. v .start)) (let h : length (cs .variables) ≤ 64 = ok .variables-fit in omega arith);
+    bounded = λ v. go v (ltb v (length (cs .variables))) refl;
+  }
+    where
+      firsts : List ℤ
+      firsts = map (λ v. v .start) (cs .variables)
+
+      as-many : length firsts ≡ length (cs .variables)
+      as-many = length-map (cs .variables) (λ v. v .start)
+
+      go : (v : ℕ) (p : Bool) → ltb v (length (cs .variables)) ≡ p → T (within (getD (cs .variables) v noVariable) (getD (firsts ++ replicate (64 - length firsts) (pos 0)) v (pos 0)))
+      go v true q =
+          let h : v < length firsts = subst (λ n. v < n) (sym as-many) (ltb→lt v (length (cs .variables)) (of-true q)) in
+          subst (λ z. T (within (getD (cs .variables) v noVariable) z))
+          (sym (List·getD-append firsts (replicate (64 - length firsts) (pos 0)) (pos 0) v h ∙ List·getD-map (λ v. v .start) (cs .variables) v noVariable)) (ok .starts v)
+      go v false q =
+          let l : length (cs .variables) ≤ v = nltb→le v (length (cs .variables)) (not-false q) in
+          let e : length firsts + (v - length firsts) ≡ v = omega (arith, as-many) in
+          let z : getD (firsts ++ replicate (64 - length firsts) (pos 0)) v (pos 0) ≡ pos 0 =
+          ap (λ n. getD (firsts ++ replicate (64 - length firsts) (pos 0)) n (pos 0)) (sym e)
+          ∙ getD-append-add firsts (replicate (64 - length firsts) (pos 0)) (v - length firsts) (pos 0) ∙ getD-zeros± (64 - length firsts) (v - length firsts) in
+          let d : getD (cs .variables) v noVariable ≡ noVariable = List·getD-eq-default (cs .variables) noVariable l in
+          subst (λ x. T (within x (getD (firsts ++ replicate (64 - length firsts) (pos 0)) v (pos 0)))) (sym d) (subst (λ x. T (within noVariable x)) (sym z) tt)
+
+  start-timed : Timed cs (start (charts cs) .at) (replicate 8 0) (replicate 256 0) 0
+  start-timed = record {
+    same = λ c t x c-in t-in e f. getD-zeros 256 (clockOf cs t) ∙ sym (ap (clockFor (x .timing) (x .ticks)) (getD-zeros 8 c) ∙ fresh-same (x .timing) (x .ticks));
+    age-room = refl;
+    age-low = λ c c-in. rw (getD-zeros 8 c) zero-le;
+    age-rest = λ k l. getD-zeros 8 k;
+    clock-room = refl;
+    clock-low = λ k l. rw (getD-zeros 256 k) zero-le;
+    clock-rest = λ k l. getD-zeros 256 k;
+  }
+
+  pub start-rest : AtRest cs (start (charts cs)) (start (automata (twin cs)))
+  start-rest = record {
+    alike = record { worlds = refl; ats = refl; placed = start-placed; valued = start-valued; timed = start-timed };
+    resting = record { low = omega arith; high = omega arith; count = tt; events = tt };
+  }

@@ -1,0 +1,81 @@
+-- `edge_of` meets its contract. Assumes nothing.
+use mathlib.Core.Path.{_≡_, sym, ap, _∙_, subst}
+use Prim.Native.Nat.{ℕ, _+_, _-_, _<_}
+use native.Mathlib.Omega.{arith}
+use borrow.Author.Needs.{needs}
+use denote.Ref.{now}
+use Rattle.model.specs.ChartSet.{readCharts}
+use Rattle.model.specs.AutomataTable.{edge}
+use Rattle.model.specs.Translation.{twin}
+use Rattle.chart_files.specs.Places.{homeAt, transitionAt}
+use Rattle.charts.proofs.Sound.{source-known}
+use Rattle.paths.proofs.Edges.{home-known, low-automaton, low-source, low-target, high-automaton, high-source, high-target}
+use Rattle.paths.proofs.edge_of.Statement.{statement}
+use Rattle.paths.proofs.edge_of.Tie as tie
+use Rattle.paths.proofs.edge_of.Reads as reads
+use Rattle.paths.proofs.edge_of.Lts as lts
+use Rattle.chart_files.proofs.fields.home_of.Reads as home-of-reads
+use Rattle.chart_files.proofs.fields.source_of.Reads as source-of-reads
+use Rattle.chart_files.proofs.fields.target_of.Reads as target-of-reads
+
+-- src/lib.rt:54:13
+source-of-requires : tie.Need-source-of-requires
+source-of-requires c κs = search needs
+
+-- src/lib.rt:55:13
+target-of-requires : tie.Need-target-of-requires
+target-of-requires c κs = search needs
+
+-- src/lib.rt:56:13
+home-of-requires : tie.Need-home-of-requires
+home-of-requires c κs = search needs
+
+-- src/lib.rt:64:13
+home-of-requires-2 : tie.Need-home-of-requires-2
+home-of-requires-2 c κs = search needs
+
+returns : tie.Need-returns
+returns c =
+    let b = c .before .before .before .before .before .before in
+    let a = b .args in
+    let s = now (a .s) in
+    let sh = a .shape in
+    let ok = b .pre .0 in
+    let h = c .before .before .before .if1 .taken in
+    let from = c .before .before .source-of .ensures in
+    let home : c .home-of .result ≡ homeAt s sh (transitionAt s sh (a .e) .source) = c .home-of .ensures ∙ ap (homeAt s sh) from in
+    record {
+      known = omega (arith, home, home-known s sh ok (transitionAt s sh (a .e) .source) (source-known s sh ok (a .e) h));
+      automaton = home ∙ sym (low-automaton s sh ok (a .e) h);
+      source = from ∙ sym (low-source s sh ok (a .e) h);
+      target = c .before .target-of .ensures ∙ sym (low-target s sh ok (a .e) h);
+    }
+
+returns-2 : tie.Need-returns-2
+returns-2 c =
+    let b = c .before .before .before .before .before in
+    let a = b .args in
+    let s = now (a .s) in
+    let sh = a .shape in
+    let ok = b .pre .0 in
+    let n = a .e - sh .transitions in
+    let back : sh .transitions + n ≡ a .e = omega (arith, c .before .before .if1 .left) in
+    let h : n < sh .states = omega (arith, c .before .before .if1 .left, b .pre .1) in
+    let at : (P : ℕ → Type 0) → P (sh .transitions + n) → P (a .e) = λ P. subst P back in
+    record {
+      known = omega (arith, c .home-of2 .ensures, home-known s sh ok n h);
+      automaton = c .home-of2 .ensures ∙ sym (at (λ e. edge (twin (readCharts s)) e .automaton ≡ homeAt s sh n) (high-automaton s sh ok n h));
+      source = sym (at (λ e. edge (twin (readCharts s)) e .source ≡ n) (high-source s sh ok n h));
+      target = sym (at (λ e. edge (twin (readCharts s)) e .target ≡ n) (high-target s sh ok n h));
+    }
+
+pub edge-of-spec : {M : Type 1} → statement M
+edge-of-spec =
+    tie.close
+    (tie.spec
+    source-of-requires
+    target-of-requires
+    home-of-requires
+    home-of-requires-2
+    returns
+    returns-2)

@@ -1,0 +1,60 @@
+-- The code's answers, read as the model's outcomes. Assumes nothing: these are definitions.
+use mathlib.Core.Path.{_≡_}
+use mathlib.Core.Bool.{true, cond}
+use mathlib.Core.List.{List, [], _∷_}
+use Prim.Native.Nat.{ℕ, _-_, _*_, _≤_, _<_}
+use lib.Dec.{ltb}
+use lib.ListN.{length, take}
+use Rattle.records.specs.Refusal.{broken-path, short-rows, Out, val, fault, _>>=_}
+use Rattle.model.specs.Outcome.{Outcome, settled}
+use Rattle.model.specs.ChartSet.{ChartSet, readCharts}
+use Rattle.model.specs.AutomataTable.{edge}
+use Rattle.model.specs.Translation.{twin}
+use Rattle.model.specs.PathBack as M
+use Rattle.chart_files.specs.Shape.{refusalFor}
+use Rattle.paths.specs.declared.Edge.{Edge}
+use Rattle.paths.specs.declared.Walk.{Walk}
+use Rattle.paths.specs.declared.Count as declared-count
+use Rattle.paths.specs.declared.Led as declared-led
+use Rattle.paths.specs.Along.{allFit, rowsAlong}
+
+-- of so many charts
+abbrev pub walkOf : ℕ → Walk → M.Walk
+walkOf charts w = record { locations = take charts (w .locations); position = w .position; cycles = w .cycles }
+
+-- the ends of an edge of the twin, and whose it is, of so many charts
+pub record IsEdge (s : List ℕ) (charts e : ℕ) (x : Edge) : Type 0 where
+  pub known : x .automaton < charts
+  pub automaton : x .automaton ≡ edge (twin (readCharts s)) e .automaton
+  pub source : x .source ≡ edge (twin (readCharts s)) e .source
+  pub target : x .target ≡ edge (twin (readCharts s)) e .target
+
+abbrev pub countOf : declared-count.Count → Out ℕ
+countOf (declared-count.the-variants.Rows n) = val n
+countOf declared-count.the-variants.Broken = fault broken-path
+
+-- how many rows
+abbrev pub counted : Out (List M.Row) → Out ℕ
+counted o = o >>= λ rows. val (length rows)
+
+-- the words of a step's row, if it has one, of so many transitions
+abbrev pub stepWords : ℕ → ℕ → Walk → List ℕ
+stepWords transitions e w = cond (ltb e transitions) (w .cycles ∷ (w .position - 1) ∷ e ∷ []) []
+
+-- a path that can be written: its steps fit, and there is room for its rows
+pub record Writable (s path lent : List ℕ) : Type 0 where
+  pub fits : allFit (readCharts s) path (M.walkStart (readCharts s)) ≡ true
+  pub room : 3 * length (rowsAlong (readCharts s) path (M.walkStart (readCharts s))) ≤ length lent
+
+abbrev pub answerOf : declared-led.Led → Out ℕ
+answerOf (declared-led.the-variants.Rows n) = val n
+answerOf (declared-led.the-variants.Refused w) = fault (refusalFor w)
+answerOf declared-led.the-variants.Broken = fault broken-path
+answerOf declared-led.the-variants.Short = fault short-rows
+
+abbrev pub ledOf : declared-led.Led → List ℕ → Outcome ℕ (List ℕ)
+ledOf r lent = record { answer = answerOf r; lent = lent }
+
+-- a path of a set that is not refused
+abbrev pub led : ChartSet → List ℕ → List ℕ → Outcome ℕ (List ℕ)
+led cs path lent = settled lent (M.ledBack cs path (M.walkStart cs) >>= λ rows. M.rowsWritten rows lent)

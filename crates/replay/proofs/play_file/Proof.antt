@@ -1,0 +1,55 @@
+-- `replay::play_file` is safe: a file that is not refused is one that can be played. Assumes nothing.
+use borrow.Author.Needs.{needs}
+use denote.Ref.{now}
+use Rattle.charts.specs.Accepted.{Accepted}
+use Rattle.charts.proofs.Checking.{accepted-of}
+use Rattle.replay.proofs.play_file.Statement.{statement}
+use Rattle.replay.proofs.play_file.Tie as tie
+
+check-requires : tie.Need-check-requires
+check-requires c κs = search needs
+
+enum-known-w : tie.Need-enum-known-w
+enum-known-w c = search needs
+
+tell-file-requires : tie.Need-tell-file-requires
+tell-file-requires c κs = search needs
+
+enum-known-shape : tie.Need-enum-known-shape
+enum-known-shape c = search needs
+
+accepted : (c : tie.After-known-told2) → Accepted (now (c .before .before .before .before .before .args .s)) (c .before .shape .given .0 .0)
+accepted c =
+    let k = c .before .before .before in
+    accepted-of (now (k .before .before .args .s)) (k .check .result) (k .check .ensures) (c .before .shape .given .0 .0) (c .before .shape .given .1)
+
+rows-of-requires : tie.Need-rows-of-requires
+rows-of-requires c κs = accepted c
+
+actions-of-requires : tie.Need-actions-of-requires
+actions-of-requires c κs = accepted (c .before)
+
+play-requires : tie.Need-play-requires
+play-requires c κs =
+    let a = c .before .before .before .before .before in
+    record { accepted = accepted (a .before .before); has-rows = a .before .rows-of .ensures; has-actions = a .actions-of .ensures }
+
+returns : tie.Need-returns
+returns c = search needs
+
+returns-2 : tie.Need-returns-2
+returns-2 c = search needs
+
+pub play-file-spec : {M : Type 1} → statement M
+play-file-spec =
+    tie.close
+    (tie.spec
+    check-requires
+    enum-known-w
+    tell-file-requires
+    enum-known-shape
+    rows-of-requires
+    actions-of-requires
+    play-requires
+    returns
+    returns-2)

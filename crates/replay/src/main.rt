@@ -1,0 +1,139 @@
+// Replays a chart set. Reads the set from the file set.bin in the folder that it is run in, and event masks of four bytes, little-endian, from standard
+// input; plays a cycle for each mask and prints a line for each chart's turn: cycle, chart, transition or -, state after, variables. It stops at a refusal
+// or fault, whose number and meaning go to standard error, at a partial mask, or at the end.
+ghost use Rattle.charts.specs.TurnOf.{Known};
+use chart_files::Checked;
+use chart_files::Shape;
+use chart_files::check;
+use charts::runs::Run;
+use charts::runs::start;
+use charts::tables::actions_of;
+use charts::tables::rows_of;
+use charts::turns::Ending;
+use libc::STDIN_FILENO;
+use libc::STDOUT_FILENO;
+use messages::input::fill;
+use messages::input::no_arguments;
+use messages::input::read_set;
+use messages::words::tell_fault;
+use messages::words::tell_file;
+use messages::words::tell_refusal;
+use replays::cycle_into;
+
+// Whether to go on, and from which run.
+struct Played {
+    going: bool,
+    run: Run,
+}
+
+// How a cycle ended: whether there may be another.
+fn tell_ending(answer: Ending) -> bool {
+    match answer {
+        Ending::Done => true,
+        Ending::Fault(w) => {
+            tell_fault(w);
+            false
+        }
+        Ending::Refused(w) => {
+            tell_refusal(w);
+            false
+        }
+    }
+}
+
+// A cycle for a mask: its lines go out, and then its refusal or fault, if it has one.
+fn play_mask(
+    s: &[u8],
+    shape: Shape,
+    rows: &[[u16; 16]; 128],
+    first: &[u16; 512],
+    next: &[u16; 512],
+    run: Run,
+    mask: u32,
+) -> Played
+    requires { ⌜ Known (now s) shape (now rows) (now first) (now next) ⌝ }
+{
+    let mut text = io::buffer();
+    let lined = cycle_into(s, shape, rows, first, next, run, mask, &mut text);
+    let size = lined.size;
+    let answer = lined.answer;
+    let after = lined.run;
+    let written = io::write_all(STDOUT_FILENO, &text[..size]);
+    if !written {
+        os::fail(b"standard output");
+        return Played {
+            going: false,
+            run: after,
+        };
+    }
+    let going = tell_ending(answer);
+    Played { going, run: after }
+}
+
+fn play_next(
+    s: &[u8],
+    shape: Shape,
+    rows: &[[u16; 16]; 128],
+    first: &[u16; 512],
+    next: &[u16; 512],
+    run: Run,
+) -> Played
+    requires { ⌜ Known (now s) shape (now rows) (now first) (now next) ⌝ }
+{
+    let mut four = [0u8; 4];
+    let got = fill(STDIN_FILENO, &mut four);
+    if got.failed {
+        os::fail(b"standard input");
+    }
+    if got.size < 4 {
+        return Played { going: false, run };
+    }
+    let mask = records::u32_at(&four, 0);
+    play_mask(s, shape, rows, first, next, run, mask)
+}
+
+// Refusal 14 ends any replay long before the count of turns does.
+fn play(s: &[u8], shape: Shape, rows: &[[u16; 16]; 128], first: &[u16; 512], next: &[u16; 512])
+    requires { ⌜ Known (now s) shape (now rows) (now first) (now next) ⌝ }
+{
+    let mut run = start(s, shape);
+    let mut left = u64::MAX;
+    while 0 < left {
+        let played = play_next(s, shape, rows, first, next, run);
+        if !played.going {
+            return;
+        }
+        let after = played.run;
+        run = after;
+        left -= 1;
+    }
+}
+
+// The file is checked once.
+fn play_file(s: &[u8]) {
+    match check(s) {
+        Checked::Refused(w) => tell_file(w),
+        Checked::Accepted(shape) => {
+            let rows = rows_of(s, shape);
+            let actions = actions_of(s, shape);
+            let first = actions.first;
+            let next = actions.next;
+            play(s, shape, &rows, &first, &next);
+        }
+    }
+}
+
+fn main() {
+    if !no_arguments(
+        b"replay takes no arguments; it reads set.bin in the present folder, and event masks from standard input\n",
+    ) {
+        return;
+    }
+    let mut file = io::large_buffer();
+    let got = read_set(&mut file);
+    if got.failed {
+        return;
+    }
+    let size = got.size;
+    play_file(&file[..size]);
+}

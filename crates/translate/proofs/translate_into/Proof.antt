@@ -1,0 +1,78 @@
+-- `translate::translate_into` is safe: the twin that was written is there. Assumes nothing.
+use mathlib.Core.Path.{sym}
+use native.Mathlib.Omega.{arith}
+use denote.Ref.{now}
+use lib.Seq.{length-take-le}
+use Rattle.translate.proofs.Room.{room}
+use borrow.Author.Needs.{needs}
+use Rattle.translate.proofs.translate_into.Statement.{statement}
+use Rattle.translate.proofs.translate_into.Tie as tie
+
+translate-requires : tie.Need-translate-requires
+translate-requires c κs = search needs
+
+enum-known-w : tie.Need-enum-known-w
+enum-known-w c = search needs
+
+tell-file-requires : tie.Need-tell-file-requires
+tell-file-requires c κs = search needs
+
+enum-told : tie.Need-enum-told
+enum-told c = search needs
+
+tell-buffer-requires : tie.Need-tell-buffer-requires
+tell-buffer-requires c κs = search needs
+
+enum-known-n : tie.Need-enum-known-n
+enum-known-n c = search needs
+
+slice-reshare-prefix-write-twin : tie.Need-slice-reshare-prefix-write-twin
+slice-reshare-prefix-write-twin c =
+    let call = c .before .before .before .before .before .translate in
+    let a = c .before .before .before .before .before .before .before .before .before .args in
+    let fits = room (now (a .s)) (now (a .twin)) (call .last .1 .0) (call .result) (call .ensures) (c .before .n .given .0 .0) (c .before .n .given .1) in
+    omega (arith, fits, call .kept .1 .0)
+
+slice-aggregate-write-twin : tie.Need-slice-aggregate-write-twin
+slice-aggregate-write-twin c = sym (length-take-le (c .before .before .n .given .0 .0) _ (slice-reshare-prefix-write-twin (c .before)))
+
+write-twin-requires : tie.Need-write-twin-requires
+write-twin-requires c κs = search needs
+
+same-length : tie.Need-same-length
+same-length c = search needs
+
+returns : tie.Need-returns
+returns c = search needs
+
+same-length-2 : tie.Need-same-length-2
+same-length-2 c = search needs
+
+returns-2 : tie.Need-returns-2
+returns-2 c = search needs
+
+same-length-3 : tie.Need-same-length-3
+same-length-3 c = search needs
+
+returns-3 : tie.Need-returns-3
+returns-3 c = search needs
+
+pub translate-into-spec : {M : Type 1} → statement M
+translate-into-spec =
+    tie.close
+    (tie.spec
+    translate-requires
+    enum-known-w
+    tell-file-requires
+    enum-told
+    tell-buffer-requires
+    enum-known-n
+    slice-reshare-prefix-write-twin
+    slice-aggregate-write-twin
+    write-twin-requires
+    same-length
+    returns
+    same-length-2
+    returns-2
+    same-length-3
+    returns-3)

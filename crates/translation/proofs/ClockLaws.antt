@@ -1,0 +1,26 @@
+-- Clock numbers: how many clocks stand before a transition's own. Assumes nothing.
+use mathlib.Core.Path.{_≡_, ap, _∙_}
+use mathlib.Core.List.{List, [], _∷_}
+use Prim.Native.Nat.{ℕ, _+_, _<_}
+use native.Mathlib.Numerals.{add-one}
+use lib.ListN.{length, take, length-append}
+use lib.Seq.{take-suc}
+use Rattle.records.specs.Lists.{gather}
+use Rattle.model.specs.ChartSet.{ChartSet, Transition, noTransition, transition}
+use Rattle.model.specs.AutomataTable.{Clock}
+use Rattle.model.specs.Translation.{size, clocksOf, clockOf}
+use Rattle.translation.proofs.Gathered.{gather-append, gather-none, gather-one}
+
+module _ (cs : ChartSet) where
+  abbrev clocksIn : Transition → List Clock
+  clocksIn x = clocksOf (x .trigger)
+
+  pub clock-none : clockOf cs 0 ≡ 0
+  clock-none = ap length (gather-none clocksIn)
+
+  pub clock-more : (t : ℕ) → t < size cs → clockOf cs (t + 1) ≡ clockOf cs t + length (clocksOf (transition cs t .trigger))
+  clock-more t h =
+      ap (λ l. length (gather clocksIn l)) (ap (λ n. take n (cs .transitions)) (add-one t) ∙ take-suc (cs .transitions) t noTransition h)
+      ∙ ap length (gather-append clocksIn (take t (cs .transitions)) (transition cs t ∷ []))
+      ∙ length-append (gather clocksIn (take t (cs .transitions))) (gather clocksIn (transition cs t ∷ []))
+      ∙ ap (λ l. clockOf cs t + length l) (gather-one clocksIn (transition cs t))

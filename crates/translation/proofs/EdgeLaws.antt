@@ -1,0 +1,109 @@
+-- What belongs to edges: the must-nots of a state by priority, the clocks of the transitions that leave it. Assumes nothing.
+use mathlib.Core.Path.{_≡_, refl, sym, ap, _∙_}
+use mathlib.Core.Logic.{inl, inr}
+use mathlib.Core.Bool.{false}
+use mathlib.Core.List.{List, _++_, map}
+use Prim.Native.Nat.{ℕ, _+_, _-_, _≤_, _<_}
+use native.Mathlib.Omega.{arith}
+use lib.Dec.{eqb}
+use lib.ListN.{length}
+use Rattle.records.specs.Lists.{gather, keep, from, upto, caseOf}
+use Rattle.model.specs.ChartSet.{ChartSet, transition}
+use Rattle.model.specs.AutomataTable.{Literal, writeReset, writeLiteral}
+use Rattle.model.specs.Translation.{size, clocksOf, clockOf, literal, above, clocksLeaving}
+use Rattle.chart_files.proofs.ListLaws.{gather-map, gather-keep}
+use Rattle.model.specs.ChartSet.{readCharts}
+use Rattle.model.specs.Owned.{of}
+use Rattle.model.specs.Runs.{Deed}
+use Rattle.model.specs.AutomataTable.{writeUpdate}
+use Rattle.model.specs.Translation.{updatesOf}
+use Rattle.chart_files.specs.declared.Shape.{Shape}
+use Rattle.chart_files.specs.Places.{transitionAt, actionAt}
+use Rattle.chart_files.proofs.Readings.{transition-is, length-transitions, most-states, most-transitions}
+use Rattle.charts.specs.Accepted.{Accepted}
+use Rattle.charts.specs.Tables.{leaves, keyed}
+use Rattle.machines.specs.Chains.{headOr, earliest, withKey, Chained}
+use Rattle.machines.proofs.Earliest.{keep-alike}
+use Rattle.charts.proofs.RowLaws.{sourceAt}
+use Rattle.charts.proofs.ActionLaws.{of-key}
+use Rattle.charts.proofs.Sound.{source-known, target-known}
+use Rattle.translation.specs.Texts.{recordText, literalTexts, updateTexts, resetTexts}
+use Rattle.translation.specs.Tables.{sourceOf, HasLeaving}
+use Rattle.translation.proofs.Gathered.{gather-append, gather-gather, gather-shift, gather-below}
+
+module _ (cs : ChartSet) (e st : ℕ) where
+  -- the must-nots of one priority
+  abbrev pub notsText : ℕ → List ℕ
+  notsText q = literalTexts e (map (literal cs false) (keep (leaves cs st q) (upto (length (cs .transitions)))))
+
+  pub nots-text : (n : ℕ) → gather (λ j. notsText (j + 1)) (upto n) ≡ literalTexts e (map (literal cs false) (above cs st (n + 1)))
+  nots-text n =
+      gather-below (λ j. notsText (j + 1)) (λ j. notsText (1 + j)) n (λ j h. ap notsText (let q : j + 1 ≡ 1 + j = omega arith in q))
+      ∙ sym (gather-shift notsText 1 0 n)
+      ∙ (λ i. gather (λ q. gather-map (literal cs false) text (keep (leaves cs st q) (upto (length (cs .transitions)))) i) (from 1 n))
+      ∙ sym (gather-gather (λ u. text (literal cs false u)) (λ q. keep (leaves cs st q) (upto (length (cs .transitions)))) (from 1 n))
+      ∙ ap (λ k. gather (λ u. text (literal cs false u)) (gather (λ q. keep (leaves cs st q) (upto (length (cs .transitions)))) (from 1 k))) (let q : n ≡ n + 1 - 1 = omega arith in q)
+      ∙ sym (gather-map (literal cs false) text (above cs st (n + 1)))
+    where
+      text : Literal → List ℕ
+      text l = recordText 36 (writeLiteral (e, l))
+
+  -- the clocks of one transition
+  abbrev pub clockResets : ℕ → List ℕ
+  clockResets t = resetTexts e (map (λ _. clockOf cs t) (clocksOf (transition cs t .trigger)))
+
+  pub resets-text : gather clockResets (keep (withKey (sourceOf cs) st) (upto (size cs))) ≡ resetTexts e (clocksLeaving cs st)
+  resets-text =
+      sym (gather-gather (λ k. recordText 41 (writeReset (e, k))) (λ t. map (λ _. clockOf cs t) (clocksOf (transition cs t .trigger))) (keep (withKey (sourceOf cs) st) (upto (size cs))))
+      ∙ ap (resetTexts e) (gather-keep (withKey (sourceOf cs) st) (λ t. map (λ _. clockOf cs t) (clocksOf (transition cs t .trigger))) (upto (size cs)))
+
+-- ---- the tables of an accepted file
+
+module _ (s : List ℕ) (sh : Shape) (ok : Accepted s sh) where
+  abbrev transitions : ℕ
+  transitions = sh .transitions
+
+  abbrev few : length (readCharts s .transitions) ≡ transitions
+  few = length-transitions s sh (ok .shape)
+
+  same-first : (st k n : ℕ) → k + n ≤ transitions → earliest (withKey (sourceAt s sh) st) k n ≡ earliest (withKey (sourceOf (readCharts s)) st) k n
+  same-first st k n h =
+      ap (headOr 65535)
+      (keep-alike (withKey (sourceAt s sh) st) (withKey (sourceOf (readCharts s)) st) k n
+      (λ i a b. let m : i < transitions = omega arith in ap (λ x. eqb (x .source) st) (sym (transition-is s sh (ok .shape) i m))))
+
+  pub leaving-are : (first next : List ℕ) → Chained (sourceAt s sh) 128 transitions first next → HasLeaving (readCharts s) first next
+  leaving-are first next c = record {
+    first-of = λ st h. c .first-of st h ∙ same-first st 0 transitions (omega arith) ∙ ap (earliest (withKey (sourceOf (readCharts s)) st) 0) (sym few);
+    next-of = λ t h l.
+        let m : t < transitions = omega (arith, few) in
+        let e : sourceOf (readCharts s) t ≡ sourceAt s sh t = ap (λ x. x .source) (transition-is s sh (ok .shape) t m) in
+        c .next-of t m (omega arith)
+        ∙ same-first (sourceAt s sh t) (t + 1) (transitions - (t + 1)) (omega arith)
+        ∙ (λ i. earliest (withKey (sourceOf (readCharts s)) (sym e i)) (t + 1) (sym few i - (t + 1)));
+  }
+
+  -- ---- the deeds of a transition's edge, by their keys
+
+  abbrev pub deedsOf : ℕ → List Deed
+  deedsOf key = map (λ a. actionAt s sh a .1) (keep (keyed s sh key) (upto (sh .actions)))
+
+  pub updates-text : (t source target : ℕ) → t < sh .transitions → source ≡ transitionAt s sh t .source → target ≡ transitionAt s sh t .target →
+      updateTexts t (deedsOf (128 + source)) ++ updateTexts t (deedsOf (256 + t)) ++ updateTexts t (deedsOf target) ≡ updateTexts t (updatesOf (readCharts s) t)
+  unfolding caseOf
+  updates-text t source target h e d =
+      let same = transition-is s sh (ok .shape) t h in
+      let source-small : source < 128 = omega (arith, source-known s sh ok t h, most-states s sh (ok .shape)) in
+      let target-small : target < 128 = omega (arith, target-known s sh ok t h, most-states s sh (ok .shape)) in
+      let small : t < 256 = omega (arith, most-transitions s sh (ok .shape)) in
+      let text : Deed → List ℕ = λ x. recordText 40 (writeUpdate (t, x)) in
+      let exits : deedsOf (128 + source) ≡ of (transition (readCharts s) t .source) (readCharts s .exits) =
+      sym (of-key s sh ok 2 source (inr (inl (refl, source-small)))) ∙ ap (λ o. of o (readCharts s .exits)) (e ∙ ap (λ x. x .source) (sym same)) in
+      let own : deedsOf (256 + t) ≡ of t (readCharts s .transition-actions) = sym (of-key s sh ok 3 t (inr (inr (refl, small)))) in
+      let entries : deedsOf target ≡ of (transition (readCharts s) t .target) (readCharts s .entries) =
+      sym (of-key s sh ok 1 target (inl (refl, target-small))) ∙ ap (λ o. of o (readCharts s .entries)) (d ∙ ap (λ x. x .target) (sym same)) in
+      (λ i. updateTexts t (exits i) ++ updateTexts t (own i) ++ updateTexts t (entries i))
+      ∙ sym
+      (gather-append text (of (transition (readCharts s) t .source) (readCharts s .exits) ++ of t (readCharts s .transition-actions)) (of (transition (readCharts s) t .target) (readCharts s .entries))
+      ∙ ap (λ l. l ++ updateTexts t (of (transition (readCharts s) t .target) (readCharts s .entries)))
+      (gather-append text (of (transition (readCharts s) t .source) (readCharts s .exits)) (of t (readCharts s .transition-actions))))

@@ -1,0 +1,7 @@
+-- Laws that the proofs of several functions use, and that crates above cite.
+pub mod Gathered
+pub mod Written
+pub mod SectionLaws
+pub mod ClockLaws
+pub mod EdgeLaws
+pub mod FileLaws

@@ -1,0 +1,62 @@
+-- `put_places` meets its contract: the sections, one after the other. Assumes nothing.
+use mathlib.Core.Path.{sym, ap, _∙_}
+use mathlib.Core.List.{[], _∷_, _++_, map, append-assoc}
+use Prim.Native.Nat.{_*_, _^_}
+use native.Mathlib.Omega.{arith}
+use borrow.Author.Needs.{needs}
+use denote.Ref.{now}
+use Rattle.records.specs.Bytes.{bytes2}
+use Rattle.records.specs.Lists.{upto}
+use Rattle.model.specs.ChartSet.{readCharts}
+use Rattle.translation.specs.Texts.{section}
+use Rattle.translation.proofs.Written.{puts-as, puts-then}
+use Rattle.model.specs.AutomataTable.{writeEdge}
+use Rattle.model.specs.Translation.{size, states, edgeOf, idleOf}
+use Rattle.translation.proofs.FileLaws.{section-append}
+use Rattle.translation.proofs.put_places.Statement.{statement}
+use Rattle.translation.proofs.put_places.Tie as tie
+
+put-initials-requires : tie.Need-put-initials-requires
+put-initials-requires c κs =
+    let entry = c .before .before .before in
+    (entry .pre .0 .shape, omega (arith, entry .pre .1))
+
+put-homes-requires : tie.Need-put-homes-requires
+put-homes-requires c κs =
+    let entry = c .before .before .before .before .before .before .before in
+    (entry .pre .0 .shape, omega (arith, entry .pre .1, c .before .before .before .put-initials .ensures .near))
+
+put-edges-requires : tie.Need-put-edges-requires
+put-edges-requires c κs =
+    let entry = c .before .before .before .before .before .before .before .before .before .before .before in
+    (entry .pre .0, omega (arith, entry .pre .1, c .before .before .before .before .before .before .before .put-initials .ensures .near, c .before .before .before .put-homes .ensures .near))
+
+put-idles-requires : tie.Need-put-idles-requires
+put-idles-requires c κs =
+    let entry = c .before .before .before .before .before .before .before .before .before .before .before .before .before .before .before in
+    (entry .pre .0, omega (arith, entry .pre .1, c .before .before .before .before .before .before .before .before .before .before .before .put-initials .ensures .near, c .before .before .before .before .before .before .before .put-homes .ensures .near, c .before .before .before .put-edges .ensures .near))
+
+same-length : tie.Need-same-length
+same-length c = search needs
+
+returns : tie.Need-returns
+returns c =
+    let entry = c .before .before .before .before .before .before .before .before .before .before .before .before .before .before .before .before .before .before in
+    let cs = readCharts (now (entry .args .s)) in
+    let before = section 33 (map (λ i. 0 ∷ bytes2 i) (cs .initial)) ++ section 34 (map (λ h. h ∷ []) (cs .homes)) in
+    let edges = map (edgeOf cs) (upto (size cs)) in
+    let idles = map (idleOf cs) (upto (states cs)) in
+    puts-as _
+    (append-assoc before (section 35 (map writeEdge edges)) (section 35 (map writeEdge idles)) ∙ ap (λ l. before ++ l) (sym (section-append 35 writeEdge edges idles)))
+    (puts-then (2 ^ 42) (omega arith) (puts-then (3 * 2 ^ 40) (omega arith) (puts-then (2 ^ 41) (omega arith) (c .before .before .before .before .before .before .before .before .before .before .before .before .before .before .put-initials .ensures) (c .before .before .before .before .before .before .before .before .before .before .put-homes .ensures)) (c .before .before .before .before .before .before .put-edges .ensures)) (c .before .before .put-idles .ensures))
+
+pub put-places-spec : {M : Type 1} → statement M
+put-places-spec =
+    tie.close
+    (tie.spec
+    put-initials-requires
+    put-homes-requires
+    put-edges-requires
+    put-idles-requires
+    same-length
+    returns)

@@ -1,0 +1,120 @@
+// The translator: the automata of a chart set, written into a lent buffer.
+ghost use mathlib.Core.Path.{_≡_};
+ghost use Prim.Native.Nat.{_<_, _^_};
+ghost use lib.ListN.{length};
+ghost use Rattle.model.specs.ChartSet.{readCharts};
+ghost use Rattle.model.specs.Translation.{twin, twinBytes, translate as translation};
+ghost use Rattle.charts.specs.Accepted.{Accepted};
+ghost use Rattle.translation.specs.Tables.{HasClocks};
+ghost use Rattle.translation.specs.Texts.{placesText, testsText, effectsText, Puts};
+ghost use Rattle.translation.specs.Answer.{translatedOf};
+
+pub mod clocks;
+pub mod edges;
+pub mod literals;
+pub mod resets;
+pub mod sections;
+pub mod updates;
+pub mod writing;
+
+use chart_files::Checked;
+use chart_files::Refusal;
+use chart_files::Shape;
+use chart_files::check;
+use charts::tables::actions_of;
+use charts::tables::rows_of;
+use clocks::clocks_of;
+use clocks::put_clocks;
+use edges::put_edges;
+use edges::put_idles;
+use literals::put_idle_literals;
+use literals::put_literals;
+use resets::leaving_of;
+use resets::put_resets;
+use sections::put_homes;
+use sections::put_initials;
+use sections::put_nodes;
+use sections::put_variables;
+use updates::put_updates;
+
+// The length of the twin's file; refusal 10; refusals 1 to 9.
+pub enum Translated {
+    Written(usize),
+    Short,
+    Refused(Refusal),
+}
+
+// Kinds 33 to 35.
+fn put_places(s: &[u8], shape: Shape, out: &mut [u8], at: usize) -> usize
+    requires { ⌜ Accepted (now s) shape × (at < 2 ^ 50) ⌝ }
+    ensures { λ r. ⌜ Puts (now (out .entry)) at (placesText (twin (readCharts (now (s .entry))))) (now (out .exit)) r (2 ^ 42) ⌝ }
+{
+    let homes_at = put_initials(s, shape, out, at);
+    let edges_at = put_homes(s, shape, out, homes_at);
+    let idles_at = put_edges(s, shape, out, edges_at);
+    put_idles(s, shape, out, idles_at)
+}
+
+// Kinds 36 to 39.
+fn put_tests(s: &[u8], shape: Shape, clocks: &[u16; 256], out: &mut [u8], at: usize) -> usize
+    requires { ⌜ Accepted (now s) shape × HasClocks (readCharts (now s)) (now clocks) × (at < 2 ^ 51) ⌝ }
+    ensures { λ r. ⌜ Puts (now (out .entry)) at (testsText (twin (readCharts (now (s .entry))))) (now (out .exit)) r (2 ^ 43) ⌝ }
+{
+    let rows = rows_of(s, shape);
+    let idles_at = put_literals(s, shape, clocks, &rows, out, at);
+    let clocks_at = put_idle_literals(s, shape, clocks, &rows, out, idles_at);
+    let variables_at = put_clocks(s, shape, out, clocks_at);
+    let nodes_at = put_variables(s, shape, out, variables_at);
+    put_nodes(s, shape, out, nodes_at)
+}
+
+// Kinds 40 and 41.
+fn put_effects(s: &[u8], shape: Shape, clocks: &[u16; 256], out: &mut [u8], at: usize) -> usize
+    requires { ⌜ Accepted (now s) shape × HasClocks (readCharts (now s)) (now clocks) × (at < 2 ^ 52) ⌝ }
+    ensures { λ r. ⌜ Puts (now (out .entry)) at (effectsText (twin (readCharts (now (s .entry))))) (now (out .exit)) r (2 ^ 42) ⌝ }
+{
+    let actions = actions_of(s, shape);
+    let first_action = actions.first;
+    let next_action = actions.next;
+    let resets_at = put_updates(s, shape, &first_action, &next_action, out, at);
+    let leaving = leaving_of(s, shape);
+    let first = leaving.first;
+    let next = leaving.next;
+    put_resets(s, shape, clocks, &first, &next, out, resets_at)
+}
+
+// The twin's file from the buffer's start; answers its length, also where the buffer is shorter.
+fn put_twin(s: &[u8], shape: Shape, out: &mut [u8]) -> usize
+    requires { ⌜ Accepted (now s) shape ⌝ }
+    ensures { λ r. ⌜ Puts (now (out .entry)) 0 (twinBytes (now (s .entry))) (now (out .exit)) r (2 ^ 50) ⌝ }
+{
+    let clocks = clocks_of(s, shape);
+    let tests_at = put_places(s, shape, out, 0);
+    let effects_at = put_tests(s, shape, &clocks, out, tests_at);
+    put_effects(s, shape, &clocks, out, effects_at)
+}
+
+// The length is known before anything is written: a first pass goes into a buffer of no use.
+fn twin_length(s: &[u8], shape: Shape) -> usize
+    requires { ⌜ Accepted (now s) shape ⌝ }
+    ensures { λ r. ⌜ r ≡ length (twinBytes (now (s .entry))) ⌝ }
+{
+    let mut unused = [0u8; 1];
+    put_twin(s, shape, &mut unused)
+}
+
+// A set translated into a lent buffer: what is refused keeps its contents, and bytes beyond the result are kept.
+pub fn translate(s: &[u8], out: &mut [u8]) -> Translated
+    ensures { λ r. ⌜ translatedOf r (now (out .exit)) ≡ translation (now (s .entry)) (now (out .entry)) ⌝ }
+{
+    match check(s) {
+        Checked::Refused(refusal) => Translated::Refused(refusal),
+        Checked::Accepted(shape) => {
+            let length = twin_length(s, shape);
+            if out.len() < length {
+                return Translated::Short;
+            }
+            Translated::Written(put_twin(s, shape, out))
+        }
+    }
+}

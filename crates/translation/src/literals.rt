@@ -1,0 +1,164 @@
+// Literals by edge: of each leaving transition of higher priority, ascending, one that must not hold; then the edge's own. An idle edge has the must-nots of all.
+ghost use mathlib.Core.Path.{_≡_};
+ghost use mathlib.Core.List.{_∷_, _++_, map};
+ghost use mathlib.Core.Bool.{false};
+ghost use Prim.Native.Nat.{_+_, _≤_, _<_, _^_};
+ghost use Rattle.records.specs.Lists.{gather, upto};
+ghost use Rattle.records.specs.Bytes.{bytes2};
+ghost use Rattle.model.specs.ChartSet.{readCharts, transition};
+ghost use Rattle.model.specs.AutomataTable.{writeCause, writeGuard};
+ghost use Rattle.model.specs.Translation.{size, states, causeOf, literal, above, literalsOf, idleLiterals};
+ghost use Rattle.chart_files.specs.Parts.{guardFor};
+ghost use Rattle.charts.specs.Accepted.{Accepted};
+ghost use Rattle.charts.specs.Tables.{HasRows, named};
+ghost use Rattle.translation.specs.Tables.{HasClocks};
+ghost use Rattle.translation.specs.Texts.{recordText, literalTexts, Puts};
+use super::writing::literal_bytes;
+use super::writing::put_record;
+use chart_files::Shape;
+use chart_files::fields::Guard;
+use chart_files::fields::Trigger;
+use chart_files::fields::guard_of;
+use chart_files::fields::priority_of;
+use chart_files::fields::source_of;
+use chart_files::fields::trigger_of;
+
+fn guard_number(guard: Guard) -> u16
+    ensures { λ r. ⌜ bytes2 r ≡ writeGuard (guardFor guard) ⌝ }
+{
+    match guard {
+        Guard::Free => 65535,
+        Guard::Node(n) => n,
+    }
+}
+
+// The sign is 1 where transition t must hold, 2 where it must not.
+fn literal_record(
+    s: &[u8],
+    shape: Shape,
+    clocks: &[u16; 256],
+    sign: u8,
+    edge: u16,
+    t: u16,
+) -> [u8; 16]
+    requires { ⌜ Accepted (now s) shape × HasClocks (readCharts (now s)) (now clocks) × (t < shape .transitions) ⌝ }
+    ensures { λ r. ⌜ r ≡ recordText 36 (sign ∷ bytes2 edge ++ writeCause (causeOf (readCharts (now (s .entry))) t (transition (readCharts (now (s .entry))) t .trigger)) ++ writeGuard (transition (readCharts (now (s .entry))) t .guard)) ⌝ }
+{
+    let guard = guard_number(guard_of(s, shape, t));
+    let clock = clocks[t as usize];
+    match trigger_of(s, shape, t) {
+        Trigger::Always => literal_bytes(sign, edge, 0, 0, 0, guard),
+        Trigger::Event(e) => literal_bytes(sign, edge, 1, e, 0, guard),
+        Trigger::After(_) => literal_bytes(sign, edge, 2, 0, clock, guard),
+        Trigger::Every(_) => literal_bytes(sign, edge, 2, 0, clock, guard),
+    }
+}
+
+// A place of a row that names none has no literal.
+fn put_negation(
+    s: &[u8],
+    shape: Shape,
+    clocks: &[u16; 256],
+    out: &mut [u8],
+    at: usize,
+    edge: u16,
+    t: u16,
+) -> usize
+    requires { ⌜ Accepted (now s) shape × HasClocks (readCharts (now s)) (now clocks) × ((t ≡ 65535 → ⊥) → t < shape .transitions) × (at < 2 ^ 62) ⌝ }
+    ensures { λ r. ⌜ Puts (now (out .entry)) at (literalTexts edge (map (literal (readCharts (now (s .entry))) false) (named t))) (now (out .exit)) r 16 ⌝ }
+{
+    if t == 65535 {
+        at
+    } else {
+        let bytes = literal_record(s, shape, clocks, 2, edge, t);
+        put_record(out, at, bytes)
+    }
+}
+
+// The must-nots of the transitions that leave a state, for the first `count` priorities.
+fn put_negations(
+    s: &[u8],
+    shape: Shape,
+    clocks: &[u16; 256],
+    rows: &[[u16; 16]; 128],
+    out: &mut [u8],
+    at: usize,
+    edge: u16,
+    state: u16,
+    count: usize,
+) -> usize
+    requires { ⌜ Accepted (now s) shape × HasClocks (readCharts (now s)) (now clocks) × HasRows (readCharts (now s)) (now rows) × (state < shape .states) × (count ≤ 16) × (at < 2 ^ 61) ⌝ }
+    ensures { λ r. ⌜ Puts (now (out .entry)) at (literalTexts edge (map (literal (readCharts (now (s .entry))) false) (above (readCharts (now (s .entry))) state (count + 1)))) (now (out .exit)) r (2 ^ 20) ⌝ }
+{
+    let i = state as usize;
+    let mut next = at;
+    let mut j: usize = 0;
+    while j < count {
+        let t = rows[i][j];
+        next = put_negation(s, shape, clocks, out, next, edge, t);
+        j += 1;
+    }
+    next
+}
+
+// Negations come first.
+fn put_literals_of(
+    s: &[u8],
+    shape: Shape,
+    clocks: &[u16; 256],
+    rows: &[[u16; 16]; 128],
+    out: &mut [u8],
+    at: usize,
+    t: u16,
+) -> usize
+    requires { ⌜ Accepted (now s) shape × HasClocks (readCharts (now s)) (now clocks) × HasRows (readCharts (now s)) (now rows) × (t < shape .transitions) × (at < 2 ^ 61) ⌝ }
+    ensures { λ r. ⌜ Puts (now (out .entry)) at (literalTexts t (literalsOf (readCharts (now (s .entry))) t)) (now (out .exit)) r (2 ^ 22) ⌝ }
+{
+    let higher = (priority_of(s, shape, t) - 1) as usize;
+    let source = source_of(s, shape, t);
+    let own = put_negations(s, shape, clocks, rows, out, at, t, source, higher);
+    let bytes = literal_record(s, shape, clocks, 1, t, t);
+    put_record(out, own, bytes)
+}
+
+pub fn put_literals(
+    s: &[u8],
+    shape: Shape,
+    clocks: &[u16; 256],
+    rows: &[[u16; 16]; 128],
+    out: &mut [u8],
+    at: usize,
+) -> usize
+    requires { ⌜ Accepted (now s) shape × HasClocks (readCharts (now s)) (now clocks) × HasRows (readCharts (now s)) (now rows) × (at < 2 ^ 60) ⌝ }
+    ensures { λ r. ⌜ Puts (now (out .entry)) at (gather (λ t. literalTexts t (literalsOf (readCharts (now (s .entry))) t)) (upto (size (readCharts (now (s .entry)))))) (now (out .exit)) r (2 ^ 40) ⌝ }
+{
+    let mut next = at;
+    let mut t: u16 = 0;
+    while t < shape.transitions {
+        next = put_literals_of(s, shape, clocks, rows, out, next, t);
+        t += 1;
+    }
+    next
+}
+
+// Idle edges are numbered behind the transitions' edges.
+pub fn put_idle_literals(
+    s: &[u8],
+    shape: Shape,
+    clocks: &[u16; 256],
+    rows: &[[u16; 16]; 128],
+    out: &mut [u8],
+    at: usize,
+) -> usize
+    requires { ⌜ Accepted (now s) shape × HasClocks (readCharts (now s)) (now clocks) × HasRows (readCharts (now s)) (now rows) × (at < 2 ^ 60) ⌝ }
+    ensures { λ r. ⌜ Puts (now (out .entry)) at (gather (λ st. literalTexts (size (readCharts (now (s .entry))) + st) (idleLiterals (readCharts (now (s .entry))) st)) (upto (states (readCharts (now (s .entry)))))) (now (out .exit)) r (2 ^ 40) ⌝ }
+{
+    let mut next = at;
+    let mut state: u16 = 0;
+    while state < shape.states {
+        let edge = shape.transitions + state;
+        next = put_negations(s, shape, clocks, rows, out, next, edge, state, 16);
+        state += 1;
+    }
+    next
+}

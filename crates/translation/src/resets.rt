@@ -1,0 +1,102 @@
+// Resets by edge, then clock: all clocks of the transitions that leave the target.
+ghost use mathlib.Core.Path.{_≡_};
+ghost use mathlib.Core.List.{map};
+ghost use Prim.Native.Nat.{_<_, _^_};
+ghost use Rattle.records.specs.Lists.{gather, upto};
+ghost use Rattle.model.specs.ChartSet.{readCharts};
+ghost use Rattle.model.specs.Translation.{size, clocksOf, clocksLeaving, resetsOf};
+ghost use Rattle.chart_files.specs.Parts.{triggerFor};
+ghost use Rattle.charts.specs.Accepted.{Accepted};
+ghost use Rattle.translation.specs.Tables.{HasClocks, HasLeaving};
+ghost use Rattle.translation.specs.Texts.{resetTexts, Puts};
+use super::writing::put_record;
+use super::writing::reset_bytes;
+use chart_files::Shape;
+use chart_files::fields::Trigger;
+use chart_files::fields::source_of;
+use chart_files::fields::target_of;
+use chart_files::fields::trigger_of;
+
+// Of each state its first leaving transition, and of each transition the next that leaves the same state; 65535 is none.
+pub struct Leaving {
+    pub first: [u16; 128],
+    pub next: [u16; 256],
+}
+
+// From the last transition down, so that each finds the one behind it.
+pub fn leaving_of(s: &[u8], shape: Shape) -> Leaving
+    requires { ⌜ Accepted (now s) shape ⌝ }
+    ensures { λ r. ⌜ HasLeaving (readCharts (now (s .entry))) (r .first) (r .next) ⌝ }
+{
+    let mut first = [65535u16; 128];
+    let mut next = [65535u16; 256];
+    let mut t = shape.transitions;
+    while 0 < t {
+        t -= 1;
+        let source = source_of(s, shape, t) as usize;
+        let i = t as usize;
+        next[i] = first[source];
+        first[source] = t;
+    }
+    Leaving { first, next }
+}
+
+fn put_reset(trigger: Trigger, clock: u16, out: &mut [u8], at: usize, edge: u16) -> usize
+    requires { ⌜ at < 2 ^ 62 ⌝ }
+    ensures { λ r. ⌜ Puts (now (out .entry)) at (resetTexts edge (map (λ _. clock) (clocksOf (triggerFor trigger)))) (now (out .exit)) r 16 ⌝ }
+{
+    match trigger {
+        Trigger::Always => at,
+        Trigger::Event(_) => at,
+        Trigger::After(_) => put_record(out, at, reset_bytes(edge, clock)),
+        Trigger::Every(_) => put_record(out, at, reset_bytes(edge, clock)),
+    }
+}
+
+fn put_leaving(
+    s: &[u8],
+    shape: Shape,
+    clocks: &[u16; 256],
+    first: &[u16; 128],
+    next: &[u16; 256],
+    out: &mut [u8],
+    at: usize,
+    edge: u16,
+    state: u16,
+) -> usize
+    requires { ⌜ Accepted (now s) shape × HasClocks (readCharts (now s)) (now clocks) × HasLeaving (readCharts (now s)) (now first) (now next) × (state < shape .states) × (at < 2 ^ 61) ⌝ }
+    ensures { λ r. ⌜ Puts (now (out .entry)) at (resetTexts edge (clocksLeaving (readCharts (now (s .entry))) state)) (now (out .exit)) r (2 ^ 20) ⌝ }
+{
+    let mut place = at;
+    let mut t = first[state as usize];
+    while t != 65535 {
+        let i = t as usize;
+        let clock = clocks[i];
+        place = put_reset(trigger_of(s, shape, t), clock, out, place, edge);
+        t = next[i];
+    }
+    place
+}
+
+// Idle edges have none.
+pub fn put_resets(
+    s: &[u8],
+    shape: Shape,
+    clocks: &[u16; 256],
+    first: &[u16; 128],
+    next: &[u16; 256],
+    out: &mut [u8],
+    at: usize,
+) -> usize
+    requires { ⌜ Accepted (now s) shape × HasClocks (readCharts (now s)) (now clocks) × HasLeaving (readCharts (now s)) (now first) (now next) × (at < 2 ^ 60) ⌝ }
+    ensures { λ r. ⌜ Puts (now (out .entry)) at (gather (λ t. resetTexts t (resetsOf (readCharts (now (s .entry))) t)) (upto (size (readCharts (now (s .entry)))))) (now (out .exit)) r (2 ^ 40) ⌝ }
+{
+    let mut place = at;
+    let mut t: u16 = 0;
+    while t < shape.transitions {
+        let target = target_of(s, shape, t);
+        place = put_leaving(s, shape, clocks, first, next, out, place, t, target);
+        t += 1;
+    }
+    place
+}

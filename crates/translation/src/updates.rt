@@ -1,0 +1,94 @@
+// Updates by edge: exit actions of the source, the transition's, entry actions of the target.
+ghost use mathlib.Core.Path.{_≡_};
+ghost use mathlib.Core.List.{map};
+ghost use Prim.Native.Nat.{_+_, _<_, _^_};
+ghost use Rattle.records.specs.Lists.{keep, gather, upto};
+ghost use Rattle.model.specs.ChartSet.{readCharts};
+ghost use Rattle.model.specs.AutomataTable.{writeDeed};
+ghost use Rattle.model.specs.Translation.{size, updatesOf};
+ghost use Rattle.chart_files.specs.Parts.{deedFor};
+ghost use Rattle.chart_files.specs.Places.{actionAt};
+ghost use Rattle.charts.specs.Accepted.{Accepted};
+ghost use Rattle.charts.specs.Tables.{keyed, HasActions};
+ghost use Rattle.translation.specs.Texts.{recordText, updateTexts, Puts};
+use super::writing::put_record;
+use super::writing::update_bytes;
+use chart_files::Shape;
+use chart_files::fields::Deed;
+use chart_files::fields::deed_of;
+use chart_files::fields::source_of;
+use chart_files::fields::target_of;
+
+fn update_record(edge: u16, deed: Deed) -> [u8; 16]
+    ensures { λ r. ⌜ r ≡ recordText 40 (writeDeed edge (deedFor deed)) ⌝ }
+{
+    match deed {
+        Deed::Assign(v, n) => update_bytes(1, edge, v, n),
+        Deed::Raise(e) => update_bytes(2, edge, e, 0),
+    }
+}
+
+// The deeds of a key, in file order.
+fn put_deeds(
+    s: &[u8],
+    shape: Shape,
+    first: &[u16; 512],
+    next: &[u16; 512],
+    out: &mut [u8],
+    at: usize,
+    edge: u16,
+    key: u16,
+) -> usize
+    requires { ⌜ Accepted (now s) shape × HasActions (now s) shape (now first) (now next) × (key < 512) × (at < 2 ^ 61) ⌝ }
+    ensures { λ r. ⌜ Puts (now (out .entry)) at (updateTexts edge (map (λ a. actionAt (now (s .entry)) shape a .1) (keep (keyed (now (s .entry)) shape key) (upto (shape .actions))))) (now (out .exit)) r (2 ^ 20) ⌝ }
+{
+    let mut place = at;
+    let mut a = first[key as usize];
+    while a != 65535 {
+        let bytes = update_record(edge, deed_of(s, shape, a));
+        place = put_record(out, place, bytes);
+        a = next[a as usize];
+    }
+    place
+}
+
+fn put_updates_of(
+    s: &[u8],
+    shape: Shape,
+    first: &[u16; 512],
+    next: &[u16; 512],
+    out: &mut [u8],
+    at: usize,
+    t: u16,
+) -> usize
+    requires { ⌜ Accepted (now s) shape × HasActions (now s) shape (now first) (now next) × (t < shape .transitions) × (at < 2 ^ 60 + 2 ^ 40) ⌝ }
+    ensures { λ r. ⌜ Puts (now (out .entry)) at (updateTexts t (updatesOf (readCharts (now (s .entry))) t)) (now (out .exit)) r (2 ^ 22) ⌝ }
+{
+    let leaving = 128 + source_of(s, shape, t);
+    let crossing = 256 + t;
+    let entering = target_of(s, shape, t);
+    let crossing_at = put_deeds(s, shape, first, next, out, at, t, leaving);
+    let entering_at = put_deeds(s, shape, first, next, out, crossing_at, t, crossing);
+    put_deeds(s, shape, first, next, out, entering_at, t, entering)
+}
+
+// Idle edges have none.
+pub fn put_updates(
+    s: &[u8],
+    shape: Shape,
+    first: &[u16; 512],
+    next: &[u16; 512],
+    out: &mut [u8],
+    at: usize,
+) -> usize
+    requires { ⌜ Accepted (now s) shape × HasActions (now s) shape (now first) (now next) × (at < 2 ^ 60) ⌝ }
+    ensures { λ r. ⌜ Puts (now (out .entry)) at (gather (λ t. updateTexts t (updatesOf (readCharts (now (s .entry))) t)) (upto (size (readCharts (now (s .entry)))))) (now (out .exit)) r (2 ^ 40) ⌝ }
+{
+    let mut place = at;
+    let mut t: u16 = 0;
+    while t < shape.transitions {
+        place = put_updates_of(s, shape, first, next, out, place, t);
+        t += 1;
+    }
+    place
+}

@@ -1,0 +1,118 @@
+//! Sets beside their twins, through the proved code alone: the same calls, and after each the runs correspond.
+
+use comparison::met::Met;
+use comparison::twins::{automata_cycle, automata_start, automata_turn, charts_translate};
+use comparison::{charts_cycle, charts_start, charts_turn};
+use simulator::correspondence::correspond;
+use simulator::generate::calls::{call_list, events_of_set, Call};
+use simulator::generate::sets::{valid_set, Size};
+use simulator::generate::states::late_count;
+use simulator::{AutomataRun, AutomataTable, ChartSet, ChartsRun, Random};
+
+const IDLE: i32 = 65_534;
+const TIME: i32 = 65_535;
+
+/// A set and its twin, both as bytes that the proved code reads, with their runs.
+struct Pair {
+    set: Vec<u8>,
+    twin: Vec<u8>,
+    table: AutomataTable,
+    charts: ChartsRun,
+    automata: AutomataRun,
+}
+
+impl Pair {
+    fn of(set: Vec<u8>) -> Pair {
+        let mut out = vec![0; 232_576];
+        let length = usize::try_from(charts_translate(&set, &mut out)).expect("an accepted set");
+        out.truncate(length);
+        let table = AutomataTable::read(&out).expect("a twin is accepted");
+        let (mut charts, mut automata) = (ChartsRun::ZERO, AutomataRun::ZERO);
+        assert_eq!((charts_start(&set, &mut charts), automata_start(&out, &mut automata)), (0, 0));
+        Pair { set, twin: out, table, charts, automata }
+    }
+
+    fn follow(&mut self, calls: &[Call], met: &mut Met) {
+        assert!(correspond(&self.table, &self.charts, &self.automata));
+        for call in calls {
+            let before = self.charts;
+            let (chart, edge) = match *call {
+                Call::Turn(events) => (
+                    charts_turn(&self.set, &mut self.charts, events),
+                    automata_turn(&self.twin, &mut self.automata, events),
+                ),
+                Call::Cycle(events) => (
+                    charts_cycle(&self.set, &mut self.charts, events),
+                    automata_cycle(&self.twin, &mut self.automata, events),
+                ),
+            };
+            self.agree(*call, chart, edge, &before, met);
+            assert!(
+                correspond(&self.table, &self.charts, &self.automata),
+                "{call:?} on {before:?} of {:?}",
+                self.set
+            );
+        }
+    }
+
+    /// Transition t with edge t, idling with the idle edge of the state, all else with the same.
+    fn agree(&self, call: Call, chart: i32, edge: i32, before: &ChartsRun, met: &mut Met) {
+        let place = || format!("{call:?} on {before:?} of {:?}", self.set);
+        if chart == IDLE && matches!(call, Call::Turn(_)) {
+            let state = before.states[before.position as usize - 1];
+            let edge = &self.table.edges[usize::try_from(edge).expect("an edge")];
+            assert!(edge.idle && edge.source == state && edge.target == state, "{}", place());
+            met.add("idle");
+            return;
+        }
+        assert_eq!(chart, edge, "{}", place());
+        met.add(match (call, chart) {
+            (Call::Cycle(_), 0) => "done".to_string(),
+            (Call::Turn(_), TIME) => "time".to_string(),
+            (_, 0..) => "taken".to_string(),
+            (_, number) => format!("{}", -number),
+        });
+    }
+}
+
+#[test]
+fn sets_go_with_their_twins() {
+    let mut random = Random::new(71);
+    let mut met = Met::default();
+    for round in 0..4_000 {
+        let size = match round % 100 {
+            0 => Size::Largest,
+            other if other % 2 == 0 => Size::Middling,
+            _ => Size::Tiny,
+        };
+        let mut pair = Pair::of(valid_set(&mut random, size));
+        let set = ChartSet::read(&pair.set).expect("an accepted set");
+        let known = events_of_set(&set);
+        let calls = call_list(&mut random, set.charts(), known, 40);
+        pair.follow(&calls, &mut met);
+        // The last cycles that a run may do: both counts are moved on together.
+        let late = late_count(&mut random, pair.charts.position);
+        (pair.charts.cycles, pair.automata.cycles) = (late, late);
+        let calls = call_list(&mut random, set.charts(), known, 12);
+        pair.follow(&calls, &mut met);
+        met.add("sets");
+    }
+    println!("side by side: {:#?}", met.0);
+    met.at_least(4_000, &["sets", "taken", "idle", "time", "done"]);
+    met.at_least(500, &["13", "14"]);
+    met.at_least(100, &["15", "16", "17"]);
+    assert_eq!((met.count("12"), met.count("18"), met.count("19")), (0, 0, 0));
+}
+
+/// Long quiet runs, in which ages pass the tops of the clocks many times over.
+#[test]
+fn clocks_follow_long_ages() {
+    let mut random = Random::new(72);
+    let mut met = Met::default();
+    for _ in 0..40 {
+        let mut pair = Pair::of(valid_set(&mut random, Size::Tiny));
+        pair.follow(&[Call::Cycle(0); 2_000], &mut met);
+    }
+    println!("long runs: {:#?}", met.0);
+    met.at_least(40_000, &["done"]);
+}

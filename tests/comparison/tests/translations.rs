@@ -1,0 +1,115 @@
+//! The translation, byte for byte: sets of all sizes, buffers exact, a byte short, longer and empty, and refused sets.
+
+use comparison::met::Met;
+use comparison::tables::automata_refusal;
+use comparison::twins::charts_translate;
+use simulator::chart_sets;
+use simulator::generate::buffers::{bytes, lengths, FILL};
+use simulator::generate::longest_twins::{longest, LENGTH};
+use simulator::generate::set_damage;
+use simulator::generate::sets::{any_valid_set, valid_set, Size};
+use simulator::records::{whole_records, CHART_LIMITS};
+use simulator::translation::twin;
+use simulator::{interface, ChartSet, Random};
+
+/// The answer of both sides. Bytes beyond the twin are kept, and on a refusal all of them.
+fn compare(set: &[u8], lent: usize) -> i32 {
+    let (mut mine, mut right) = (bytes(lent), bytes(lent));
+    let answer = charts_translate(set, &mut mine);
+    let expected = interface::charts_translate(set, &mut right);
+    assert_eq!(answer, expected, "for {lent} bytes of {set:?}");
+    assert!(mine == right, "other bytes, for {lent} bytes of {set:?}");
+    let written = usize::try_from(answer).unwrap_or(0);
+    assert!(mine[written..].iter().all(|byte| *byte == FILL));
+    answer
+}
+
+/// A set into buffers of several lengths around that of its twin, which is accepted.
+fn translate(random: &mut Random, set: &[u8], met: &mut Met) {
+    let twin = twin(&ChartSet::read(set).expect("an accepted set"));
+    for lent in lengths(random, twin.len()) {
+        let answer = compare(set, lent);
+        if lent < twin.len() {
+            assert_eq!(answer, -10);
+        } else {
+            assert_eq!(usize::try_from(answer), Ok(twin.len()));
+        }
+        met.add(match lent {
+            0 => "an empty buffer",
+            _ if lent + 1 == twin.len() => "a byte short",
+            _ if lent < twin.len() => "short",
+            _ if lent == twin.len() => "exact",
+            _ => "longer",
+        });
+    }
+    let mut out = bytes(twin.len());
+    charts_translate(set, &mut out);
+    assert!(out == twin);
+    assert_eq!(automata_refusal(&out), 0, "a twin is accepted");
+    met.add("sets");
+}
+
+#[test]
+fn sets_byte_for_byte() {
+    let mut random = Random::new(61);
+    let mut met = Met::default();
+    for round in 0..20_000 {
+        let set = valid_set(&mut random, if round % 2 == 0 { Size::Tiny } else { Size::Middling });
+        translate(&mut random, &set, &mut met);
+    }
+    for (_, set) in chart_sets::all() {
+        translate(&mut random, &set, &mut met);
+    }
+    println!("sets translated: {:#?}", met.0);
+    met.at_least(20_000, &["sets", "exact", "a byte short", "longer", "an empty buffer"]);
+}
+
+/// Sets with the most of each kind, and those with the longest twins.
+#[test]
+fn largest_sets() {
+    let mut random = Random::new(62);
+    let mut met = Met::default();
+    for round in 0..200 {
+        let set = match round % 2 {
+            0 => valid_set(&mut random, Size::Largest),
+            _ => longest(&mut random),
+        };
+        let records = whole_records(&set);
+        for (kind, most) in CHART_LIMITS {
+            assert_eq!(records.iter().filter(|record| record[0] == kind).count(), most, "kind {kind}");
+        }
+        translate(&mut random, &set, &mut met);
+        let length = twin(&ChartSet::read(&set).expect("an accepted set")).len();
+        met.add(if length == LENGTH { "long twins" } else { "shorter twins" });
+    }
+    println!("largest sets translated: {:#?}", met.0);
+    met.at_least(100, &["long twins", "shorter twins"]);
+}
+
+/// The set's number comes before that of the buffer.
+#[test]
+fn refused_sets() {
+    let mut random = Random::new(63);
+    let mut met = Met::default();
+    for round in 0..4_500 {
+        let set = any_valid_set(&mut random);
+        let number = 1 + round % 9;
+        let ways: Vec<_> = set_damage::DAMAGES.iter().filter(|way| way.number == number).collect();
+        let way = random.pick(&ways);
+        let Some(bad) = set_damage::damage(&mut random, &set, way) else {
+            continue;
+        };
+        for lent in [0, 16, 4_000] {
+            assert_eq!(compare(&bad.bytes, lent), -i32::try_from(number).expect("small"));
+        }
+        met.add(format!("file: {number}"));
+    }
+    for _ in 0..10_000 {
+        let noise: Vec<u8> = (0..random.below(100)).map(|_| random.pick(&[0, 0, 1, 2, 3, 4, 5, 6])).collect();
+        compare(&noise, 200);
+    }
+    println!("refused sets: {:#?}", met.0);
+    for number in 1..=9 {
+        met.at_least(200, &[&format!("file: {number}")]);
+    }
+}
