@@ -10,3 +10,4 @@ pub mod Clocks
 pub mod Kept
 pub mod Turning
 pub mod Checking
+pub mod PlayLaws

@@ -4,3 +4,4 @@ pub mod RunOf
 pub mod Index
 pub mod StepOf
 pub mod TurnOf
+pub mod PlayedOf

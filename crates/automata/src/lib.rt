@@ -2,7 +2,9 @@
 pub mod calls;
 pub mod edges;
 pub mod index;
+pub mod lent;
 pub mod literals;
+pub mod plays;
 pub mod runs;
 pub mod steps;
 pub mod turns;

@@ -1,7 +1,7 @@
 -- Refusal 8 of a framed file, by its transitions' and its actions' numbers; and uses counted up to 2. Assumes nothing.
 use mathlib.Core.Path.{_≡_, refl, sym, ap, _∙_}
 use mathlib.Core.Bool.{Bool, true, cond, _&&_}
-use mathlib.Core.List.{List, [], _∷_, _++_, append-assoc, append-nil}
+use mathlib.Core.List.{List, [], _∷_, _++_, append-nil}
 use Prim.Native.Nat.{ℕ, zero, suc, _+_, _-_, min, _≤_, _<_}
 use native.Mathlib.Nat.{sub-zero}
 use native.Mathlib.Omega.{arith}
@@ -22,6 +22,7 @@ use Rattle.chart_files.specs.Places.{transitionAt, placeAt, nodePart}
 use Rattle.chart_files.specs.Used.{guardAt, assignedAt, truths, numbers}
 use Rattle.chart_files.proofs.ListLaws.{gather-map, alike-upto}
 use Rattle.chart_files.proofs.Readings.{transitions-are, gather-actions, lookup-is, length-nodes, most-nodes}
+use Rattle.model.proofs.ListLaws.{gather-append}
 use Rattle.chart_files.proofs.Numbers.{all-alike, all-append, all-both, count-append}
 use Rattle.chart_files.proofs.InCode.{place-in-code}
 
@@ -32,11 +33,6 @@ module _ {A B : Type 0} where
   unfolding all gather
   all-gather p f [] = refl
   all-gather p f (x ∷ xs) = all-append p (f x) (gather f xs) ∙ ap (λ b. all p (f x) && b) (all-gather p f xs)
-
-  gather-append : (f : A → List B) (xs ys : List A) → gather f (xs ++ ys) ≡ gather f xs ++ gather f ys
-  unfolding gather
-  gather-append f [] ys = refl
-  gather-append f (x ∷ xs) ys = ap (λ l. f x ++ l) (gather-append f xs ys) ∙ sym (append-assoc (f x) (gather f xs) (gather f ys))
 
 gather-alike : {B : Type 0} (f g : ℕ → List B) (n : ℕ) → ((i : ℕ) → i < n → f i ≡ g i) → gather f (upto n) ≡ gather g (upto n)
 gather-alike f g n h = sym (gather-map f (λ l. l) (upto n)) ∙ ap (gather (λ l. l)) (alike-upto f g n h) ∙ gather-map g (λ l. l) (upto n)

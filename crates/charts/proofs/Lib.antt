@@ -9,3 +9,4 @@ pub mod StepLaws
 pub mod Kept
 pub mod Turning
 pub mod Checking
+pub mod PlayLaws

@@ -5,3 +5,4 @@ pub mod RunOf
 pub mod Replies
 pub mod StepOf
 pub mod TurnOf
+pub mod PlayedOf

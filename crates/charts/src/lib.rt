@@ -2,6 +2,8 @@
 pub mod actions;
 pub mod calls;
 pub mod deeds;
+pub mod lent;
+pub mod plays;
 pub mod runs;
 pub mod steps;
 pub mod tables;

@@ -1,30 +1,24 @@
 // Calls on chart sets, exported with each place of the lent run by itself. A refusal is minus its number.
 ghost use mathlib.Core.Path.{_≡_};
-ghost use Prim.Native.Nat.{_≤_};
-ghost use Rattle.records.specs.Refusal.{Refusal as Number, fault};
-ghost use Rattle.model.specs.Outcome.{settled};
-ghost use Rattle.model.specs.ChartSet.{readCharts};
-ghost use Rattle.model.specs.Charts.{charts as machine};
+ghost use Prim.Native.Nat.{ℕ, _≤_};
+ghost use Rattle.records.specs.Refusal.{val};
 ghost use Rattle.model.specs.Calls.{chartSets, startCall, turnCall, cycleCall, numbered, answerCode};
 ghost use Rattle.chart_files.specs.Shape.{refusalFor};
 ghost use Rattle.machines.specs.Worlds.{reasonOf};
-ghost use Rattle.charts.specs.TurnOf.{refusalOf, answerOf, endingOf, Known};
-ghost use Rattle.charts.specs.RunOf.{runOf};
+ghost use Rattle.charts.specs.TurnOf.{refusalOf, answerOf, endingOf};
+ghost use Rattle.machines.specs.Playing.{playCall};
+ghost use Rattle.charts.specs.PlayedOf.{cyclesOf};
 ghost use Rattle.comparison.specs.Codes.{refusedCode};
-ghost use Rattle.comparison.specs.Playing.{runIn, doneCode, countCode, stoppedAt, playing, playCall, counted, playedOf};
-use chart_files::Checked;
-use chart_files::Shape;
-use chart_files::check;
+ghost use Rattle.comparison.specs.Playing.{runIn, doneCode, countCode};
 use charts::calls::call_cycle;
 use charts::calls::call_start;
 use charts::calls::call_turn;
+use charts::plays::Cycles;
+use charts::plays::play;
 use charts::runs::Run;
-use charts::tables::actions_of;
-use charts::tables::rows_of;
 use charts::turns::Answer;
 use charts::turns::Ending;
 use charts::turns::Refusal;
-use charts::turns::cycle;
 use machines::deeds::Reason;
 
 pub fn file_code(w: chart_files::Refusal) -> i32
@@ -199,106 +193,14 @@ pub extern "C" fn charts_cycle(
     ending_code(answer)
 }
 
-// Cycles done, or why not even the first was, and the run after them.
-pub struct Played {
-    pub answer: Ending,
-    pub count: u32,
-    pub run: Run,
-}
-
-fn unplayed(run: Run, refusal: Refusal) -> Played
-    ensures { λ r. ⌜ (r .answer ≡ Ending.Refused refusal) × (r .run ≡ run) × (r .count ≡ 0) ⌝ }
-{
-    Played {
-        answer: Ending::Refused(refusal),
-        count: 0,
-        run,
-    }
-}
-
-// A cycle was not done: that is told only of the first.
-fn stopped(lent: Run, run: Run, count: u32, answer: Ending) -> Played
-    ensures { λ r. ⌜ ((w : Number) → endingOf answer ≡ fault w → playedOf r ≡ settled (runOf lent) (stoppedAt count (runOf run) (fault w))) × (r .count ≤ count) ⌝ }
-{
-    if count == 0 {
-        return Played {
-            answer,
-            count: 0,
-            run: lent,
-        };
-    }
-    Played {
-        answer: Ending::Done,
-        count,
-        run,
-    }
-}
-
-// Cycles of an accepted set, one for each mask, until one is refused or faults.
-fn cycles_played(
-    s: &[u8],
-    shape: Shape,
-    rows: &[[u16; 16]; 128],
-    first: &[u16; 512],
-    next: &[u16; 512],
-    run: Run,
-    masks: &[u32],
-) -> Played
-    requires { ⌜ Known (now s) shape (now rows) (now first) (now next) ⌝ }
-    ensures { λ r. ⌜ playedOf r ≡ settled (runOf run) (playing (machine (readCharts (now (s .entry)))) (now (masks .entry)) (runOf run)) ⌝ }
-    ensures { λ r. ⌜ r .count ≤ 1_000_000 ⌝ }
-{
-    let mut present = run;
-    let mut k: usize = 0;
-    while k < masks.len() {
-        let called = cycle(s, shape, rows, first, next, present, masks[k]);
-        let answer = called.answer;
-        match answer {
-            Ending::Done => {
-                let after = called.run;
-                present = after;
-                k += 1;
-            }
-            Ending::Fault(w) => {
-                return stopped(run, present, k as u32, Ending::Fault(w));
-            }
-            Ending::Refused(w) => {
-                return stopped(run, present, k as u32, Ending::Refused(w));
-            }
-        }
-    }
-    Played {
-        answer: Ending::Done,
-        count: k as u32,
-        run: present,
-    }
-}
-
-// The file checked once, then many cycles.
-fn play(s: &[u8], run: Run, masks: &[u32]) -> Played
-    ensures { λ r. ⌜ playedOf r ≡ playCall chartSets (now (s .entry)) (now (masks .entry)) (runOf run) ⌝ }
-    ensures { λ r. ⌜ r .count ≤ 1_000_000 ⌝ }
-{
-    match check(s) {
-        Checked::Refused(refusal) => unplayed(run, Refusal::File(refusal)),
-        Checked::Accepted(shape) => {
-            let rows = rows_of(s, shape);
-            let actions = actions_of(s, shape);
-            let first = actions.first;
-            let next = actions.next;
-            cycles_played(s, shape, &rows, &first, &next, run, masks)
-        }
-    }
-}
-
-fn count_code(answer: Ending, count: u32) -> i32
-    requires { ⌜ count ≤ 1_000_000 ⌝ }
-    ensures { λ r. ⌜ r ≡ numbered countCode (counted answer count) ⌝ }
+fn count_code(answer: Cycles) -> i32
+    requires { ⌜ ((n : ℕ) → cyclesOf answer ≡ val n → n ≤ 1_000_000) ⌝ }
+    ensures { λ r. ⌜ r ≡ numbered countCode (cyclesOf answer) ⌝ }
 {
     match answer {
-        Ending::Done => count as i32,
-        Ending::Fault(w) => fault_code(w),
-        Ending::Refused(w) => refused_code(w),
+        Cycles::Done(n) => n as i32,
+        Cycles::Fault(w) => fault_code(w),
+        Cycles::Refused(w) => refused_code(w),
     }
 }
 
@@ -337,6 +239,5 @@ pub extern "C" fn charts_play(
     *position = run.position;
     *cycles = run.cycles;
     let answer = called.answer;
-    let count = called.count;
-    count_code(answer, count)
+    count_code(answer)
 }

@@ -1,30 +1,24 @@
 // Calls on automata tables, exported with each place of the lent run by itself. A refusal is minus its number.
 ghost use mathlib.Core.Path.{_≡_};
-ghost use Prim.Native.Nat.{_≤_};
-ghost use Rattle.records.specs.Refusal.{Refusal as Number, fault};
-ghost use Rattle.model.specs.Outcome.{settled};
-ghost use Rattle.model.specs.AutomataTable.{readAutomata};
-ghost use Rattle.model.specs.Automata.{automata as machine};
+ghost use Prim.Native.Nat.{ℕ, _≤_};
+ghost use Rattle.records.specs.Refusal.{val};
 ghost use Rattle.model.specs.Calls.{automataTables, startCall, turnCall, cycleCall, numbered, answerCode};
 ghost use Rattle.automata.specs.StepOf.{reasonOf};
-ghost use Rattle.automata.specs.TurnOf.{refusalOf, answerOf, endingOf, Known};
-ghost use Rattle.automata.specs.RunOf.{runOf};
+ghost use Rattle.automata.specs.TurnOf.{refusalOf, answerOf, endingOf};
+ghost use Rattle.machines.specs.Playing.{playCall};
+ghost use Rattle.automata.specs.PlayedOf.{cyclesOf};
 ghost use Rattle.comparison.specs.Codes.{refusedCode};
-ghost use Rattle.comparison.specs.Playing.{runIn, doneCode, countCode, stoppedAt, playing, playCall};
-ghost use Rattle.comparison.specs.TwinPlaying.{counted, playedOf};
+ghost use Rattle.comparison.specs.Playing.{runIn, doneCode, countCode};
 use automata::calls::call_cycle;
 use automata::calls::call_start;
 use automata::calls::call_turn;
-use automata::index::index_of;
+use automata::plays::Cycles;
+use automata::plays::play;
 use automata::runs::Run;
 use automata::steps::Reason;
 use automata::turns::Answer;
 use automata::turns::Ending;
 use automata::turns::Refusal;
-use automata::turns::cycle;
-use automata_files::Checked;
-use automata_files::Shape;
-use automata_files::check;
 
 fn refused_code(w: Refusal) -> i32
     ensures { λ r. ⌜ r ≡ refusedCode (refusalOf w) ⌝ }
@@ -183,104 +177,14 @@ pub extern "C" fn automata_cycle(
     ending_code(answer)
 }
 
-// Cycles done, or why not even the first was, and the run after them.
-pub struct Played {
-    pub answer: Ending,
-    pub count: u32,
-    pub run: Run,
-}
-
-fn unplayed(run: Run, refusal: Refusal) -> Played
-    ensures { λ r. ⌜ (r .answer ≡ Ending.Refused refusal) × (r .run ≡ run) × (r .count ≡ 0) ⌝ }
-{
-    Played {
-        answer: Ending::Refused(refusal),
-        count: 0,
-        run,
-    }
-}
-
-// A cycle was not done: that is told only of the first.
-fn stopped(lent: Run, run: Run, count: u32, answer: Ending) -> Played
-    ensures { λ r. ⌜ ((w : Number) → endingOf answer ≡ fault w → playedOf r ≡ settled (runOf lent) (stoppedAt count (runOf run) (fault w))) × (r .count ≤ count) ⌝ }
-{
-    if count == 0 {
-        return Played {
-            answer,
-            count: 0,
-            run: lent,
-        };
-    }
-    Played {
-        answer: Ending::Done,
-        count,
-        run,
-    }
-}
-
-// Cycles of an accepted table, one for each mask, until one is refused or faults.
-fn cycles_played(
-    s: &[u8],
-    shape: Shape,
-    first: &[u16; 1280],
-    next: &[u16; 14536],
-    run: Run,
-    masks: &[u32],
-) -> Played
-    requires { ⌜ Known (now s) shape (now first) (now next) ⌝ }
-    ensures { λ r. ⌜ playedOf r ≡ settled (runOf run) (playing (machine (readAutomata (now (s .entry)))) (now (masks .entry)) (runOf run)) ⌝ }
-    ensures { λ r. ⌜ r .count ≤ 1_000_000 ⌝ }
-{
-    let mut present = run;
-    let mut k: usize = 0;
-    while k < masks.len() {
-        let called = cycle(s, shape, first, next, present, masks[k]);
-        let answer = called.answer;
-        match answer {
-            Ending::Done => {
-                let after = called.run;
-                present = after;
-                k += 1;
-            }
-            Ending::Fault(w) => {
-                return stopped(run, present, k as u32, Ending::Fault(w));
-            }
-            Ending::Refused(w) => {
-                return stopped(run, present, k as u32, Ending::Refused(w));
-            }
-        }
-    }
-    Played {
-        answer: Ending::Done,
-        count: k as u32,
-        run: present,
-    }
-}
-
-// The file checked once, then many cycles.
-fn play(s: &[u8], run: Run, masks: &[u32]) -> Played
-    ensures { λ r. ⌜ playedOf r ≡ playCall automataTables (now (s .entry)) (now (masks .entry)) (runOf run) ⌝ }
-    ensures { λ r. ⌜ r .count ≤ 1_000_000 ⌝ }
-{
-    match check(s) {
-        Checked::Refused => unplayed(run, Refusal::File),
-        Checked::Accepted(shape) => {
-            let index = index_of(s, shape);
-            let first = index.first;
-            let next = index.next;
-            cycles_played(s, shape, &first, &next, run, masks)
-        }
-    }
-}
-
-fn count_code(answer: Ending, count: u32) -> i32
-    requires { ⌜ count ≤ 1_000_000 ⌝ }
-    ensures { λ r. ⌜ r ≡ numbered countCode (counted answer count) ⌝ }
+fn count_code(answer: Cycles) -> i32
+    requires { ⌜ ((n : ℕ) → cyclesOf answer ≡ val n → n ≤ 1_000_000) ⌝ }
+    ensures { λ r. ⌜ r ≡ numbered countCode (cyclesOf answer) ⌝ }
 {
     match answer {
-        Ending::Done => count as i32,
-        Ending::Fault(w) => fault_code(w),
-        Ending::Refused(w) => refused_code(w),
+        Cycles::Done(n) => n as i32,
+        Cycles::Fault(w) => fault_code(w),
+        Cycles::Refused(w) => refused_code(w),
     }
 }
 
@@ -319,6 +223,5 @@ pub extern "C" fn automata_play(
     *position = run.position;
     *cycles = run.cycles;
     let answer = called.answer;
-    let count = called.count;
-    count_code(answer, count)
+    count_code(answer)
 }

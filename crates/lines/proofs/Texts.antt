@@ -1,6 +1,6 @@
 -- The text of a line: the model's, and its length. Assumes nothing.
 use mathlib.Core.Path.{_≡_, refl, sym, ap, _∙_}
-use mathlib.Core.List.{List, [], _∷_, _++_, append-assoc, append-nil}
+use mathlib.Core.List.{List, [], _∷_, _++_, append-nil}
 use Prim.Native.Nat.{ℕ, suc, _+_, _-_, _*_, _^_, _≤_, _<_}
 use native.Mathlib.Numerals.{add-one}
 use native.Mathlib.Omega.{arith}
@@ -12,17 +12,13 @@ use Rattle.records.specs.Lists.{gather}
 use Rattle.model.specs.ChartSet.{ChartSet}
 use Rattle.model.specs.Runs.{Run, Answer, taken}
 use Rattle.model.specs.Replay.{decimal, signedDecimal, chosen, space, feed, line, turnLines}
+use Rattle.model.proofs.ListLaws.{gather-append}
 use Rattle.lines.specs.Text.{chosenOf, variablesText, lineText}
 use Rattle.lines.specs.declared.Chosen.{Chosen}
 use Rattle.lines.specs.declared.Chosen.the-variants.{Transition, Idle}
 use Rattle.lines.proofs.Digits.{length-decimal, length-signed16}
 
 -- ---- variables
-
-gather-append : {A B : Type 0} (f : A → List B) (xs ys : List A) → gather f (xs ++ ys) ≡ gather f xs ++ gather f ys
-unfolding gather
-gather-append f [] ys = refl
-gather-append f (x ∷ xs) ys = ap (λ t. f x ++ t) (gather-append f xs ys) ∙ sym (append-assoc (f x) (gather f xs) (gather f ys))
 
 pub variables-none : variablesText [] ≡ []
 unfolding gather

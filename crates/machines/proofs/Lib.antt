@@ -9,3 +9,5 @@ pub mod DeedLaws
 pub mod Kept
 pub mod Possible
 pub mod Turning
+pub mod Playing
+pub mod Whole

@@ -41,9 +41,6 @@ module _ (m : Machine) (r : Run) (at : length (r .at) ≡ 8) (timers : length (r
       last true false false = refl
       last false t y = refl
 
-      none : (t u : Bool) → (false && t && u) ≡ false
-      none t u = refl
-
       ordered : (p v t a c e z u y : Bool) → (true && p && v && t && a && c && e && (z && u && y)) ≡ (p && v && (a && c && e) && z && y && t && u)
       ordered false v t a c e z u y = refl
       ordered true false t a c e z u y = refl

@@ -3,3 +3,4 @@ pub mod Worlds
 pub mod Checks
 pub mod Turns
 pub mod Chains
+pub mod Playing

@@ -1,11 +1,10 @@
 // What is checked before a turn, but for the timers; and the places of a fresh run.
 ghost use mathlib.Core.Path.{_≡_};
 ghost use mathlib.Core.Bool.{cond, not, _&&_, _||_};
+ghost use mathlib.Core.List.{[]};
 ghost use Prim.Native.Nat.{_+_, _≤_};
 ghost use lib.Dec.{leb, ltb, eqb};
-ghost use lib.ListN.{drop};
 ghost use Rattle.records.specs.Lists.{padded};
-ghost use Rattle.expressions.specs.Values.{isZero};
 ghost use Rattle.model.specs.Runs.{within};
 ghost use Rattle.machines.specs.Files.{initialsIn, homeIn, homesIn, variableIn, variablesIn, HasValues};
 ghost use Rattle.machines.specs.Worlds.{worldIn};
@@ -43,7 +42,7 @@ fn events_possible(position: u32, events: u32) -> bool
 // What can be said of position, count and events without the file.
 fn counts_possible(parts: u16, events: u32, position: u32, cycles: u32) -> bool
     requires { ⌜ parts ≤ 8 ⌝ }
-    ensures { λ r. ⌜ r ≡ (leb 1 position && leb position (parts + 1)) && leb cycles (cond (eqb position 1) 1_000_000 999_999) && (not (eqb position 1) || eqb events 0) ⌝ }
+    ensures { λ r. ⌜ r ≡ counts parts (worldIn [] events position cycles) ⌝ }
 {
     position_possible(parts, position)
         & count_possible(position, cycles)

@@ -9,7 +9,8 @@ use Rattle.records.specs.Lists.{gather}
 use Rattle.model.specs.ChartSet.{ChartSet, Transition, noTransition, transition}
 use Rattle.model.specs.AutomataTable.{Clock}
 use Rattle.model.specs.Translation.{size, clocksOf, clockOf}
-use Rattle.translation.proofs.Gathered.{gather-append, gather-none, gather-one}
+use Rattle.model.proofs.ListLaws.{gather-append}
+use Rattle.translation.proofs.Gathered.{gather-none, gather-one}
 
 module _ (cs : ChartSet) where
   abbrev clocksIn : Transition → List Clock

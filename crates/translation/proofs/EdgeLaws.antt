@@ -29,7 +29,8 @@ use Rattle.charts.proofs.ActionLaws.{of-key}
 use Rattle.charts.proofs.Sound.{source-known, target-known}
 use Rattle.translation.specs.Texts.{recordText, literalTexts, updateTexts, resetTexts}
 use Rattle.translation.specs.Tables.{sourceOf, HasLeaving}
-use Rattle.translation.proofs.Gathered.{gather-append, gather-gather, gather-shift, gather-below}
+use Rattle.model.proofs.ListLaws.{gather-append}
+use Rattle.translation.proofs.Gathered.{gather-gather, gather-shift, gather-below}
 
 module _ (cs : ChartSet) (e st : ℕ) where
   -- the must-nots of one priority

@@ -19,7 +19,8 @@ use Rattle.model.specs.Translation.{size, states, onEdge, written}
 use Rattle.chart_files.proofs.ListLaws.{gather-map}
 use Rattle.translation.specs.Texts.{recordText, section, owned, placesText, testsText, effectsText}
 use Rattle.translation.proofs.SectionLaws.{gathered-text}
-use Rattle.translation.proofs.Gathered.{gather-append, gather-none, gather-gather, gather-empty, gather-below, gather-shift, from-append}
+use Rattle.model.proofs.ListLaws.{gather-append}
+use Rattle.translation.proofs.Gathered.{gather-none, gather-gather, gather-empty, gather-below, gather-shift, from-append}
 
 -- ---- one section after the other
 

@@ -1,17 +1,13 @@
--- Laws of lists gathered: of two lists, of the numbers below one more, of lists gathered before. Assumes nothing.
+-- Laws of lists gathered: of the numbers below one more, of lists gathered before. Assumes nothing.
 use mathlib.Core.Path.{_≡_, refl, sym, ap, _∙_}
-use mathlib.Core.List.{List, [], _∷_, _++_, map, append-assoc, append-nil}
+use mathlib.Core.List.{List, [], _∷_, _++_, map, append-nil}
 use Prim.Native.Nat.{ℕ, zero, suc, _+_, _-_, _≤_, _<_}
 use native.Mathlib.Nat.{add-zero}
 use native.Mathlib.Omega.{arith}
 use Rattle.records.specs.Lists.{gather, from, upto}
+use Rattle.model.proofs.ListLaws.{gather-append}
 
 module _ {A B : Type 0} (f : A → List B) where
-  pub gather-append : (xs ys : List A) → gather f (xs ++ ys) ≡ gather f xs ++ gather f ys
-  unfolding gather
-  gather-append [] ys = refl
-  gather-append (x ∷ xs) ys = ap (λ t. f x ++ t) (gather-append xs ys) ∙ sym (append-assoc (f x) (gather f xs) (gather f ys))
-
   pub gather-none : gather f [] ≡ []
   unfolding gather
   gather-none = refl

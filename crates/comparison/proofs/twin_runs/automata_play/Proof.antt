@@ -2,8 +2,10 @@
 use mathlib.Core.Path.{_≡_, ap, _∙_}
 use mir.Syntax.{w32}
 use mir.Val.{toZ, ofZ}
+use denote.Ref.{now}
 use Rattle.model.specs.Calls.{numbered}
-use Rattle.comparison.specs.Playing.{countCode}
+use Rattle.comparison.specs.Playing.{runIn, countCode}
+use Rattle.automata.proofs.PlayLaws.{few-told}
 use borrow.Author.Needs.{needs}
 use Rattle.comparison.proofs.twin_runs.automata_play.Statement.{statement}
 use Rattle.comparison.proofs.twin_runs.automata_play.Tie as tie
@@ -12,12 +14,15 @@ play-requires : tie.Need-play-requires
 play-requires c κs = search needs
 
 count-code-requires : tie.Need-count-code-requires
-count-code-requires c κs = search needs
+count-code-requires c κs =
+    let p = c .before .before .before .before in
+    let b = p .before .before .before .before .before .before .before .before .before .args in
+    few-told (now (b .s)) (now (b .masks)) (runIn (now (b .locations)) (now (b .clocks)) (now (b .variables)) (now (b .present)) (now (b .position)) (now (b .cycles))) (p .play .result) (p .play .ensures)
 
 returns : tie.Need-returns
 returns c =
     let kept : toZ w32 (ofZ w32 (c .count-code .result)) ≡ c .count-code .result = search needs in
-    let is = c .before .before .before .before .before .play .ensures .0 in
+    let is = c .before .before .before .before .before .play .ensures in
     (kept ∙ c .count-code .ensures ∙ ap (λ o. numbered countCode (o .answer)) is, ap (λ o. o .lent) is)
 
 pub automata-play-spec : {M : Type 1} → statement M

@@ -1,4 +1,4 @@
--- `checks::initial_places` meets its contract: the invariant is that the charts before c are written. Assumes nothing.
+-- `checks::initial_places` meets its contract: the invariant is that the parts before c are written. Assumes nothing.
 use mathlib.Core.Path.{_≡_, subst}
 use Prim.Native.Nat.{_-_, _≤_}
 use native.Mathlib.Omega.{arith}

@@ -1,4 +1,4 @@
--- `checks::places_possible` meets its contract: the invariant is that the charts before c passed. Assumes nothing.
+-- `checks::places_possible` meets its contract: the invariant is that the parts before c passed. Assumes nothing.
 use mathlib.Core.Path.{_≡_, sym, _∙_}
 use mathlib.Core.Bool.{Bool, _&&_}
 use mathlib.Core.List.{List}

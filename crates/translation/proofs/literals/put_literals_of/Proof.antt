@@ -13,7 +13,8 @@ use Rattle.chart_files.specs.Places.{transitionAt}
 use Rattle.chart_files.proofs.Readings.{transition-is}
 use Rattle.charts.proofs.Sound.{priority-known, source-known}
 use Rattle.translation.specs.Texts.{recordText, literalTexts}
-use Rattle.translation.proofs.Gathered.{gather-append, gather-one}
+use Rattle.model.proofs.ListLaws.{gather-append}
+use Rattle.translation.proofs.Gathered.{gather-one}
 use Rattle.translation.proofs.Written.{puts-as, puts-then}
 use Rattle.translation.proofs.literals.put_literals_of.Statement.{statement}
 use Rattle.translation.proofs.literals.put_literals_of.Tie as tie
