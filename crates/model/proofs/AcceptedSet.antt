@@ -33,7 +33,7 @@ lowest-none (x ∷ xs) e = go (x .1) e (lowest-none xs)
     go true e ih = let z : _≡_ {A = ℕ} 0 1 = cc in absurd (omega arith)
     go false e ih = ih e
 
-or-off : (a b : Bool) → T (not (a || b)) → T (not a) × T (not b)
+pub or-off : (a b : Bool) → T (not (a || b)) → T (not a) × T (not b)
 or-off true b t = absurd t
 or-off false b t = (tt, t)
 

@@ -13,12 +13,14 @@ pub mod Corresponding
 pub mod PossibleRuns
 pub mod Traces
 pub mod Lockstep
+pub mod StaysPossible
 pub mod MoveAlike
 pub mod AcceptedSet
 pub mod Sums
 pub mod TwinCounts
 pub mod TwinNames
 pub mod Accepted
+pub mod Steady
 pub mod WrittenRecords
 pub mod Written
 pub mod WrittenFraming

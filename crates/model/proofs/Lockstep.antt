@@ -36,7 +36,7 @@ Lockstep cs r (turned r₀ a r₁ t) (stopped v) = ⊥
 
 module _ (cs : ChartSet) (r r₁ : Run) where
   -- past a chart's turn the position is not 1
-  onward : r .world .position ≤ length (cs .initial) → r .world .cycles ≤ 999_999 → 1 ≤ r .world .position → r₁ .world .position ≡ r .world .position + 1 → r₁ .world .cycles ≡ r .world .cycles → Resting cs (r₁ .world)
+  onward : r .world .position ≤ length (cs .initial) → r .world .cycles ≤ 999_999 → 1 ≤ r .world .position → r₁ .world .position ≡ r .world .position + 1 → r₁ .world .cycles ≡ r .world .cycles → Resting (charts cs) (r₁ .world)
   onward l few low p c =
       let no : eqb (r₁ .world .position) 1 ≡ false = ne→eqb {a = r₁ .world .position} {b = 1} (λ e. omega arith) in
       record {
@@ -47,7 +47,7 @@ module _ (cs : ChartSet) (r r₁ : Run) where
       }
 
   -- the world is at rest after a turn
-  pub rests : 1 ≤ r .world .position → r .world .position ≤ length (cs .initial) + 1 → r .world .cycles ≤ 999_999 → (a b : Answer) → Went cs r a b r₁ → Resting cs (r₁ .world)
+  pub rests : 1 ≤ r .world .position → r .world .position ≤ length (cs .initial) + 1 → r .world .cycles ≤ 999_999 → (a b : Answer) → Went cs r a b r₁ → Resting (charts cs) (r₁ .world)
   rests low high few (taken t) b w = onward (w .1) few low (w .2) (w .3)
   rests low high few idle b w = onward (w .1) few low (w .2) (w .3)
   rests low high few time time w =
@@ -123,7 +123,7 @@ module _ (cs : ChartSet) (ok : Sound cs) where
       go (fault w) e = refl
       go (val u) e =
           turns-lockstep (turnsOf (charts cs) c r) (give (given c) r) (give (given c) q) (given-alike cs r q (h .alike) (given c)) (h .resting .low) (in-cycle c)
-          (gate-count cs (given c) (r .world) u (h .resting .count) e)
+          (gate-count (charts cs) (given c) (r .world) u (h .resting .count) e)
 
 -- ---- what follows of the traces
 

@@ -4,7 +4,7 @@ use mathlib.Core.Bool.{Bool, true, false, not, cond, _&&_}
 use mathlib.Core.List.{List, [], _∷_, _++_, map}
 use Prim.Native.Nat.{ℕ, zero, suc, _+_, _-_, _≤_, _<_, zero-le}
 use native.Mathlib.Omega.{arith}
-use lib.Dec.{T, leb, ltb, eqb, le→leb, lt→ltb, leb→le, nltb→le, ltb→lt}
+use lib.Dec.{T, leb, ltb, eqb, le→leb, lt→ltb, leb→le, nltb→le, ltb→lt, eqb→eq}
 use lib.IntN.{ℤ, pos, negsuc}
 use lib.ListN.{length, getD, drop, replicate, length-append, length-replicate, length-map, List·getD-append, List·getD-eq-default, List·getD-map}
 use lib.Seq.{getD-append-add}
@@ -18,18 +18,12 @@ use Rattle.model.specs.AutomataTable.{clockAt}
 use Rattle.model.specs.Automata.{top, automata}
 use Rattle.model.specs.Translation.{states, chartOf, clockOf, twin}
 use Rattle.model.specs.Correspondence.{clockFor}
-use Rattle.model.proofs.BoolLaws.{and-right, is-true, of-true, not-false, both-of, eq→eqb, eqb-ne}
-use Rattle.model.proofs.ListLaws.{all-upto, all-rest}
+use Rattle.model.proofs.BoolLaws.{and-left, and-right, is-true, of-true, not-false, both-of, eq→eqb, eqb-ne}
+use Rattle.model.proofs.ListLaws.{all-upto, upto-all, all-rest}
 use Rattle.model.proofs.TwinTime.{fresh-same}
+use Rattle.model.proofs.AcceptedSet.{three-of, five-of}
 use Rattle.model.proofs.Deeds.{Valued}
 use Rattle.model.proofs.Alike.{Sound, Placed, Timed, Alike}
-
--- Between calls the position is one of a cycle's, the count is not over, and no events are present at position 1.
-pub record Resting (cs : ChartSet) (w : World) : Type 0 where
-  pub low : 1 ≤ w .position
-  pub high : w .position ≤ length (cs .initial) + 1
-  pub count : T (countPossible (charts cs) w)
-  pub events : T (eventsPossible (charts cs) w)
 
 -- ---- variables not in use
 
@@ -47,12 +41,54 @@ all-zero-from zero (z ∷ vars) h = both-of (isZero z) (all isZero vars) (h 0 ze
 all-zero-from (suc k) [] h = tt
 all-zero-from (suc k) (z ∷ vars) h = all-zero-from k vars (λ v l. h (suc v) (omega arith))
 
--- ---- check 12, from what it asks
+within-zero : (z : ℤ) → T (isZero z) → T (within noVariable z)
+within-zero (pos n) t = let e : n ≡ 0 = eqb→eq n 0 t in both-of (leb 0 n) (leb n 0) (le→leb 0 n zero-le) (le→leb n 0 (omega arith))
+within-zero (negsuc n) t = let e : suc n ≡ 0 = eqb→eq (suc n) 0 t in absurd (omega arith)
 
-module _ (cs : ChartSet) (m : Machine) (initial : m .initial ≡ cs .initial) (homes : m .homes ≡ cs .homes) (variables : m .variables ≡ cs .variables) (r : Run) where
-  pub possible-of : Placed cs (r .at) → Valued (cs .variables) (r .world .vars) → Resting cs (r .world) → length (r .timers) ≡ m .timers-room →
-      ((k : ℕ) → k < m .timers-used → T (m .timer-possible (r .world .cycles) k (getD (r .timers) k 0))) → ((k : ℕ) → m .timers-used ≤ k → getD (r .timers) k 0 ≡ 0) → T (possible m r)
-  possible-of placed valued rest room timers past =
+zero-from-all : (k : ℕ) (vars : List ℤ) → T (all isZero (drop k vars)) → (v : ℕ) → k ≤ v → T (isZero (getD vars v (pos 0)))
+unfolding all
+zero-from-all zero [] t v l = tt
+zero-from-all zero (z ∷ vars) t zero l = and-left (isZero z) (all isZero vars) t
+zero-from-all zero (z ∷ vars) t (suc v) l = zero-from-all zero vars (and-right (isZero z) (all isZero vars) t) v zero-le
+zero-from-all (suc k) [] t v l = tt
+zero-from-all (suc k) (z ∷ vars) t zero l = absurd (omega arith)
+zero-from-all (suc k) (z ∷ vars) t (suc v) l = zero-from-all k vars t v (omega arith)
+
+rest-zero : (n : ℕ) (xs : List ℕ) → T (all (λ t. eqb t 0) (drop n xs)) → (k : ℕ) → n ≤ k → getD xs k 0 ≡ 0
+unfolding all
+rest-zero zero [] t k l = refl
+rest-zero zero (x ∷ xs) t zero l = eqb→eq x 0 (and-left (eqb x 0) (all (λ t. eqb t 0) xs) t)
+rest-zero zero (x ∷ xs) t (suc k) l = rest-zero zero xs (and-right (eqb x 0) (all (λ t. eqb t 0) xs) t) k zero-le
+rest-zero (suc n) [] t k l = refl
+rest-zero (suc n) (x ∷ xs) t zero l = absurd (omega arith)
+rest-zero (suc n) (x ∷ xs) t (suc k) l = rest-zero n xs t k (omega arith)
+
+-- ---- check 12, and what it asks
+
+-- What check 12 asks of the places of a run.
+pub record Fits (m : Machine) (r : Run) : Type 0 where
+  pub room : length (r .at) ≡ 8
+  pub home : (c : ℕ) → c < parts m → (getD (r .at) c 0 < length (m .homes)) × (getD (m .homes) (getD (r .at) c 0) 0 ≡ c)
+  pub rest : (k : ℕ) → parts m ≤ k → getD (r .at) k 0 ≡ 0
+  pub valued : Valued (m .variables) (r .world .vars)
+  pub timer-room : length (r .timers) ≡ m .timers-room
+  pub timer-low : (k : ℕ) → k < m .timers-used → T (m .timer-possible (r .world .cycles) k (getD (r .timers) k 0))
+  pub timer-rest : (k : ℕ) → m .timers-used ≤ k → getD (r .timers) k 0 ≡ 0
+
+-- and of the rest
+pub record Resting (m : Machine) (w : World) : Type 0 where
+  pub low : 1 ≤ w .position
+  pub high : w .position ≤ parts m + 1
+  pub count : T (countPossible m w)
+  pub events : T (eventsPossible m w)
+
+module _ (m : Machine) (r : Run) where
+  place : ℕ → Bool
+  place c = ltb (getD (r .at) c 0) (length (m .homes)) && eqb (getD (m .homes) (getD (r .at) c 0) 0) c
+
+  pub possible-of : Fits m r → Resting m (r .world) → T (possible m r)
+  unfolding place
+  possible-of fits rest =
       both-of (allPlaces m r && placesPossible m r && variablesPossible m r && timersPossible m r && positionPossible m (r .world) && countPossible m (r .world) && eventsPossible m (r .world)) (unusedZero m r)
       (both-of (allPlaces m r && placesPossible m r && variablesPossible m r && timersPossible m r && positionPossible m (r .world) && countPossible m (r .world)) (eventsPossible m (r .world))
       (both-of (allPlaces m r && placesPossible m r && variablesPossible m r && timersPossible m r && positionPossible m (r .world)) (countPossible m (r .world))
@@ -62,53 +98,118 @@ module _ (cs : ChartSet) (m : Machine) (initial : m .initial ≡ cs .initial) (h
     where
       rooms : T (allPlaces m r)
       rooms = both-of (eqb (length (r .at)) 8 && eqb (length (r .timers)) (m .timers-room)) (eqb (length (r .world .vars)) 64)
-          (both-of (eqb (length (r .at)) 8) (eqb (length (r .timers)) (m .timers-room)) (of-true (eq→eqb (placed .room))) (of-true (eq→eqb room))) (of-true (eq→eqb (valued .room)))
-
-      place : ℕ → Bool
-      place c = ltb (getD (r .at) c 0) (length (m .homes)) && eqb (getD (m .homes) (getD (r .at) c 0) 0) c
+          (both-of (eqb (length (r .at)) 8) (eqb (length (r .timers)) (m .timers-room)) (of-true (eq→eqb (fits .room))) (of-true (eq→eqb (fits .timer-room)))) (of-true (eq→eqb (fits .valued .room)))
 
       in-places : T (placesPossible m r)
       in-places = all-upto place (parts m) (λ c h.
-          let p : (getD (r .at) c 0 < states cs) × (chartOf cs (getD (r .at) c 0) ≡ c) = placed .home c (subst (λ l. c < length l) initial h) in
           both-of (ltb (getD (r .at) c 0) (length (m .homes))) (eqb (getD (m .homes) (getD (r .at) c 0) 0) c)
-          (lt→ltb (getD (r .at) c 0) (length (m .homes)) (subst (λ l. getD (r .at) c 0 < length l) (sym homes) (p .0)))
-          (of-true (eq→eqb (ap (λ l. getD l (getD (r .at) c 0) 0) homes ∙ p .1))))
+          (lt→ltb (getD (r .at) c 0) (length (m .homes)) (fits .home c h .0)) (of-true (eq→eqb (fits .home c h .1))))
 
       in-variables : T (variablesPossible m r)
-      in-variables = all-upto (λ v. within (getD (m .variables) v noVariable) (getD (r .world .vars) v (pos 0))) (length (m .variables))
-          (λ v h. subst (λ l. T (within (getD l v noVariable) (getD (r .world .vars) v (pos 0)))) (sym variables) (valued .bounded v))
+      in-variables = all-upto (λ v. within (getD (m .variables) v noVariable) (getD (r .world .vars) v (pos 0))) (length (m .variables)) (λ v h. fits .valued .bounded v)
 
       in-timers : T (timersPossible m r)
-      in-timers = all-upto (λ k. m .timer-possible (r .world .cycles) k (getD (r .timers) k 0)) (m .timers-used) timers
+      in-timers = all-upto (λ k. m .timer-possible (r .world .cycles) k (getD (r .timers) k 0)) (m .timers-used) (fits .timer-low)
 
       position : T (positionPossible m (r .world))
-      position = both-of (leb 1 (r .world .position)) (leb (r .world .position) (parts m + 1)) (le→leb 1 (r .world .position) (rest .low))
-          (le→leb (r .world .position) (parts m + 1) (subst (λ l. r .world .position ≤ length l + 1) (sym initial) (rest .high)))
+      position = both-of (leb 1 (r .world .position)) (leb (r .world .position) (parts m + 1)) (le→leb 1 (r .world .position) (rest .low)) (le→leb (r .world .position) (parts m + 1) (rest .high))
 
       zeros : T (unusedZero m r)
       zeros = both-of (all (λ s. eqb s 0) (drop (parts m) (r .at)) && all (λ t. eqb t 0) (drop (m .timers-used) (r .timers))) (all isZero (drop (length (m .variables)) (r .world .vars)))
           (both-of (all (λ s. eqb s 0) (drop (parts m) (r .at))) (all (λ t. eqb t 0) (drop (m .timers-used) (r .timers)))
-          (all-rest (parts m) (r .at) (λ k l. placed .rest k (subst (λ z. length z ≤ k) initial l))) (all-rest (m .timers-used) (r .timers) past))
+          (all-rest (parts m) (r .at) (fits .rest)) (all-rest (m .timers-used) (r .timers) (fits .timer-rest)))
           (all-zero-from (length (m .variables)) (r .world .vars) (λ v l. zero-within (getD (r .world .vars) v (pos 0))
-          (subst (λ x. T (within x (getD (r .world .vars) v (pos 0)))) (List·getD-eq-default (cs .variables) noVariable (subst (λ z. length z ≤ v) variables l)) (valued .bounded v))))
+          (subst (λ x. T (within x (getD (r .world .vars) v (pos 0)))) (List·getD-eq-default (m .variables) noVariable l) (fits .valued .bounded v))))
+
+  module _ (t : T (possible m r)) where
+    to-events : T (allPlaces m r && placesPossible m r && variablesPossible m r && timersPossible m r && positionPossible m (r .world) && countPossible m (r .world) && eventsPossible m (r .world))
+    to-events = and-left (allPlaces m r && placesPossible m r && variablesPossible m r && timersPossible m r && positionPossible m (r .world) && countPossible m (r .world) && eventsPossible m (r .world)) (unusedZero m r) t
+
+    to-count : T (allPlaces m r && placesPossible m r && variablesPossible m r && timersPossible m r && positionPossible m (r .world) && countPossible m (r .world))
+    to-count = and-left (allPlaces m r && placesPossible m r && variablesPossible m r && timersPossible m r && positionPossible m (r .world) && countPossible m (r .world)) (eventsPossible m (r .world)) to-events
+
+    to-timers : T (allPlaces m r) × T (placesPossible m r) × T (variablesPossible m r) × T (timersPossible m r) × T (positionPossible m (r .world))
+    to-timers = five-of (allPlaces m r) (placesPossible m r) (variablesPossible m r) (timersPossible m r) (positionPossible m (r .world))
+        (and-left (allPlaces m r && placesPossible m r && variablesPossible m r && timersPossible m r && positionPossible m (r .world)) (countPossible m (r .world)) to-count)
+
+    rooms-of : T (eqb (length (r .at)) 8) × T (eqb (length (r .timers)) (m .timers-room)) × T (eqb (length (r .world .vars)) 64)
+    rooms-of = three-of (eqb (length (r .at)) 8) (eqb (length (r .timers)) (m .timers-room)) (eqb (length (r .world .vars)) 64) (to-timers .0)
+
+    zeros-of : T (all (λ s. eqb s 0) (drop (parts m) (r .at))) × T (all (λ t. eqb t 0) (drop (m .timers-used) (r .timers))) × T (all isZero (drop (length (m .variables)) (r .world .vars)))
+    zeros-of = three-of (all (λ s. eqb s 0) (drop (parts m) (r .at))) (all (λ t. eqb t 0) (drop (m .timers-used) (r .timers))) (all isZero (drop (length (m .variables)) (r .world .vars)))
+        (and-right (allPlaces m r && placesPossible m r && variablesPossible m r && timersPossible m r && positionPossible m (r .world) && countPossible m (r .world) && eventsPossible m (r .world)) (unusedZero m r) t)
+
+    pub possible-fits : Fits m r
+    unfolding place
+    possible-fits = record {
+      room = eqb→eq (length (r .at)) 8 (rooms-of .0);
+      home = λ c h.
+          let p : T (place c) = upto-all place (parts m) c (to-timers .1) h in (
+            ltb→lt (getD (r .at) c 0) (length (m .homes)) (and-left (ltb (getD (r .at) c 0) (length (m .homes))) (eqb (getD (m .homes) (getD (r .at) c 0) 0) c) p),
+            eqb→eq (getD (m .homes) (getD (r .at) c 0) 0) c (and-right (ltb (getD (r .at) c 0) (length (m .homes))) (eqb (getD (m .homes) (getD (r .at) c 0) 0) c) p),
+          );
+      rest = rest-zero (parts m) (r .at) (zeros-of .0);
+      valued = record { room = eqb→eq (length (r .world .vars)) 64 (rooms-of .2); bounded = λ v. bounded v (ltb v (length (m .variables))) refl };
+      timer-room = eqb→eq (length (r .timers)) (m .timers-room) (rooms-of .1);
+      timer-low = λ k h. upto-all (λ k. m .timer-possible (r .world .cycles) k (getD (r .timers) k 0)) (m .timers-used) k (to-timers .3) h;
+      timer-rest = rest-zero (m .timers-used) (r .timers) (zeros-of .1);
+    }
+      where
+        bounded : (v : ℕ) (p : Bool) → ltb v (length (m .variables)) ≡ p → T (within (getD (m .variables) v noVariable) (getD (r .world .vars) v (pos 0)))
+        bounded v true q = upto-all (λ v. within (getD (m .variables) v noVariable) (getD (r .world .vars) v (pos 0))) (length (m .variables)) v (to-timers .2) (ltb→lt v (length (m .variables)) (of-true q))
+        bounded v false q =
+            let l : length (m .variables) ≤ v = nltb→le v (length (m .variables)) (not-false q) in
+            subst (λ x. T (within x (getD (r .world .vars) v (pos 0)))) (sym (List·getD-eq-default (m .variables) noVariable l))
+            (within-zero (getD (r .world .vars) v (pos 0)) (zero-from-all (length (m .variables)) (r .world .vars) (zeros-of .2) v l))
+
+    pub possible-rests : Resting m (r .world)
+    possible-rests = record {
+      low = leb→le 1 (r .world .position) (and-left (leb 1 (r .world .position)) (leb (r .world .position) (parts m + 1)) (to-timers .4));
+      high = leb→le (r .world .position) (parts m + 1) (and-right (leb 1 (r .world .position)) (leb (r .world .position) (parts m + 1)) (to-timers .4));
+      count = and-right (allPlaces m r && placesPossible m r && variablesPossible m r && timersPossible m r && positionPossible m (r .world)) (countPossible m (r .world)) to-count;
+      events = and-right (allPlaces m r && placesPossible m r && variablesPossible m r && timersPossible m r && positionPossible m (r .world) && countPossible m (r .world)) (eventsPossible m (r .world)) to-events;
+    }
 
 -- ---- alike and at rest: the state of two runs between calls
 
 pub record AtRest (cs : ChartSet) (r q : Run) : Type 0 where
   pub alike : Alike cs r q
-  pub resting : Resting cs (r .world)
+  pub resting : Resting (charts cs) (r .world)
 
 module _ (cs : ChartSet) (r q : Run) (h : AtRest cs r q) where
   pub charts-possible : T (possible (charts cs) r)
   charts-possible =
-      possible-of cs (charts cs) refl refl refl r (h .alike .placed) (h .alike .valued) (h .resting) (h .alike .timed .age-room)
-      (λ c l. le→leb (getD (r .timers) c 0) (r .world .cycles) (h .alike .timed .age-low c l)) (h .alike .timed .age-rest)
+      possible-of (charts cs) r
+      (record {
+        room = h .alike .placed .room;
+        home = h .alike .placed .home;
+        rest = h .alike .placed .rest;
+        valued = h .alike .valued;
+        timer-room = h .alike .timed .age-room;
+        timer-low = λ c l. le→leb (getD (r .timers) c 0) (r .world .cycles) (h .alike .timed .age-low c l);
+        timer-rest = h .alike .timed .age-rest;
+      })
+      (h .resting)
+
+  placed : Placed cs (q .at)
+  placed = subst (Placed cs) (h .alike .ats) (h .alike .placed)
+
+  resting : Resting (charts cs) (q .world)
+  resting = subst (Resting (charts cs)) (h .alike .worlds) (h .resting)
 
   pub twin-possible : T (possible (automata (twin cs)) q)
   twin-possible =
-      possible-of cs (automata (twin cs)) refl refl refl q (subst (Placed cs) (h .alike .ats) (h .alike .placed))
-      (subst (λ w. Valued (cs .variables) (w .vars)) (h .alike .worlds) (h .alike .valued)) (subst (Resting cs) (h .alike .worlds) (h .resting)) (h .alike .timed .clock-room)
-      (λ k l. le→leb (getD (q .timers) k 0) (top (clockAt (twin cs) k .timing) (clockAt (twin cs) k .ticks)) (h .alike .timed .clock-low k l)) (h .alike .timed .clock-rest)
+      possible-of (automata (twin cs)) q
+      (record {
+        room = placed .room;
+        home = placed .home;
+        rest = placed .rest;
+        valued = subst (λ w. Valued (cs .variables) (w .vars)) (h .alike .worlds) (h .alike .valued);
+        timer-room = h .alike .timed .clock-room;
+        timer-low = λ k l. le→leb (getD (q .timers) k 0) (top (clockAt (twin cs) k .timing) (clockAt (twin cs) k .ticks)) (h .alike .timed .clock-low k l);
+        timer-rest = h .alike .timed .clock-rest;
+      })
+      (record { low = resting .low; high = resting .high; count = resting .count; events = resting .events })
 
 -- ---- checks 13 and 14, of the world alone
 
@@ -120,8 +221,8 @@ pub checked-is : (m : Machine) (given : ℕ) (r : Run) → T (possible m r) → 
 checked-is m given r t = ap (λ b. fault-if (not b) impossible-run >>= λ _. gate given (r .world)) (is-true {b = possible m r} t)
 
 -- past them the count is below 1,000,000
-pub gate-count : (cs : ChartSet) (given : ℕ) (w : World) (u : Unit {0}) → T (countPossible (charts cs) w) → gate given w ≡ val u → w .cycles ≤ 999_999
-gate-count cs given w u t e = go (eqb (w .position) 1) (eqb (w .cycles) 1_000_000) refl t e
+pub gate-count : (m : Machine) (given : ℕ) (w : World) (u : Unit {0}) → T (countPossible m w) → gate given w ≡ val u → w .cycles ≤ 999_999
+gate-count m given w u t e = go (eqb (w .position) 1) (eqb (w .cycles) 1_000_000) refl t e
   where
     go : (a b : Bool) → eqb (w .cycles) 1_000_000 ≡ b → T (leb (w .cycles) (cond a 1_000_000 999_999)) →
         (fault-if (not a && not (eqb given 0)) misplaced-events >>= λ _. fault-if (a && b) cycles-done) ≡ val u → w .cycles ≤ 999_999

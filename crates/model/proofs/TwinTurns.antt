@@ -64,7 +64,7 @@ module _ (cs : ChartSet) (r q : Run) (al : Alike cs r q) where
 -- ---- time
 
 -- a place that is not in use stays 0
-still : (f : ℕ → ℕ → ℕ) (m : ℕ) (xs : List ℕ) (k : ℕ) → m ≤ k → getD xs k 0 ≡ 0 → getD (mapFrom 0 (λ j x. cond (ltb j m) (f j x) x) xs) k 0 ≡ 0
+pub still : (f : ℕ → ℕ → ℕ) (m : ℕ) (xs : List ℕ) (k : ℕ) → m ≤ k → getD xs k 0 ≡ 0 → getD (mapFrom 0 (λ j x. cond (ltb j m) (f j x) x) xs) k 0 ≡ 0
 still f m xs k l z = go (ltb k (length xs)) refl
   where
     no : ltb k m ≡ false
