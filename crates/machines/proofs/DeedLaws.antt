@@ -1,7 +1,6 @@
 -- Deeds: an assignment's cases, a raised event's bits, and deeds one by one along a chain. Assumes nothing.
-use mathlib.Core.Path.{_≡_, refl, sym, ap, _∙_}
-use mathlib.Core.Bool.{Bool, true, false, not, cond}
-use mathlib.Core.Option.{some, none}
+use mathlib.Core.Path.{_≡_, sym, ap, _∙_}
+use mathlib.Core.Bool.{Bool, true, false, not}
 use mathlib.Core.List.{List, [], _∷_, map}
 use Prim.Native.Nat.{ℕ, suc, _+_, _-_, _*_, _/_, _%_, _^_, _≤_, _<_}
 use native.Mathlib.Nat.{mod-lt, mul-le-mul-right, pow-succ', sub-zero}
@@ -42,22 +41,17 @@ module _ (nodes : List Node) (variables : List Variable) (vars : List ℤ) (even
     pub assign-fault : (w : Refusal) → fault w ≡ number (nodeOf nodes) vars n → fault w ≡ deed nodes variables (assign v n) (worldIn vars events p c)
     assign-fault w e = ap (λ o. o >>= then-set) e
 
-    pub assign-outside : (z : ℤ) → val z ≡ number (nodeOf nodes) vars n → none ≡ cond (fits z) (some z) none →
-        fault out-of-bounds ≡ deed nodes variables (assign v n) (worldIn vars events p c)
-    assign-outside z e f = go (fits z) f ∙ ap (λ o. o >>= then-set) e
-      where
-        go : (b : Bool) → none ≡ cond b (some z) none → fault out-of-bounds ≡ (fault-if (not b) out-of-bounds >> val (setVar v z (worldIn vars events p c)))
-        go true g = let x : _≡_ {A = ℕ} 0 1 = cc in absurd (omega arith)
-        go false g = refl
+    assign-by : (z : ℤ) (b : Bool) → val z ≡ number (nodeOf nodes) vars n → fits z ≡ b →
+        (fault-if (not b) out-of-bounds >> val (setVar v z (worldIn vars events p c))) ≡ deed nodes variables (assign v n) (worldIn vars events p c)
+    assign-by z b e f = ap (λ y. fault-if (not y) out-of-bounds >> val (setVar v z (worldIn vars events p c))) (sym f) ∙ ap (λ o. o >>= then-set) e
 
-    pub assign-within : (z x : ℤ) → val z ≡ number (nodeOf nodes) vars n → some x ≡ cond (fits z) (some z) none →
-        val (worldIn (set vars v x) events p c) ≡ deed nodes variables (assign v n) (worldIn vars events p c)
-    assign-within z x e f = go (fits z) f ∙ ap (λ o. o >>= then-set) e
-      where
-        go : (b : Bool) → some x ≡ cond b (some z) none →
-            val (worldIn (set vars v x) events p c) ≡ (fault-if (not b) out-of-bounds >> val (setVar v z (worldIn vars events p c)))
-        go true g = let y : x ≡ z = cc in ap (λ u. val (worldIn (set vars v u) events p c)) y
-        go false g = let y : _≡_ {A = ℕ} 0 1 = cc in absurd (omega arith)
+    pub assign-outside : (z : ℤ) → val z ≡ number (nodeOf nodes) vars n → fits z ≡ false →
+        fault out-of-bounds ≡ deed nodes variables (assign v n) (worldIn vars events p c)
+    assign-outside z = assign-by z false
+
+    pub assign-within : (z : ℤ) → val z ≡ number (nodeOf nodes) vars n → fits z ≡ true →
+        val (worldIn (set vars v z) events p c) ≡ deed nodes variables (assign v n) (worldIn vars events p c)
+    assign-within z = assign-by z true
 
 -- ---- events
 

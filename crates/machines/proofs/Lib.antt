@@ -10,4 +10,5 @@ pub mod Kept
 pub mod Possible
 pub mod Turning
 pub mod Playing
+pub mod PlayCalls
 pub mod Whole

@@ -1,5 +1,4 @@
 -- The answers of deeds, as the model's outcomes. Assumes nothing: these are definitions.
-use mathlib.Core.Option.{Option, some, none}
 use mathlib.Core.List.{List}
 use Prim.Native.Nat.{ℕ}
 use lib.IntN.{ℤ}
@@ -8,17 +7,11 @@ use Rattle.model.specs.Runs.{World}
 use Rattle.machines.specs.declared.deeds.Reason.{Reason}
 use Rattle.machines.specs.declared.deeds.Reason.the-variants.{Range, Divisor, Bounds}
 use Rattle.machines.specs.declared.deeds.Done as declared-done
-use Rattle.machines.specs.declared.deeds.Bounded as declared-bounded
 
 abbrev pub reasonOf : Reason → Refusal
 reasonOf Range = out-of-range
 reasonOf Divisor = zero-divisor
 reasonOf Bounds = out-of-bounds
-
--- a number that is within its variable's bounds, if it is
-abbrev pub boundedOf : declared-bounded.Bounded → Option ℤ
-boundedOf (declared-bounded.the-variants.Within z) = some z
-boundedOf declared-bounded.the-variants.Outside = none
 
 abbrev pub worldIn : List ℤ → ℕ → ℕ → ℕ → World
 worldIn vars events position cycles = record { vars = vars; events = events; position = position; cycles = cycles }

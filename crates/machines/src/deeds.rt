@@ -1,17 +1,15 @@
 // Events, and deeds on variables and events.
 ghost use mathlib.Core.Path.{_≡_};
-ghost use mathlib.Core.Bool.{cond, _&&_};
-ghost use mathlib.Core.Option.{some, none};
-ghost use Prim.Native.Nat.{ℕ, _<_};
+ghost use mathlib.Core.Bool.{true, _&&_};
+ghost use Prim.Native.Nat.{ℕ, _<_, _^_};
 ghost use lib.ListN.{getD};
-ghost use lib.Signed.{leZ};
+ghost use lib.Signed.{leZ, mag};
 ghost use Rattle.expressions.specs.Answers as expressions-answers;
 ghost use Rattle.model.specs.Runs.{within, noVariable, present, raised, assign, deed};
 ghost use Rattle.machines.specs.Files.{variablesIn, nodesIn, HasValues};
-ghost use Rattle.machines.specs.Worlds.{reasonOf, boundedOf, worldIn, worldAfter};
+ghost use Rattle.machines.specs.Worlds.{reasonOf, worldIn, worldAfter};
 use super::values::Values;
-use super::values::highest_of;
-use super::values::lowest_of;
+use super::values::bound_within;
 use super::values::number_at;
 use expressions::arithmetic::Number;
 
@@ -26,11 +24,6 @@ pub enum Reason {
 pub enum Done {
     Events(u32),
     Fault(Reason),
-}
-
-pub enum Bounded {
-    Within(i16),
-    Outside,
 }
 
 pub fn reason_for(w: expressions::arithmetic::Reason) -> Reason
@@ -68,28 +61,20 @@ fn widened(z: i16) -> i32
 }
 
 // What is within bounds of 16 bits has 16 bits.
-fn fitted(z: i32, lowest: i16, highest: i16) -> Bounded
-    ensures { λ r. ⌜ boundedOf r ≡ cond (leZ lowest z && leZ z highest) (some z) none ⌝ }
+fn is_between(z: i32, lowest: i16, highest: i16) -> bool
+    ensures { λ r. ⌜ (r ≡ (leZ lowest z && leZ z highest)) × (r ≡ true → mag z < 2 ^ 15) ⌝ }
 {
-    if widened(lowest) <= z {
-        if z <= widened(highest) {
-            Bounded::Within(z as i16)
-        } else {
-            Bounded::Outside
-        }
-    } else {
-        Bounded::Outside
-    }
+    (widened(lowest) <= z) & (z <= widened(highest))
 }
 
-fn fitted_to(s: &[u8], values: Values, v: u8, z: i32) -> Bounded
+fn is_within(s: &[u8], values: Values, v: u8, z: i32) -> bool
     requires { ⌜ HasValues (now s) values × (v < values .variables) ⌝ }
-    ensures { λ r. ⌜ boundedOf r ≡ cond (within (getD (variablesIn (now (s .entry)) values) v noVariable) z) (some z) none ⌝ }
+    ensures { λ r. ⌜ (r ≡ within (getD (variablesIn (now (s .entry)) values) v noVariable) z) × (r ≡ true → mag z < 2 ^ 15) ⌝ }
 {
-    fitted(
+    is_between(
         z,
-        lowest_of(s, values, v as u16),
-        highest_of(s, values, v as u16),
+        bound_within(s, values, v, 2),
+        bound_within(s, values, v, 4),
     )
 }
 
@@ -100,13 +85,14 @@ pub fn assign(s: &[u8], values: Values, v: u8, n: u16, vars: &mut [i16; 64], eve
 {
     match number_at(s, values, vars, n) {
         Number::Fault(w) => Done::Fault(reason_for(w)),
-        Number::Value(z) => match fitted_to(s, values, v, z) {
-            Bounded::Outside => Done::Fault(Reason::Bounds),
-            Bounded::Within(x) => {
+        Number::Value(z) => {
+            if is_within(s, values, v, z) {
                 let i = v as usize;
-                vars[i] = x;
+                vars[i] = z as i16;
                 Done::Events(events)
+            } else {
+                Done::Fault(Reason::Bounds)
             }
-        },
+        }
     }
 }

@@ -53,6 +53,16 @@ pub fn start_of(s: &[u8], values: Values, v: u16) -> i16
     i16_in(s, values.first + (v as usize), 6)
 }
 
+// A bound of one of the file's variables, from its record's byte k on: in a part that has just its bytes no test for the file's end is left.
+pub fn bound_within(s: &[u8], values: Values, v: u8, k: usize) -> i16
+    requires { ⌜ HasValues (now s) values × (v < values .variables) × (k < 15) ⌝ }
+    ensures { λ r. ⌜ r ≡ two± (now (s .entry)) (16 * (values .first + v) + k) ⌝ }
+{
+    let a = 16 * (values.first + (v as usize)) + k;
+    let e = a + 2;
+    i16_at(&s[a..e], 0)
+}
+
 // The variables of a fresh run.
 pub fn start_values(s: &[u8], values: Values) -> [i16; 64]
     requires { ⌜ HasValues (now s) values ⌝ }

@@ -1,18 +1,16 @@
 -- `deeds::assign` meets its contract, arm by arm. Assumes nothing.
 use mathlib.Core.Path.{_≡_, sym, ap, _∙_}
-use mathlib.Core.Bool.{cond}
-use mathlib.Core.Option.{some, none}
-use native.Mathlib.Omega.{arith}
 use denote.Ref.{now}
 use lib.ListN.{getD, set}
-use mir.Syntax.{w16, w32}
+use mir.Facts.{toZ-ofZ}
+use mir.Syntax.{w32}
 use mir.Val.{toZ, ofZ}
 use Rattle.records.specs.Refusal.{val, fault}
 use Rattle.expressions.specs.Answers.{numberOf}
 use Rattle.expressions.specs.Answers as expressions-answers
 use Rattle.model.specs.Runs.{within, noVariable}
 use Rattle.machines.specs.Files.{variablesIn, nodesIn}
-use Rattle.machines.specs.Worlds.{boundedOf, worldIn}
+use Rattle.machines.specs.Worlds.{worldIn}
 use Rattle.machines.proofs.DeedLaws.{assign-fault, assign-outside, assign-within}
 use borrow.Author.Needs.{needs}
 use Rattle.machines.proofs.deeds.assign.Statement.{statement}
@@ -30,22 +28,17 @@ reason-for-requires c κs = search needs
 enum-known-z : tie.Need-enum-known-z
 enum-known-z c = search needs
 
-fitted-to-requires : tie.Need-fitted-to-requires
-fitted-to-requires c κs = search needs
+is-within-requires : tie.Need-is-within-requires
+is-within-requires c κs = search needs
 
-enum-told : tie.Need-enum-told
-enum-told c = search needs
+cast-vars : tie.Need-cast-vars
+cast-vars c = record { sfits = c .before .is-within .ensures .1 (c .if1 .taken) }
 
-enum-known-x : tie.Need-enum-known-x
-enum-known-x c = search needs
+mul-t17 : tie.Need-mul-t17
+mul-t17 c = search needs
 
-mul-x : tie.Need-mul-x
-mul-x c = search needs
-
-element-set-from-x : tie.Need-element-set-from-x
-element-set-from-x c =
-    let a = c .before .before .before .before .before .before .before .before .before .before in
-    omega (arith, a .pre .1, a .pre .0 .few)
+element-set-from-vars : tie.Need-element-set-from-vars
+element-set-from-vars c = search needs
 
 returns : tie.Need-returns
 returns c = λ p q.
@@ -56,26 +49,22 @@ returns c = λ p q.
 
 returns-2 : tie.Need-returns-2
 returns-2 c = λ p q.
-    let x = c .before .before .before .before .before .before .before .before .before .args in
-    let z = c .before .before .before .before .z .given .0 .0 in
+    let x = c .before .before .before .before .before .before .before .before .args in
+    let z = c .before .before .before .z .given .0 .0 in
     let e : toZ w32 (ofZ w32 z) ≡ z = search needs in
-    assign-outside (nodesIn (now (x .s)) (x .values)) (variablesIn (now (x .s)) (x .values)) (now (x .vars)) (x .events) (x .v) (x .n) p q z
-    (ap numberOf (sym (c .before .before .before .before .z .given .1)) ∙ c .before .before .before .before .before .before .number-at .ensures)
-    (ap boundedOf (sym (c .enum-told .given .1)) ∙ c .before .before .fitted-to .ensures
-    ∙ ap (λ y. cond (within (getD (variablesIn (now (x .s)) (x .values)) (x .v) noVariable) y) (some y) none) e)
+    ap (λ u. val (worldIn (set (now (x .vars)) (x .v) u) (x .events) p q)) (toZ-ofZ (cast-vars c) ∙ e)
+    ∙ assign-within (nodesIn (now (x .s)) (x .values)) (variablesIn (now (x .s)) (x .values)) (now (x .vars)) (x .events) (x .v) (x .n) p q z
+    (ap numberOf (sym (c .before .before .before .z .given .1)) ∙ c .before .before .before .before .before .number-at .ensures)
+    (ap (within (getD (variablesIn (now (x .s)) (x .values)) (x .v) noVariable)) (sym e) ∙ sym (c .before .is-within .ensures .0) ∙ c .if1 .taken)
 
 returns-3 : tie.Need-returns-3
 returns-3 c = λ p q.
-    let x = c .before .before .before .before .before .before .before .before .before .before .args in
-    let z = c .before .before .before .before .before .z .given .0 .0 in
+    let x = c .before .before .before .before .before .before .before .before .args in
+    let z = c .before .before .before .z .given .0 .0 in
     let e : toZ w32 (ofZ w32 z) ≡ z = search needs in
-    let y = c .before .x .given .0 .0 in
-    let f : toZ w16 (ofZ w16 y) ≡ y = search needs in
-    ap (λ u. val (worldIn (set (now (x .vars)) (x .v) u) (x .events) p q)) f
-    ∙ assign-within (nodesIn (now (x .s)) (x .values)) (variablesIn (now (x .s)) (x .values)) (now (x .vars)) (x .events) (x .v) (x .n) p q z y
-    (ap numberOf (sym (c .before .before .before .before .before .z .given .1)) ∙ c .before .before .before .before .before .before .before .number-at .ensures)
-    (ap boundedOf (sym (c .before .x .given .1)) ∙ c .before .before .before .fitted-to .ensures
-    ∙ ap (λ y. cond (within (getD (variablesIn (now (x .s)) (x .values)) (x .v) noVariable) y) (some y) none) e)
+    assign-outside (nodesIn (now (x .s)) (x .values)) (variablesIn (now (x .s)) (x .values)) (now (x .vars)) (x .events) (x .v) (x .n) p q z
+    (ap numberOf (sym (c .before .before .before .z .given .1)) ∙ c .before .before .before .before .before .number-at .ensures)
+    (ap (within (getD (variablesIn (now (x .s)) (x .values)) (x .v) noVariable)) (sym e) ∙ sym (c .before .is-within .ensures .0) ∙ c .if1 .left)
 
 pub assign-spec : {M : Type 1} → statement M
 assign-spec =
@@ -85,11 +74,10 @@ assign-spec =
     enum-known-w
     reason-for-requires
     enum-known-z
-    fitted-to-requires
-    enum-told
-    enum-known-x
-    mul-x
-    element-set-from-x
+    is-within-requires
+    cast-vars
+    mul-t17
+    element-set-from-vars
     returns
     returns-2
     returns-3)

@@ -1,0 +1,44 @@
+-- `deeds::is_between` meets its contract: two comparisons, and what passes both has 16 bits. Assumes nothing.
+use mathlib.Core.Path.{_≡_, sym, _∙_}
+use mathlib.Core.Bool.{_&&_}
+use Prim.Native.Nat.{_<_, _^_}
+use lib.IntN.{ℤ}
+use lib.Signed.{leZ, mag}
+use mir.Facts.{toZ-ofZ}
+use mir.Syntax.{w32}
+use mir.Val.{toZ, ofZ}
+use Rattle.records.proofs.FramingLaws.{and-true}
+use Rattle.machines.proofs.DeedLaws.{between}
+use borrow.Author.Needs.{needs}
+use Rattle.machines.proofs.deeds.is_between.Statement.{statement}
+use Rattle.machines.proofs.deeds.is_between.Tie as tie
+
+-- what is read of a number that was made wider
+read : {r z : ℤ} → mag r < 2 ^ 31 → r ≡ z → toZ w32 (ofZ w32 r) ≡ z
+read {r} {z} ok e = toZ-ofZ {w = w32} (record { sfits = ok }) ∙ e
+
+widened-requires : tie.Need-widened-requires
+widened-requires c κs = search needs
+
+widened-requires-2 : tie.Need-widened-requires-2
+widened-requires-2 c κs = search needs
+
+returns : tie.Need-returns
+returns c =
+    let a = c .before .before in
+    let x = a .args in
+    let e = toZ-ofZ (a .fits .z) in
+    let l = read (c .before .widened .ok) (c .before .widened .ensures ∙ toZ-ofZ (a .fits .lowest)) in
+    let h = read (c .widened2 .ok) (c .widened2 .ensures ∙ toZ-ofZ (a .fits .highest)) in
+    let z = toZ w32 (ofZ w32 (x .z)) in
+    let is : (leZ (toZ w32 (ofZ w32 (c .before .widened .result))) z && leZ z (toZ w32 (ofZ w32 (c .widened2 .result)))) ≡ (leZ (x .lowest) (x .z) && leZ (x .z) (x .highest)) =
+    λ i. leZ (l i) (e i) && leZ (e i) (h i)
+    in (
+      is,
+      λ t.
+          let both = and-true (leZ (x .lowest) (x .z)) (leZ (x .z) (x .highest)) (sym is ∙ t) in
+          between (x .lowest) (x .z) (x .highest) (a .fits .lowest .sfits) (a .fits .highest .sfits) (both .0) (both .1),
+    )
+
+pub is-between-spec : {M : Type 1} → statement M
+is-between-spec = tie.close (tie.spec widened-requires widened-requires-2 returns)
