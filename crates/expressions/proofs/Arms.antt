@@ -2,20 +2,25 @@
 use mathlib.Core.Path.{_≡_, refl, sym, ap, _∙_, subst}
 use mathlib.Core.Bool.{Bool, true, false, cond, Bool·beq}
 use mathlib.Core.List.{List}
-use Prim.Native.Nat.{ℕ}
-use lib.Dec.{T}
-use lib.IntN.{ℤ}
+use Prim.Native.Nat.{ℕ, _+_, _*_, _≤_, _<_}
+use lib.Dec.{T, eqb}
+use lib.ListN.{getD}
+use lib.IntN.{ℤ, pos}
 use Rattle.records.specs.Refusal.{Refusal, Out, val, fault, _>>=_, choose}
-use Rattle.expressions.specs.Nodes.{nodeAt}
-use Rattle.expressions.specs.Values.{numberBy, truthBy, decide, number, truth, operandNumber, operandTruth}
-use Rattle.expressions.specs.Answers.{nodeFor}
-use Rattle.expressions.specs.declared.nodes.Node.{Node}
+use Rattle.records.specs.Lists.{caseOf}
+use Rattle.records.specs.Bytes.{byte, two, four±}
+use Rattle.expressions.specs.Nodes.{Node, nodeBy, nodeAt}
+use Rattle.expressions.specs.Values.{compute, compare, computePair, comparePair, numberBy, truthBy, decide, number, truth, operandNumber, operandTruth, operandPair}
+use Rattle.expressions.specs.Coded.{HasFields, codedNode, arithmeticOf, comparisonOf}
+use Rattle.expressions.specs.declared.nodes.Fields.{Fields}
+use Rattle.expressions.proofs.Codes.{arithmetic-codes, comparison-codes, decided-codes, no-number, no-truth}
+use Rattle.expressions.proofs.Fields.{coded-at}
 use Rattle.expressions.proofs.Depth.{number-rule, truth-rule}
 
 -- ---- outcomes
 
 -- two numbers as a pair, or one by one
-pub pair-bind : {B : Type 0} (f : ℤ → ℤ → Out B) (x y : Out ℤ) →
+pair-bind : {B : Type 0} (f : ℤ → ℤ → Out B) (x y : Out ℤ) →
     _>>=_ {A = ℤ × ℤ} (x >>= λ u. (y >>= λ v. val (u, v))) (λ p. f (p .0) (p .1)) ≡ (x >>= λ u. (y >>= λ v. f u v))
 pair-bind f (val u) (val v) = refl
 pair-bind f (val u) (fault w) = refl
@@ -43,15 +48,65 @@ decide-second false false h e = absurd (subst T h tt)
 
 -- ---- nodes
 
--- the arm of node x, which is the node at n
-module _ (s : List ℕ) (vars : List ℤ) (n : ℕ) {r x : Node} (is : r ≡ x) (read : nodeFor r ≡ nodeAt s n) where
-  pub number-arm :
-      numberBy (operandNumber (nodeAt s) vars n) (operandTruth (nodeAt s) vars n) vars (nodeFor x) ≡ number (nodeAt s) vars n
-  number-arm =
-      ap (numberBy (operandNumber (nodeAt s) vars n) (operandTruth (nodeAt s) vars n) vars) (ap nodeFor (sym is) ∙ read)
-      ∙ sym (number-rule vars (nodeAt s) n)
+-- The arms of node n, whose record has the fields f.
+module _ (s : List ℕ) (vars : List ℤ) (n : ℕ) (f : Fields) (h : HasFields s n f) where
+  abbrev N : ℕ → Out ℤ
+  N = operandNumber (nodeAt s) vars n
 
-  pub truth-arm : truthBy (operandNumber (nodeAt s) vars n) (operandTruth (nodeAt s) vars n) vars (nodeFor x) ≡ truth (nodeAt s) vars n
-  truth-arm =
-      ap (truthBy (operandNumber (nodeAt s) vars n) (operandTruth (nodeAt s) vars n) vars) (ap nodeFor (sym is) ∙ read)
-      ∙ sym (truth-rule vars (nodeAt s) n)
+  abbrev B : ℕ → Out Bool
+  B = operandTruth (nodeAt s) vars n
+
+  number-arm : {x : Node} → x ≡ codedNode f (four± s (16 * n + 8)) → numberBy N B vars x ≡ number (nodeAt s) vars n
+  number-arm e = ap (numberBy N B vars) (e ∙ coded-at s n f h) ∙ sym (number-rule vars (nodeAt s) n)
+
+  truth-arm : {x : Node} → x ≡ codedNode f (four± s (16 * n + 8)) → truthBy N B vars x ≡ truth (nodeAt s) vars n
+  truth-arm e = ap (truthBy N B vars) (e ∙ coded-at s n f h) ∙ sym (truth-rule vars (nodeAt s) n)
+
+  coded : {k : ℕ} → f .code ≡ k → nodeBy k (f .a) (f .b) (f .c) (four± s (16 * n + 8)) ≡ codedNode f (four± s (16 * n + 8))
+  coded e = ap (λ k. nodeBy k (f .a) (f .b) (f .c) (four± s (16 * n + 8))) (sym e)
+
+  pub no-number-arm : (1 ≤ f .code → f .code ≤ 8 → ⊥) → val (pos 0) ≡ number (nodeAt s) vars n
+  no-number-arm o = no-number N B vars (f .code) (f .a) (f .b) (f .c) (four± s (16 * n + 8)) o ∙ number-arm refl
+
+  pub constant-arm : f .code ≡ 1 → val (four± s (16 * n + 8)) ≡ number (nodeAt s) vars n
+  unfolding caseOf
+  constant-arm e = number-arm (coded e)
+
+  pub variable-arm : f .code ≡ 2 → val (getD vars (f .a) (pos 0)) ≡ number (nodeAt s) vars n
+  unfolding caseOf
+  variable-arm e = number-arm (coded e)
+
+  pub choice-arm : f .code ≡ 8 → choose (B (f .a)) (N (f .b)) (N (f .c)) ≡ number (nodeAt s) vars n
+  unfolding caseOf
+  choice-arm e = number-arm (coded e)
+
+  pub arithmetic-arm : 2 < f .code → f .code < 8 → computePair (arithmeticOf (f .code)) (operandPair (nodeAt s) vars n (f .a) (f .b)) ≡ number (nodeAt s) vars n
+  arithmetic-arm l m =
+      pair-bind (compute (arithmeticOf (f .code))) (N (f .a)) (N (f .b))
+      ∙ number-arm (arithmetic-codes (f .code) (f .a) (f .b) (f .c) (four± s (16 * n + 8)) l m)
+
+  pub no-truth-arm : (16 ≤ f .code → f .code ≤ 21 → ⊥) → val false ≡ truth (nodeAt s) vars n
+  no-truth-arm o = no-truth N B vars (f .code) (f .a) (f .b) (f .c) (four± s (16 * n + 8)) o ∙ truth-arm refl
+
+  pub comparison-arm : 15 < f .code → f .code < 19 → comparePair (comparisonOf (f .code)) (operandPair (nodeAt s) vars n (f .a) (f .b)) ≡ truth (nodeAt s) vars n
+  comparison-arm l m =
+      pair-bind (λ x y. val (compare (comparisonOf (f .code)) x y)) (N (f .a)) (N (f .b))
+      ∙ truth-arm (comparison-codes (f .code) (f .a) (f .b) (f .c) (four± s (16 * n + 8)) l m)
+
+  pub negation-arm : f .code ≡ 19 → choose (B (f .a)) (val false) (val true) ≡ truth (nodeAt s) vars n
+  unfolding caseOf
+  negation-arm e = truth-arm (coded e)
+
+  pub decided-arm : 19 < f .code → f .code < 22 → decide (eqb (f .code) 21) (B (f .a)) (B (f .b)) ≡ truth (nodeAt s) vars n
+  decided-arm l m = decided-codes N B vars (f .code) (f .a) (f .b) (f .c) (four± s (16 * n + 8)) l m ∙ truth-arm refl
+
+-- The leaves, where the record's bytes are read.
+module _ (s : List ℕ) (vars : List ℤ) (n : ℕ) where
+  abbrev fields : Fields
+  fields = record { code = byte s (16 * n + 1); a = two s (16 * n + 2); b = two s (16 * n + 4); c = two s (16 * n + 6) }
+
+  pub constant-leaf : byte s (16 * n + 1) ≡ 1 → val (four± s (16 * n + 8)) ≡ number (nodeAt s) vars n
+  constant-leaf = constant-arm s vars n fields (record { code = refl; a = refl; b = refl; c = refl })
+
+  pub variable-leaf : byte s (16 * n + 1) ≡ 2 → val (getD vars (two s (16 * n + 2)) (pos 0)) ≡ number (nodeAt s) vars n
+  variable-leaf = variable-arm s vars n fields (record { code = refl; a = refl; b = refl; c = refl })

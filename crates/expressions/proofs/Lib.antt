@@ -1,9 +1,9 @@
 -- What the proofs of several functions use, and the laws that crates above cite.
 pub mod Signed
 pub mod Depth
+pub mod Codes
 pub mod Fields
 pub mod Arms
-pub mod Tags
 pub mod Loops
 pub mod Uses
 pub mod ExampleNodes

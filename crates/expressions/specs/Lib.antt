@@ -3,3 +3,4 @@ pub mod Values
 pub mod Sorts
 pub mod Uses
 pub mod Answers
+pub mod Coded

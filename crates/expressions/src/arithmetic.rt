@@ -2,9 +2,8 @@
 ghost use mathlib.Core.Path.{_≡_};
 ghost use Rattle.expressions.specs.Nodes.{sum, difference, product, quotient, remainder};
 ghost use Rattle.expressions.specs.Values.{inRange, compute, compare};
-ghost use Rattle.expressions.specs.Answers.{numberOf, operatorOf, relationOf};
-use super::nodes::Operator;
-use super::nodes::Relation;
+ghost use Rattle.expressions.specs.Answers.{numberOf};
+ghost use Rattle.expressions.specs.Coded.{arithmeticOf, comparisonOf};
 
 // Why there is no value.
 pub enum Reason {
@@ -83,24 +82,26 @@ pub fn remainder(a: i32, b: i32) -> Number
     }
 }
 
-pub fn compute(o: Operator, a: i32, b: i32) -> Number
-    ensures { λ r. ⌜ numberOf r ≡ compute (operatorOf o) a b ⌝ }
+// By the operator's code, of 3 to 7.
+pub fn compute(code: u8, a: i32, b: i32) -> Number
+    ensures { λ r. ⌜ numberOf r ≡ compute (arithmeticOf code) a b ⌝ }
 {
-    match o {
-        Operator::Sum => add(a, b),
-        Operator::Difference => subtract(a, b),
-        Operator::Product => multiply(a, b),
-        Operator::Quotient => divide(a, b),
-        Operator::Remainder => remainder(a, b),
+    match code {
+        3 => add(a, b),
+        4 => subtract(a, b),
+        5 => multiply(a, b),
+        6 => divide(a, b),
+        _ => remainder(a, b),
     }
 }
 
-pub fn compare(o: Relation, a: i32, b: i32) -> bool
-    ensures { λ r. ⌜ r ≡ compare (relationOf o) a b ⌝ }
+// By the operator's code, of 16 to 18.
+pub fn compare(code: u8, a: i32, b: i32) -> bool
+    ensures { λ r. ⌜ r ≡ compare (comparisonOf code) a b ⌝ }
 {
-    match o {
-        Relation::Equal => a == b,
-        Relation::Less => a < b,
-        Relation::AtMost => a <= b,
+    match code {
+        16 => a == b,
+        17 => a < b,
+        _ => a <= b,
     }
 }

@@ -2,9 +2,11 @@
 ghost use mathlib.Core.Path.{_≡_};
 ghost use Rattle.expressions.specs.Nodes.{nodeBy, nodeAt};
 ghost use Rattle.expressions.specs.Answers.{nodeFor};
+ghost use Rattle.expressions.specs.Coded.{HasFields};
 use records::byte_at;
 use records::i32_at;
 use records::u16_at;
+use records::u16_within;
 
 pub enum Operator {
     Sum,
@@ -56,13 +58,39 @@ fn decode(code: u8, a: u16, b: u16, c: u16, z: i32) -> Node
     }
 }
 
+// The operator's code and the operands of a record.
+pub struct Fields {
+    pub code: u8,
+    pub a: u16,
+    pub b: u16,
+    pub c: u16,
+}
+
+// One length test where the fields are within.
+pub fn fields_at(nodes: &[u8], n: u16) -> Fields
+    ensures { λ r. ⌜ HasFields (now (nodes .entry)) n r ⌝ }
+{
+    let at = 16 * (n as usize);
+    if at + 8 <= nodes.len() {
+        Fields {
+            code: nodes[at + 1],
+            a: u16_within(nodes, at + 2),
+            b: u16_within(nodes, at + 4),
+            c: u16_within(nodes, at + 6),
+        }
+    } else {
+        Fields {
+            code: byte_at(nodes, at + 1),
+            a: u16_at(nodes, at + 2),
+            b: u16_at(nodes, at + 4),
+            c: u16_at(nodes, at + 6),
+        }
+    }
+}
+
 pub fn node_at(nodes: &[u8], n: u16) -> Node
     ensures { λ r. ⌜ nodeFor r ≡ nodeAt (now (nodes .entry)) n ⌝ }
 {
-    let at = 16 * (n as usize);
-    let code = byte_at(nodes, at + 1);
-    let a = u16_at(nodes, at + 2);
-    let b = u16_at(nodes, at + 4);
-    let c = u16_at(nodes, at + 6);
-    decode(code, a, b, c, i32_at(nodes, at + 8))
+    let f = fields_at(nodes, n);
+    decode(f.code, f.a, f.b, f.c, i32_at(nodes, 16 * (n as usize) + 8))
 }

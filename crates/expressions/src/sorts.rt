@@ -3,13 +3,16 @@ ghost use mathlib.Core.Path.{_≡_};
 ghost use mathlib.Core.List.{map};
 ghost use Prim.Native.Nat.{_+_, min};
 ghost use lib.Dec.{ltb};
+ghost use lib.IntN.{ℤ};
 ghost use Rattle.records.specs.Lists.{all, upto};
 ghost use Rattle.expressions.specs.Nodes.{nodeAt};
 ghost use Rattle.expressions.specs.Sorts.{sortOf, isNumber, isTruth, sameSort, operands, variablesOf, nodeNamed, nodesNamed, operandFits, nodeFits, operandsFit, operandUses};
 ghost use Rattle.expressions.specs.Uses.{operandNumbers, allOperands, addUse, addUses};
-ghost use Rattle.expressions.specs.Answers.{nodeFor, sortFor, operandsFor};
-use super::nodes::Node;
-use super::nodes::node_at;
+ghost use Rattle.expressions.specs.Answers.{sortFor, operandsFor};
+ghost use Rattle.expressions.specs.Coded.{codedNode};
+use super::nodes::Fields;
+use super::nodes::fields_at;
+use records::byte_at;
 
 pub enum Sort {
     Number,
@@ -27,21 +30,15 @@ pub enum Operands {
 pub fn is_number(nodes: &[u8], n: u16) -> bool
     ensures { λ r. ⌜ r ≡ isNumber (sortOf (nodeAt (now (nodes .entry)) n)) ⌝ }
 {
-    match node_at(nodes, n) {
-        Node::Constant(_) | Node::Variable(_) | Node::Arithmetic(_, _, _) | Node::Choice(_, _, _) =>
-            true,
-        _ => false,
-    }
+    let code = byte_at(nodes, 16 * (n as usize) + 1);
+    (1 <= code) & (code <= 8)
 }
 
 pub fn is_truth(nodes: &[u8], n: u16) -> bool
     ensures { λ r. ⌜ r ≡ isTruth (sortOf (nodeAt (now (nodes .entry)) n)) ⌝ }
 {
-    match node_at(nodes, n) {
-        Node::Comparison(_, _, _) | Node::Negation(_) | Node::Both(_, _) | Node::Either(_, _) =>
-            true,
-        _ => false,
-    }
+    let code = byte_at(nodes, 16 * (n as usize) + 1);
+    (16 <= code) & (code <= 21)
 }
 
 pub fn has_sort(nodes: &[u8], n: u16, sort: Sort) -> bool
@@ -53,24 +50,33 @@ pub fn has_sort(nodes: &[u8], n: u16, sort: Sort) -> bool
     }
 }
 
-fn operands_of(node: Node) -> Operands
-    ensures { λ r. ⌜ operandsFor r ≡ operands (nodeFor node) ⌝ }
+// By the code: 3 to 7 and 16 to 18 take two numbers, 8 a truth and two numbers, 19 a truth, 20 and 21 two.
+fn operands_of(f: Fields) -> Operands
+    ensures { λ r. ⌜ ((z : ℤ) → operandsFor r ≡ operands (codedNode f z)) ⌝ }
 {
-    match node {
-        Node::Arithmetic(_, a, b) => Operands::Two(Sort::Number, a, b),
-        Node::Choice(t, a, b) => Operands::Choice(t, a, b),
-        Node::Comparison(_, a, b) => Operands::Two(Sort::Number, a, b),
-        Node::Negation(a) => Operands::One(Sort::Truth, a),
-        Node::Both(a, b) => Operands::Two(Sort::Truth, a, b),
-        Node::Either(a, b) => Operands::Two(Sort::Truth, a, b),
-        _ => Operands::Leaf,
+    let code = f.code;
+    if code < 3 {
+        return Operands::Leaf;
     }
-}
-
-fn operands_at(nodes: &[u8], n: u16) -> Operands
-    ensures { λ r. ⌜ operandsFor r ≡ operands (nodeAt (now (nodes .entry)) n) ⌝ }
-{
-    operands_of(node_at(nodes, n))
+    if code < 8 {
+        return Operands::Two(Sort::Number, f.a, f.b);
+    }
+    if code == 8 {
+        return Operands::Choice(f.a, f.b, f.c);
+    }
+    if code < 16 {
+        return Operands::Leaf;
+    }
+    if code < 19 {
+        return Operands::Two(Sort::Number, f.a, f.b);
+    }
+    if code == 19 {
+        return Operands::One(Sort::Truth, f.a);
+    }
+    if code < 22 {
+        return Operands::Two(Sort::Truth, f.a, f.b);
+    }
+    Operands::Leaf
 }
 
 fn all_below(o: Operands, size: u16) -> bool
@@ -84,19 +90,17 @@ fn all_below(o: Operands, size: u16) -> bool
     }
 }
 
-fn variable_below(node: Node, variables: u16) -> bool
-    ensures { λ r. ⌜ r ≡ all (λ v. ltb v variables) (variablesOf (nodeFor node)) ⌝ }
+fn variable_below(f: Fields, variables: u16) -> bool
+    ensures { λ r. ⌜ ((z : ℤ) → r ≡ all (λ v. ltb v variables) (variablesOf (codedNode f z))) ⌝ }
 {
-    match node {
-        Node::Variable(v) => v < variables,
-        _ => true,
-    }
+    if f.code == 2 { f.a < variables } else { true }
 }
 
 fn node_named(nodes: &[u8], n: u16, size: u16, variables: u16) -> bool
     ensures { λ r. ⌜ r ≡ nodeNamed (nodeAt (now (nodes .entry))) size variables n ⌝ }
 {
-    all_below(operands_at(nodes, n), size) & variable_below(node_at(nodes, n), variables)
+    let f = fields_at(nodes, n);
+    all_below(operands_of(f), size) & variable_below(f, variables)
 }
 
 // Each operand is one of `size` nodes, and each variable one of `variables`.
@@ -122,7 +126,7 @@ fn operand_fits(nodes: &[u8], n: u16, k: u16, sort: Sort) -> bool
 fn node_fits(nodes: &[u8], n: u16) -> bool
     ensures { λ r. ⌜ r ≡ nodeFits (nodeAt (now (nodes .entry))) n ⌝ }
 {
-    match operands_at(nodes, n) {
+    match operands_of(fields_at(nodes, n)) {
         Operands::Leaf => true,
         Operands::One(s, a) => operand_fits(nodes, n, a, s),
         Operands::Two(s, a, b) => operand_fits(nodes, n, a, s) & operand_fits(nodes, n, b, s),
@@ -169,7 +173,7 @@ pub fn add_use(uses: &mut [u8], k: u16)
 fn count_node(nodes: &[u8], n: u16, uses: &mut [u8])
     ensures { λ _. ⌜ now (uses .exit) ≡ addUses (now (uses .entry)) (operandNumbers (nodeAt (now (nodes .entry)) n)) ⌝ }
 {
-    match operands_at(nodes, n) {
+    match operands_of(fields_at(nodes, n)) {
         Operands::Leaf => {}
         Operands::One(_, a) => add_use(uses, a),
         Operands::Two(_, a, b) => {

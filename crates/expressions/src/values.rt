@@ -7,16 +7,17 @@ ghost use Rattle.records.specs.Refusal.{val, choose};
 ghost use Rattle.expressions.specs.Nodes.{nodeAt};
 ghost use Rattle.expressions.specs.Values.{number, truth, computePair, comparePair, decide};
 ghost use Rattle.expressions.specs.Values.{operandNumber, operandTruth, operandPair};
-ghost use Rattle.expressions.specs.Answers.{numberOf, truthOf, pairOf, operatorOf, relationOf};
+ghost use Rattle.expressions.specs.Answers.{numberOf, truthOf, pairOf};
+ghost use Rattle.expressions.specs.Coded.{arithmeticOf, comparisonOf};
 use super::arithmetic::Number;
 use super::arithmetic::Pair;
 use super::arithmetic::Truth;
 use super::arithmetic::compare;
 use super::arithmetic::compute;
-use super::nodes::Node;
-use super::nodes::Operator;
-use super::nodes::Relation;
-use super::nodes::node_at;
+use super::nodes::fields_at;
+use records::i32_at;
+use records::i32_within;
+use records::u16_within;
 
 fn variable(vars: &[i16], v: u16) -> i32
     ensures { λ r. ⌜ r ≡ getD (now (vars .entry)) v (pos 0) ⌝ }
@@ -25,21 +26,21 @@ fn variable(vars: &[i16], v: u16) -> i32
     if i < vars.len() { vars[i] as i32 } else { 0 }
 }
 
-fn computed(o: Operator, p: Pair) -> Number
-    ensures { λ r. ⌜ numberOf r ≡ computePair (operatorOf o) (pairOf p) ⌝ }
+fn computed(code: u8, p: Pair) -> Number
+    ensures { λ r. ⌜ numberOf r ≡ computePair (arithmeticOf code) (pairOf p) ⌝ }
 {
     match p {
         Pair::Fault(w) => Number::Fault(w),
-        Pair::Values(x, y) => compute(o, x, y),
+        Pair::Values(x, y) => compute(code, x, y),
     }
 }
 
-fn compared(o: Relation, p: Pair) -> Truth
-    ensures { λ r. ⌜ truthOf r ≡ comparePair (relationOf o) (pairOf p) ⌝ }
+fn compared(code: u8, p: Pair) -> Truth
+    ensures { λ r. ⌜ truthOf r ≡ comparePair (comparisonOf code) (pairOf p) ⌝ }
 {
     match p {
         Pair::Fault(w) => Truth::Fault(w),
-        Pair::Values(x, y) => Truth::Value(compare(o, x, y)),
+        Pair::Values(x, y) => Truth::Value(compare(code, x, y)),
     }
 }
 
@@ -58,11 +59,22 @@ fn picked(first: bool, a: u16, b: u16) -> u16
     if first { a } else { b }
 }
 
-// Operand a of node n; one that is not lower counts as 0.
+// Operand a of node n; one that is not lower counts as 0. A leaf is read here, without a call.
 fn operand_number(nodes: &[u8], vars: &[i16; 64], n: u16, a: u16) -> Number
     ensures { λ r. ⌜ numberOf r ≡ operandNumber (nodeAt (now (nodes .entry))) (now (vars .entry)) n a ⌝ }
 {
     if a < n {
+        let at = 16 * (a as usize);
+        if nodes.len() < at + 12 {
+            return number_of(nodes, vars, a);
+        }
+        let code = nodes[at + 1];
+        if code == 2 {
+            return Number::Value(variable(vars, u16_within(nodes, at + 2)));
+        }
+        if code == 1 {
+            return Number::Value(i32_within(nodes, at + 8));
+        }
         number_of(nodes, vars, a)
     } else {
         Number::Value(0)
@@ -108,29 +120,50 @@ fn decided(nodes: &[u8], vars: &[i16; 64], n: u16, a: u16, b: u16, decides: bool
     }
 }
 
+// By the code: 1 a constant, 2 a variable, 3 to 7 two numbers, 8 a choice.
 pub fn number_of(nodes: &[u8], vars: &[i16; 64], n: u16) -> Number
     ensures { λ r. ⌜ numberOf r ≡ number (nodeAt (now (nodes .entry))) (now (vars .entry)) n ⌝ }
 {
-    match node_at(nodes, n) {
-        Node::Constant(z) => Number::Value(z),
-        Node::Variable(v) => Number::Value(variable(vars, v)),
-        Node::Arithmetic(o, a, b) => computed(o, operand_pair(nodes, vars, n, a, b)),
-        Node::Choice(t, a, b) => match operand_truth(nodes, vars, n, t) {
-            Truth::Fault(w) => Number::Fault(w),
-            Truth::Value(first) => operand_number(nodes, vars, n, picked(first, a, b)),
-        },
-        _ => Number::Value(0),
+    let f = fields_at(nodes, n);
+    let code = f.code;
+    if 8 < code {
+        return Number::Value(0);
     }
+    if code == 8 {
+        return match operand_truth(nodes, vars, n, f.a) {
+            Truth::Fault(w) => Number::Fault(w),
+            Truth::Value(first) => operand_number(nodes, vars, n, picked(first, f.b, f.c)),
+        };
+    }
+    if 2 < code {
+        return computed(code, operand_pair(nodes, vars, n, f.a, f.b));
+    }
+    if code == 2 {
+        return Number::Value(variable(vars, f.a));
+    }
+    if code == 1 {
+        return Number::Value(i32_at(nodes, 16 * (n as usize) + 8));
+    }
+    Number::Value(0)
 }
 
+// By the code: 16 to 18 two numbers compared, 19 not, 20 and, 21 or.
 pub fn truth_of(nodes: &[u8], vars: &[i16; 64], n: u16) -> Truth
     ensures { λ r. ⌜ truthOf r ≡ truth (nodeAt (now (nodes .entry))) (now (vars .entry)) n ⌝ }
 {
-    match node_at(nodes, n) {
-        Node::Comparison(o, a, b) => compared(o, operand_pair(nodes, vars, n, a, b)),
-        Node::Negation(a) => negated(operand_truth(nodes, vars, n, a)),
-        Node::Both(a, b) => decided(nodes, vars, n, a, b, false),
-        Node::Either(a, b) => decided(nodes, vars, n, a, b, true),
-        _ => Truth::Value(false),
+    let f = fields_at(nodes, n);
+    let code = f.code;
+    if code < 16 {
+        return Truth::Value(false);
     }
+    if code < 19 {
+        return compared(code, operand_pair(nodes, vars, n, f.a, f.b));
+    }
+    if code == 19 {
+        return negated(operand_truth(nodes, vars, n, f.a));
+    }
+    if code < 22 {
+        return decided(nodes, vars, n, f.a, f.b, code == 21);
+    }
+    Truth::Value(false)
 }

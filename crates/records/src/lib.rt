@@ -2,7 +2,7 @@
 ghost use mathlib.Core.Path.{_≡_};
 ghost use mathlib.Core.Bool.{true};
 ghost use mathlib.Core.List.{map};
-ghost use Prim.Native.Nat.{_+_, _*_, _≤_, _<_, _^_};
+ghost use Prim.Native.Nat.{_+_, _-_, _*_, _≤_, _<_, _^_};
 ghost use lib.ListN.{length, take, set, replicate};
 ghost use lib.Seq.{sets};
 ghost use Rattle.records.specs.Lists.{upto};
@@ -29,20 +29,45 @@ fn joined16(low: u16, high: u16) -> u32
     (low as u32) + 65536 * (high as u32)
 }
 
-// Past the end all bytes are 0; before it, the next places can be counted.
+// n - k, or 0 where k is more.
+fn less(n: usize, k: usize) -> usize
+    ensures { λ r. ⌜ r ≡ n - k ⌝ }
+{
+    if k < n { n - k } else { 0 }
+}
+
+// Two bytes and four that are all within: the test is the caller's.
+pub fn u16_within(s: &[u8], at: usize) -> u16
+    requires { ⌜ at + 1 < length (now s) ⌝ }
+    ensures { λ r. ⌜ r ≡ two (now (s .entry)) at ⌝ }
+{
+    joined8(s[at], s[at + 1])
+}
+
+pub fn u32_within(s: &[u8], at: usize) -> u32
+    requires { ⌜ at + 3 < length (now s) ⌝ }
+    ensures { λ r. ⌜ r ≡ four (now (s .entry)) at ⌝ }
+{
+    joined16(u16_within(s, at), u16_within(s, at + 2))
+}
+
+// One test where all bytes are within. Past the end all are 0.
 pub fn u16_at(s: &[u8], at: usize) -> u16
     ensures { λ r. ⌜ r ≡ two (now (s .entry)) at ⌝ }
 {
-    if at < s.len() {
-        joined8(byte_at(s, at), byte_at(s, at + 1))
+    if at < less(s.len(), 1) {
+        u16_within(s, at)
     } else {
-        0
+        byte_at(s, at) as u16
     }
 }
 
 pub fn u32_at(s: &[u8], at: usize) -> u32
     ensures { λ r. ⌜ r ≡ four (now (s .entry)) at ⌝ }
 {
+    if at < less(s.len(), 3) {
+        return u32_within(s, at);
+    }
     if at < s.len() {
         joined16(u16_at(s, at), u16_at(s, at + 2))
     } else {
@@ -75,6 +100,13 @@ pub fn i16_at(s: &[u8], at: usize) -> i16
     ensures { λ r. ⌜ r ≡ two± (now (s .entry)) at ⌝ }
 {
     signed16(u16_at(s, at))
+}
+
+pub fn i32_within(s: &[u8], at: usize) -> i32
+    requires { ⌜ at + 3 < length (now s) ⌝ }
+    ensures { λ r. ⌜ r ≡ four± (now (s .entry)) at ⌝ }
+{
+    signed32(u32_within(s, at))
 }
 
 pub fn i32_at(s: &[u8], at: usize) -> i32

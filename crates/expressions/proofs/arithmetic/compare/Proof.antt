@@ -1,37 +1,34 @@
 -- `arithmetic::compare` meets its contract: what 32 bits hold of two numbers compares as the numbers do. Assumes nothing.
-use mathlib.Core.Path.{sym, ap, _∙_}
+use mathlib.Core.Path.{_≡_, sym, ap, _∙_}
 use lib.Signed.{ltZ, leZ}
-use borrow.Author.Needs.{needs}
 use mir.Facts.{toZ-ofZ}
+use borrow.Author.Tests.{ne-eqb}
+use Rattle.records.specs.Lists.{caseOf}
+use Rattle.expressions.specs.Nodes.{at-most}
 use Rattle.expressions.specs.Values.{compare}
-use Rattle.expressions.specs.Answers.{relationOf}
+use Rattle.expressions.specs.Coded.{comparisonOf}
 use Rattle.expressions.proofs.Signed.{equal-bits}
 use Rattle.expressions.proofs.arithmetic.compare.Statement.{statement}
 use Rattle.expressions.proofs.arithmetic.compare.Tie as tie
 
-enum-told : tie.Need-enum-told
-enum-told c = search needs
-
-enum-told-2 : tie.Need-enum-told-2
-enum-told-2 c = search needs
-
-enum-told-3 : tie.Need-enum-told-3
-enum-told-3 c = search needs
-
 returns : tie.Need-returns
+unfolding caseOf
 returns c =
-    let k = c .before .before in
-    equal-bits (k .fits .a) (k .fits .b) ∙ ap (λ o. compare (relationOf o) (k .args .a) (k .args .b)) (sym (c .enum-told .given .1))
+    let k = c .before in
+    equal-bits (k .fits .a) (k .fits .b) ∙ ap (λ j. compare (comparisonOf j) (k .args .a) (k .args .b)) (sym (c .match .keys1))
 
 returns-2 : tie.Need-returns-2
+unfolding caseOf
 returns-2 c =
-    let k = c .before .before in
-    (λ i. ltZ (toZ-ofZ (k .fits .a) i) (toZ-ofZ (k .fits .b) i)) ∙ ap (λ o. compare (relationOf o) (k .args .a) (k .args .b)) (sym (c .enum-told2 .given .1))
+    let k = c .before in
+    (λ i. ltZ (toZ-ofZ (k .fits .a) i) (toZ-ofZ (k .fits .b) i)) ∙ ap (λ j. compare (comparisonOf j) (k .args .a) (k .args .b)) (sym (c .match .keys2))
 
 returns-3 : tie.Need-returns-3
+unfolding caseOf
 returns-3 c =
-    let k = c .before .before in
-    (λ i. leZ (toZ-ofZ (k .fits .a) i) (toZ-ofZ (k .fits .b) i)) ∙ ap (λ o. compare (relationOf o) (k .args .a) (k .args .b)) (sym (c .enum-told3 .given .1))
+    let k = c .before in
+    let e : at-most ≡ comparisonOf (k .args .code) = rw (ne-eqb (k .args .code) 16 (c .match .rest .0 .1), ne-eqb (k .args .code) 17 (c .match .rest .1)) in
+    (λ i. leZ (toZ-ofZ (k .fits .a) i) (toZ-ofZ (k .fits .b) i)) ∙ ap (λ o. compare o (k .args .a) (k .args .b)) e
 
 pub compare-spec : {M : Type 1} → statement M
-compare-spec = tie.close (tie.spec enum-told enum-told-2 enum-told-3 returns returns-2 returns-3)
+compare-spec = tie.close (tie.spec returns returns-2 returns-3)

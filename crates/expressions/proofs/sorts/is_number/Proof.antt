@@ -1,19 +1,25 @@
--- `sorts::is_number` meets its contract: the node that is read has the sort of its arm. Assumes nothing.
-use mathlib.Core.Path.{sym, ap, _∙_}
+-- `sorts::is_number` meets its contract: the code tells the sort. Assumes nothing.
+use mathlib.Core.Path.{ap, _∙_}
+use mathlib.Core.Bool.{_&&_}
+use lib.Dec.{leb}
+use Rattle.expressions.proofs.Fields.{number-at}
 use borrow.Author.Needs.{needs}
-use Rattle.expressions.specs.Sorts.{sortOf, isNumber}
-use Rattle.expressions.proofs.Tags.{numbers, others-than-numbers}
 use Rattle.expressions.proofs.sorts.is_number.Statement.{statement}
 use Rattle.expressions.proofs.sorts.is_number.Tie as tie
 
-node-at-requires : tie.Need-node-at-requires
-node-at-requires c κs = search needs
+mul-byte-at : tie.Need-mul-byte-at
+mul-byte-at c = search needs
+
+add-byte-at : tie.Need-add-byte-at
+add-byte-at c = search needs
+
+byte-at-requires : tie.Need-byte-at-requires
+byte-at-requires c κs = search needs
 
 returns : tie.Need-returns
-returns c = sym (numbers (c .before .node-at .result) (c .match .keys1)) ∙ ap (λ x. isNumber (sortOf x)) (c .before .node-at .ensures)
-
-returns-2 : tie.Need-returns-2
-returns-2 c = sym (others-than-numbers (c .before .node-at .result) (c .match .keys2)) ∙ ap (λ x. isNumber (sortOf x)) (c .before .node-at .ensures)
+returns c =
+    let k = c .before .before .args in
+    ap (λ j. leb 1 j && leb j 8) (c .byte-at .ensures) ∙ number-at (k .nodes .now) (k .n)
 
 pub is-number-spec : {M : Type 1} → statement M
-is-number-spec = tie.close (tie.spec node-at-requires returns returns-2)
+is-number-spec = tie.close (tie.spec mul-byte-at add-byte-at byte-at-requires returns)

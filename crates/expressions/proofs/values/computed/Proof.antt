@@ -4,7 +4,8 @@ use borrow.Author.Needs.{needs}
 use mir.Syntax.{w32}
 use mir.Val.{toZ, ofZ}
 use Rattle.expressions.specs.Values.{compute, computePair}
-use Rattle.expressions.specs.Answers.{pairOf, operatorOf}
+use Rattle.expressions.specs.Answers.{pairOf}
+use Rattle.expressions.specs.Coded.{arithmeticOf}
 use Rattle.expressions.proofs.values.computed.Statement.{statement}
 use Rattle.expressions.proofs.values.computed.Tie as tie
 
@@ -18,7 +19,7 @@ compute-requires : tie.Need-compute-requires
 compute-requires c κs = search needs
 
 returns : tie.Need-returns
-returns c = ap (λ p. computePair (operatorOf (c .before .before .before .args .o)) (pairOf p)) (sym (c .before .p .given .1))
+returns c = ap (λ p. computePair (arithmeticOf (c .before .before .before .args .code)) (pairOf p)) (sym (c .before .p .given .1))
 
 returns-2 : tie.Need-returns-2
 returns-2 c =
@@ -26,8 +27,8 @@ returns-2 c =
     let p : toZ w32 (ofZ w32 (x .0)) ≡ x .0 = search needs in
     let q : toZ w32 (ofZ w32 (x .1 .0)) ≡ x .1 .0 = search needs in
     c .compute .ensures
-    ∙ (λ i. compute (operatorOf (c .before .before .before .before .args .o)) (p i) (q i))
-    ∙ ap (λ p. computePair (operatorOf (c .before .before .before .before .args .o)) (pairOf p)) (sym (c .before .before .p2 .given .1))
+    ∙ (λ i. compute (arithmeticOf (c .before .before .before .before .args .code)) (p i) (q i))
+    ∙ ap (λ p. computePair (arithmeticOf (c .before .before .before .before .args .code)) (pairOf p)) (sym (c .before .before .p2 .given .1))
 
 pub computed-spec : {M : Type 1} → statement M
 computed-spec = tie.close (tie.spec enum-known-p enum-known-p-2 compute-requires returns returns-2)
