@@ -1,9 +1,8 @@
-// Refusal 5, read for an automata file: codes and ranges, record by record.
+// Refusal 5, read for an automata file: codes and ranges of a record.
 ghost use mathlib.Core.Path.{_≡_};
 ghost use mathlib.Core.Bool.{true};
 ghost use mathlib.Core.List.{[], _∷_};
-ghost use Rattle.records.specs.Lists.{all, caseOf};
-ghost use Rattle.records.specs.Bytes.{records};
+ghost use Rattle.records.specs.Lists.{caseOf};
 ghost use Rattle.model.specs.ChartFile.{isEvent};
 ghost use Rattle.model.specs.AutomataFile.{literalInCode, tableInCode};
 use chart_files::codes::deed_in_code;
@@ -28,7 +27,7 @@ fn literal_in_code(r: &[u8]) -> bool
     (1 <= sign) & (sign <= 2) & (code <= 2) & cause_in_code(code, byte_at(r, 5))
 }
 
-fn in_code(r: &[u8]) -> bool
+pub fn in_code(r: &[u8]) -> bool
     ensures { λ t. ⌜ t ≡ tableInCode (now (r .entry)) ⌝ }
 {
     let code = byte_at(r, 1);
@@ -41,19 +40,4 @@ fn in_code(r: &[u8]) -> bool
         40 => deed_in_code(code, byte_at(r, 4)),
         _ => true,
     }
-}
-
-pub fn all_in_code(s: &[u8]) -> bool
-    ensures { λ r. ⌜ r ≡ all tableInCode (records (now (s .entry))) ⌝ }
-{
-    let mut i: usize = 0;
-    while i < s.len() / 16 {
-        let at = 16 * i;
-        let end = at + 16;
-        if !in_code(&s[at..end]) {
-            return false;
-        }
-        i += 1;
-    }
-    true
 }

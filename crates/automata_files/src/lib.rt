@@ -1,5 +1,12 @@
 // The reader of automata tables: the framing, the checks on what the records say, and refusal 11.
 ghost use mathlib.Core.Path.{_≡_};
+ghost use mathlib.Core.Bool.{_&&_};
+ghost use Prim.Native.Nat.{_≤_};
+ghost use lib.ListN.{length};
+ghost use Rattle.records.specs.Lists.{all};
+ghost use Rattle.records.specs.Bytes.{records};
+ghost use Rattle.model.specs.ChartFile.{unusedAreZero};
+ghost use Rattle.model.specs.AutomataFile.{unusedInTable, tableInCode};
 ghost use Rattle.automata_files.specs.Shape.{IsShape, IsShaped, IsChecked};
 ghost use Rattle.automata_files.specs.Checks.{passes};
 
@@ -10,7 +17,7 @@ pub mod nodes;
 pub mod structure;
 pub mod unused;
 
-use codes::all_in_code;
+use codes::in_code;
 use names::table_named;
 use nodes::table_nodes_fit;
 use records::Framing;
@@ -18,7 +25,7 @@ use records::frame_of;
 use structure::clocks_tick;
 use structure::idle_edges_stay;
 use structure::inside_automata;
-use unused::all_clean;
+use unused::record_clean;
 
 // How many records a framed automata file has of each kind, from kind 33 on.
 pub struct Shape {
@@ -70,13 +77,34 @@ pub fn shape_of(s: &[u8]) -> Checked
     }
 }
 
+// The tests of a record by itself, in one pass.
+fn record_sound(r: &[u8]) -> bool
+    requires { ⌜ 16 ≤ length (now r) ⌝ }
+    ensures { λ t. ⌜ t ≡ (unusedAreZero (unusedInTable (now (r .entry))) (now (r .entry)) && tableInCode (now (r .entry))) ⌝ }
+{
+    record_clean(r) & in_code(r)
+}
+
+fn all_sound(s: &[u8]) -> bool
+    ensures { λ t. ⌜ t ≡ all (λ r. unusedAreZero (unusedInTable r) r && tableInCode r) (records (now (s .entry))) ⌝ }
+{
+    let mut sound = true;
+    let mut i: usize = 0;
+    while i < s.len() / 16 {
+        let at = 16 * i;
+        let end = at + 16;
+        sound = sound & record_sound(&s[at..end]);
+        i += 1;
+    }
+    sound
+}
+
 // The tests behind framing, each one pass over the records of its kinds.
 fn passes(s: &[u8], shape: Shape) -> bool
     requires { ⌜ IsShape (now s) shape ⌝ }
     ensures { λ r. ⌜ r ≡ passes (now (s .entry)) ⌝ }
 {
-    all_clean(s)
-        & all_in_code(s)
+    all_sound(s)
         & table_named(s, shape)
         & clocks_tick(s, shape)
         & inside_automata(s, shape)

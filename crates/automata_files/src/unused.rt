@@ -1,64 +1,53 @@
 // Refusal 4, read for an automata file: a record is clean if the bytes that no field names, or that its codes leave unused, are zero.
 ghost use mathlib.Core.Path.{_≡_};
-ghost use Rattle.records.specs.Lists.{all};
-ghost use Rattle.records.specs.Bytes.{records};
+ghost use Prim.Native.Nat.{_≤_};
+ghost use lib.ListN.{length};
 ghost use Rattle.model.specs.ChartFile.{unusedAreZero};
 ghost use Rattle.model.specs.AutomataFile.{unusedLiteral, unusedUpdate, unusedInTable};
+use chart_files::unused::byte_zero;
+use chart_files::unused::four_zero;
+use chart_files::unused::from_eight_zero;
+use chart_files::unused::from_four_zero;
 use chart_files::unused::node_clean;
-use chart_files::unused::zeros;
+use chart_files::unused::two_zero;
 use records::byte_at;
 
+// An event stands at 5, a clock at 6. An unknown code leaves none unused.
 fn literal_clean(r: &[u8]) -> bool
     ensures { λ t. ⌜ t ≡ unusedAreZero (unusedLiteral (now (r .entry))) (now (r .entry)) ⌝ }
 {
-    let rest = zeros(r, 10, 16);
-    match byte_at(r, 4) {
-        0 => rest & zeros(r, 5, 8),
-        1 => rest & zeros(r, 6, 8),
-        2 => rest & zeros(r, 5, 6),
-        _ => rest,
-    }
+    let code = byte_at(r, 4);
+    let event = byte_zero(r, 5);
+    let clock = two_zero(r, 6);
+    let rest = two_zero(r, 10) & four_zero(r, 12);
+    rest & (((code == 1) | (2 < code) | event) & ((2 <= code) | clock))
 }
 
+// A node stands at 6, unless the update raises.
 fn update_clean(r: &[u8]) -> bool
     ensures { λ t. ⌜ t ≡ unusedAreZero (unusedUpdate (now (r .entry))) (now (r .entry)) ⌝ }
 {
-    let first = zeros(r, 5, 6);
-    let rest = zeros(r, 8, 16);
-    match byte_at(r, 1) {
-        2 => first & (rest & zeros(r, 6, 8)),
-        _ => first & rest,
-    }
+    let code = byte_at(r, 1);
+    let first = byte_zero(r, 5);
+    let node = two_zero(r, 6);
+    let rest = from_eight_zero(r);
+    first & (rest & ((code != 2) | node))
 }
 
-fn record_clean(r: &[u8]) -> bool
+pub fn record_clean(r: &[u8]) -> bool
+    requires { ⌜ 16 ≤ length (now r) ⌝ }
     ensures { λ t. ⌜ t ≡ unusedAreZero (unusedInTable (now (r .entry))) (now (r .entry)) ⌝ }
 {
     match byte_at(r, 0) {
-        33 => zeros(r, 1, 2) & zeros(r, 4, 16),
-        34 => zeros(r, 2, 16),
-        35 => zeros(r, 7, 16),
+        33 => byte_zero(r, 1) & from_four_zero(r),
+        34 => two_zero(r, 2) & from_four_zero(r),
+        35 => byte_zero(r, 7) & from_eight_zero(r),
         36 => literal_clean(r),
-        37 => zeros(r, 4, 16),
-        38 => zeros(r, 1, 2) & zeros(r, 8, 16),
+        37 => from_four_zero(r),
+        38 => byte_zero(r, 1) & from_eight_zero(r),
         39 => node_clean(r),
         40 => update_clean(r),
-        41 => zeros(r, 1, 2) & zeros(r, 6, 16),
+        41 => byte_zero(r, 1) & (two_zero(r, 6) & from_eight_zero(r)),
         _ => true,
     }
-}
-
-pub fn all_clean(s: &[u8]) -> bool
-    ensures { λ t. ⌜ t ≡ all (λ r. unusedAreZero (unusedInTable r) r) (records (now (s .entry))) ⌝ }
-{
-    let mut i: usize = 0;
-    while i < s.len() / 16 {
-        let at = 16 * i;
-        let end = at + 16;
-        if !record_clean(&s[at..end]) {
-            return false;
-        }
-        i += 1;
-    }
-    true
 }

@@ -2,11 +2,13 @@
 pub mod ListLaws
 pub mod Placed
 pub mod Readings
-pub mod RecordLoops
-pub mod UnusedNodes
-pub mod NameLaws
 pub mod Numbers
+pub mod RecordLoops
+pub mod UnusedWords
+pub mod NameLaws
+pub mod Initials
 pub mod Tallies
+pub mod Owners
 pub mod Priorities
 pub mod InCode
 pub mod Structures

@@ -43,6 +43,11 @@ module _ {A B : Type 0} (f : A → B) where
   gather-map g [] = refl
   gather-map g (x ∷ xs) = ap (λ l. g (f x) ++ l) (gather-map g xs)
 
+pub gather-singles : {A B : Type 0} (f : A → B) (xs : List A) → gather (λ x. f x ∷ []) xs ≡ map f xs
+unfolding gather
+gather-singles f [] = refl
+gather-singles f (x ∷ xs) = ap (λ l. f x ∷ l) (gather-singles f xs)
+
 -- ---- of those kept
 
 module _ {A : Type 0} (q : A → Bool) where

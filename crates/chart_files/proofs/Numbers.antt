@@ -19,6 +19,10 @@ same-truth false false f g = refl
 pub both-true : {a b : Bool} → a ≡ true → b ≡ true → (a && b) ≡ true
 both-true p q = λ i. p i && q i
 
+pub and-assoc : (a b c : Bool) → (a && (b && c)) ≡ (a && b && c)
+and-assoc true b c = refl
+and-assoc false b c = refl
+
 -- ---- all numbers below n
 
 module _ (p : ℕ → Bool) where
@@ -60,11 +64,7 @@ module _ {A : Type 0} where
   pub all-append : (p : A → Bool) (xs ys : List A) → all p (xs ++ ys) ≡ (all p xs && all p ys)
   unfolding all
   all-append p [] ys = refl
-  all-append p (x ∷ xs) ys = ap (λ b. p x && b) (all-append p xs ys) ∙ go (p x) (all p xs) (all p ys)
-    where
-      go : (a b c : Bool) → (a && (b && c)) ≡ ((a && b) && c)
-      go true b c = refl
-      go false b c = refl
+  all-append p (x ∷ xs) ys = ap (λ b. p x && b) (all-append p xs ys) ∙ and-assoc (p x) (all p xs) (all p ys)
 
   pub count-append : (p : A → Bool) (xs ys : List A) → count p (xs ++ ys) ≡ count p xs + count p ys
   unfolding count

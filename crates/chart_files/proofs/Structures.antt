@@ -1,30 +1,33 @@
 -- Refusal 7 of a framed file, by its transitions' and its actions' numbers. Assumes nothing.
 use mathlib.Core.Path.{_≡_, refl, sym, ap, _∙_}
-use mathlib.Core.Bool.{Bool, true, false, not, cond, _&&_, _||_}
+use mathlib.Core.Bool.{Bool, true, false, not, _&&_, _||_}
 use mathlib.Core.List.{List, _++_, map}
 use Prim.Native.Nat.{ℕ, zero, suc, _+_, _*_, _≤_, _<_}
 use native.Mathlib.Omega.{arith}
-use borrow.Author.Tests.{lt-leb, le-leb, eqb-true, ne-eqb}
-use lib.Dec.{leb, eqb}
+use borrow.Author.Tests.{lt-leb, le-leb, lt-ltb, ltb-true, eqb-true, ne-eqb}
+use lib.Dec.{leb, ltb, eqb}
 use lib.ListN.{length, replicate}
 use Rattle.records.specs.Lists.{all, any, count, keep, upto, distinct}
-use Rattle.records.proofs.FramingLaws.{length-keep}
+use Rattle.records.specs.Bytes.{records}
+use Rattle.records.proofs.FramingLaws.{length-keep, and-true}
 use Rattle.expressions.proofs.Uses.{times}
-use Rattle.model.specs.Runs.{Deed}
 use Rattle.model.specs.ChartSet.{Transition, readCharts, readActions}
-use Rattle.model.specs.ChartFile.{between, home, insideCharts, leavingState, unconditional, initialFits, prioritiesDiffer, atMostEight}
+use Rattle.model.specs.ChartFile.{between, home, inCode, insideCharts, leavingState, unconditional, initialFits, prioritiesDiffer, atMostEight}
 use Rattle.chart_files.specs.declared.Shape.{Shape}
 use Rattle.chart_files.specs.Shape.{IsShape}
 use Rattle.chart_files.specs.Places.{transitionAt, placeAt, actionAt, initialAt}
+use Rattle.chart_files.specs.Names.{initialNamed, actionNamed}
 use Rattle.chart_files.specs.Tallies.{within}
-use Rattle.chart_files.specs.Structure.{insideChart, apart, idle, pairAt, ownerAt}
+use Rattle.chart_files.specs.Structure.{insideChart, apart, idle, leftOnce, sourceAt, pairAt, ownerAt}
 use Rattle.chart_files.proofs.ListLaws.{all-map, count-map, keep-map, map-map, all-keep}
-use Rattle.chart_files.proofs.Readings.{length-homes, length-transitions, initial-is, transitions-are, all-actions, count-actions, most-states, most-transitions}
-use Rattle.chart_files.proofs.Numbers.{all-alike, all-append, count-append, not-any, all-both, count-either}
-use Rattle.chart_files.proofs.Tallies.{within-is}
+use Rattle.chart_files.proofs.Readings.{length-homes, length-transitions, initial-is, transitions-are, all-actions, count-actions, most-states}
+use Rattle.chart_files.proofs.Numbers.{and-assoc, all-at, all-by, all-alike, all-append, count-append, not-any, all-both, count-either}
+use Rattle.chart_files.proofs.Initials.{marks, apart-once, idle-once, left-once}
+use Rattle.chart_files.proofs.InCode.{place-in-code}
+use Rattle.chart_files.proofs.Owners.{owners-within}
 use Rattle.chart_files.proofs.Priorities.{differ-within}
 
--- ---- places 1 and 2, and place 3
+-- ---- places 1 and 2
 
 first-two : (p : ℕ) → between 1 2 p ≡ (eqb p 1 || eqb p 2)
 first-two zero = refl
@@ -34,20 +37,6 @@ first-two (suc (suc (suc n))) =
     (λ i. le-leb 1 (suc (suc (suc n))) (omega arith) i && lt-leb (suc (suc (suc n))) 2 (omega arith) i)
     ∙ sym (λ i. ne-eqb (suc (suc (suc n))) 1 (λ e. omega arith) i || ne-eqb (suc (suc (suc n))) 2 (λ e. omega arith) i)
 
-third : (p : ℕ) → between 3 3 p ≡ eqb p 3
-third zero = refl
-third (suc zero) = refl
-third (suc (suc zero)) = refl
-third (suc (suc (suc zero))) = refl
-third (suc (suc (suc (suc n)))) =
-    (λ i. le-leb 3 (suc (suc (suc (suc n)))) (omega arith) i && lt-leb (suc (suc (suc (suc n)))) 3 (omega arith) i)
-    ∙ sym (ne-eqb (suc (suc (suc (suc n)))) 3 (λ e. omega arith))
-
--- the test of an owner below 65,535, which owns nothing
-owned : (b : Bool) (x owner : ℕ) → owner < 65535 → (b && eqb x owner) ≡ eqb (cond b x 65535) owner
-owned true x owner h = refl
-owned false x owner h = sym (ne-eqb 65535 owner (λ e. omega arith))
-
 module _ (s : List ℕ) (sh : Shape) (is : IsShape s sh) where
   pub inside-is : insideCharts (readCharts s) ≡ all (insideChart s sh) (upto (sh .transitions))
   inside-is =
@@ -56,15 +45,25 @@ module _ (s : List ℕ) (sh : Shape) (is : IsShape s sh) where
 
   -- ---- initial states
 
+  -- of one of them: the transition enters it not, and leaves it, if it does, always; action i is not among its own
+  abbrev apartFrom : ℕ → ℕ → Bool
+  apartFrom state t =
+      not (eqb (transitionAt s sh t .target) state)
+      && (not (eqb (transitionAt s sh t .source) state) || unconditional (transitionAt s sh t .trigger) (transitionAt s sh t .guard))
+
+  abbrev idleIn : ℕ → ℕ → Bool
+  idleIn state i = not (between 1 2 (placeAt s sh i) && eqb (actionAt s sh i .0) state)
+
   module _ (state : ℕ) where
-    pub leaving-is : length (leavingState (readCharts s) state) ≡ count (λ t. eqb (transitionAt s sh t .source) state) (upto (sh .transitions))
+    leaving-is : length (leavingState (readCharts s) state) ≡ times state (map (sourceAt s sh) (upto (sh .transitions)))
     leaving-is =
         length-keep (λ t. eqb (t .source) state) (readCharts s .transitions)
         ∙ ap (count (λ t. eqb (t .source) state)) (transitions-are s sh is)
         ∙ count-map (transitionAt s sh) (λ t. eqb (t .source) state) (upto (sh .transitions))
+        ∙ sym (count-map (sourceAt s sh) (λ n. eqb n state) (upto (sh .transitions)))
 
-    pub apart-is : (all (λ t. unconditional (t .trigger) (t .guard)) (leavingState (readCharts s) state) && not (any (λ t. eqb (t .target) state) (readCharts s .transitions)))
-        ≡ all (apart s sh state) (upto (sh .transitions))
+    apart-is : (all (λ t. unconditional (t .trigger) (t .guard)) (leavingState (readCharts s) state) && not (any (λ t. eqb (t .target) state) (readCharts s .transitions)))
+        ≡ all (apartFrom state) (upto (sh .transitions))
     apart-is =
         (λ i. all-keep (λ t. eqb (t .source) state) (λ t. unconditional (t .trigger) (t .guard)) (readCharts s .transitions) i && not-any (λ t. eqb (t .target) state) (readCharts s .transitions) i)
         ∙ (λ i. all leaves (transitions-are s sh is i) && all enters (transitions-are s sh is i))
@@ -84,7 +83,7 @@ module _ (s : List ℕ) (sh : Shape) (is : IsShape s sh) where
         swap false true = refl
         swap false false = refl
 
-    pub idle-is : not (any (λ x. eqb (x .0) state) (readCharts s .entries ++ readCharts s .exits)) ≡ all (idle s sh state) (upto (sh .actions))
+    idle-is : not (any (λ x. eqb (x .0) state) (readCharts s .entries ++ readCharts s .exits)) ≡ all (idleIn state) (upto (sh .actions))
     idle-is =
         not-any (λ x. eqb (x .0) state) (readActions 1 s ++ readActions 2 s)
         ∙ all-append (λ x. not (eqb (x .0) state)) (readActions 1 s) (readActions 2 s)
@@ -106,17 +105,19 @@ module _ (s : List ℕ) (sh : Shape) (is : IsShape s sh) where
         at : (p : ℕ) (b : Bool) → ((not (eqb p 1) || not b) && (not (eqb p 2) || not b)) ≡ not (between 1 2 p && b)
         at p b = neither (eqb p 1) (eqb p 2) b ∙ ap (λ t. not (t && b)) (sym (first-two p))
 
-  pub initial-fits-is : (c state : ℕ) → c < sh .charts → state ≡ initialAt s sh c →
-      (eqb (home (readCharts s) state) c && eqb (length (leavingState (readCharts s) state)) 1 && all (apart s sh state) (upto (sh .transitions)) && all (idle s sh state) (upto (sh .actions)))
-      ≡ initialFits (readCharts s) c
-  initial-fits-is c state h e =
-      (λ i. eqb (home (readCharts s) state) c && eqb (length (leavingState (readCharts s) state)) 1 && sym (apart-is state) i && sym (idle-is state) i)
-      ∙ ap (λ b. b && not (any (λ x. eqb (x .0) state) (readCharts s .entries ++ readCharts s .exits))) (regroup (eqb (home (readCharts s) state) c && eqb (length (leavingState (readCharts s) state)) 1) _ _)
-      ∙ ap fits (e ∙ sym (initial-is s sh is c h))
+  initial-fits-is : (c : ℕ) → c < sh .charts →
+      initialFits (readCharts s) c
+      ≡ (eqb (home (readCharts s) (initialAt s sh c)) c
+      && eqb (times (initialAt s sh c) (map (sourceAt s sh) (upto (sh .transitions)))) 1
+      && all (apartFrom (initialAt s sh c)) (upto (sh .transitions))
+      && all (idleIn (initialAt s sh c)) (upto (sh .actions)))
+  initial-fits-is c h =
+      ap fits (initial-is s sh is c h)
+      ∙ ap (λ b. b && not (any (λ x. eqb (x .0) state) (readCharts s .entries ++ readCharts s .exits))) (sym (and-assoc (eqb (home (readCharts s) state) c && eqb (length (leavingState (readCharts s) state)) 1) _ _))
+      ∙ (λ i. eqb (home (readCharts s) state) c && eqb (leaving-is state i) 1 && apart-is state i && idle-is state i)
     where
-      regroup : (a b c : Bool) → (a && (b && c)) ≡ ((a && b) && c)
-      regroup true b c = refl
-      regroup false b c = refl
+      state : ℕ
+      state = initialAt s sh c
 
       fits : ℕ → Bool
       fits state =
@@ -126,17 +127,41 @@ module _ (s : List ℕ) (sh : Shape) (is : IsShape s sh) where
           && not (any (λ t. eqb (t .target) state) (readCharts s .transitions))
           && not (any (λ x. eqb (x .0) state) (readCharts s .entries ++ readCharts s .exits))
 
+  -- all charts, in one pass over transitions and one over actions
+  module _ (named : all (initialNamed s sh) (upto (sh .charts)) ≡ true) where
+    pub initials-is :
+        all (initialFits (readCharts s)) (upto (sh .charts))
+        ≡ (all (leftOnce s sh (marks (map (sourceAt s sh) (upto (sh .transitions))))) (upto (sh .charts))
+        && all (apart s sh (marks (map (initialAt s sh) (upto (sh .charts))))) (upto (sh .transitions))
+        && all (idle s sh (marks (map (initialAt s sh) (upto (sh .charts))))) (upto (sh .actions)))
+    initials-is =
+        all-alike (initialFits (readCharts s)) (λ c. once c && all (apartFrom (initialAt s sh c)) (upto (sh .transitions)) && all (idleIn (initialAt s sh c)) (upto (sh .actions))) (sh .charts)
+        (λ c h. initial-fits-is c h ∙ ap (λ b. eqb (home (readCharts s) (initialAt s sh c)) c && b && all (apartFrom (initialAt s sh c)) (upto (sh .transitions)) && all (idleIn (initialAt s sh c)) (upto (sh .actions))) (left-once (sh .charts) (initialAt s sh) below (map (sourceAt s sh) (upto (sh .transitions))) c h))
+        ∙ all-both (λ c. once c && all (apartFrom (initialAt s sh c)) (upto (sh .transitions))) (λ c. all (idleIn (initialAt s sh c)) (upto (sh .actions))) (upto (sh .charts))
+        ∙ (λ i. all-both once (λ c. all (apartFrom (initialAt s sh c)) (upto (sh .transitions))) (upto (sh .charts)) i && all (λ c. all (idleIn (initialAt s sh c)) (upto (sh .actions))) (upto (sh .charts)))
+        ∙ (λ i. all once (upto (sh .charts))
+        && apart-once (sh .charts) (initialAt s sh) below (sh .transitions) (sourceAt s sh) (λ t. transitionAt s sh t .target) (λ t. unconditional (transitionAt s sh t .trigger) (transitionAt s sh t .guard)) i
+        && idle-once (sh .charts) (initialAt s sh) below (sh .actions) (λ i. between 1 2 (placeAt s sh i)) (λ i. actionAt s sh i .0) i)
+      where
+        once : ℕ → Bool
+        once = leftOnce s sh (marks (map (sourceAt s sh) (upto (sh .transitions))))
+
+        below : all (λ c. ltb (initialAt s sh c) 128) (upto (sh .charts)) ≡ true
+        below =
+            all-by (λ c. ltb (initialAt s sh c) 128) (sh .charts)
+            (λ c h. lt-ltb (initialAt s sh c) 128 (omega (arith, most-states s sh is, ltb-true (initialAt s sh c) (sh .states) (all-at (initialNamed s sh) (sh .charts) c h named))))
+
   -- ---- actions of an owner
 
-  pub two-owners : (owner : ℕ) → owner < 65535 →
-      count (λ x. eqb (x .0) owner) (readCharts s .entries ++ readCharts s .exits) ≡ times owner (map (ownerAt s sh 1 2) (upto (sh .actions)))
-  two-owners owner h =
+  state-actions : (owner : ℕ) →
+      count (λ x. eqb (x .0) owner) (readCharts s .entries ++ readCharts s .exits)
+      ≡ count (λ i. (eqb (placeAt s sh i) 1 || eqb (placeAt s sh i) 2) && eqb (actionAt s sh i .0) owner) (upto (sh .actions))
+  state-actions owner =
       count-append (λ x. eqb (x .0) owner) (readActions 1 s) (readActions 2 s)
       ∙ (λ i. count-actions s sh is 1 (λ x. eqb (x .0) owner) i + count-actions s sh is 2 (λ x. eqb (x .0) owner) i)
       ∙ count-either (λ i. eqb (placeAt s sh i) 1 && eqb (actionAt s sh i .0) owner) (λ i. eqb (placeAt s sh i) 2 && eqb (actionAt s sh i .0) owner)
       (λ i. never-both (placeAt s sh i) (eqb (actionAt s sh i .0) owner)) (upto (sh .actions))
-      ∙ (λ j. count (λ i. at (placeAt s sh i) (actionAt s sh i .0) j) (upto (sh .actions)))
-      ∙ sym (count-map (ownerAt s sh 1 2) (λ k. eqb k owner) (upto (sh .actions)))
+      ∙ (λ j. count (λ i. or-and (eqb (placeAt s sh i) 1) (eqb (placeAt s sh i) 2) (eqb (actionAt s sh i .0) owner) j) (upto (sh .actions)))
     where
       none : (a b c : Bool) → ((a && b) ≡ false) → ((a && c) && (b && c)) ≡ false
       none true true c e = absurd (let z : _≡_ {A = ℕ} 0 1 = cc in omega arith)
@@ -158,34 +183,26 @@ module _ (s : List ℕ) (sh : Shape) (is : IsShape s sh) where
       or-and true false false = refl
       or-and false b c = refl
 
-      at : (p x : ℕ) → ((eqb p 1 && eqb x owner) || (eqb p 2 && eqb x owner)) ≡ eqb (cond (between 1 2 p) x 65535) owner
-      at p x = or-and (eqb p 1) (eqb p 2) (eqb x owner) ∙ ap (λ b. b && eqb x owner) (sym (first-two p)) ∙ owned (between 1 2 p) x owner h
+  module _ (in-code : all inCode (records s) ≡ true) (named : all (actionNamed s sh) (upto (sh .actions)) ≡ true) where
+    owner-known : (i : ℕ) → i < sh .actions → (1 ≤ placeAt s sh i) × (placeAt s sh i ≤ 3) × (placeAt s sh i ≤ 2 → actionAt s sh i .0 < sh .states)
+    owner-known i h =
+        let p : (1 ≤ placeAt s sh i) × (placeAt s sh i ≤ 3) = place-in-code s sh is in-code i h in
+        (p .0, p .1, at (placeAt s sh i) (actionAt s sh i .0) _ (p .0) (and-true _ _ (all-at (actionNamed s sh) (sh .actions) i h named) .0))
+      where
+        at : (p x : ℕ) (d : Bool) → 1 ≤ p → (not (eqb p 1 || eqb p 2) || (ltb x (sh .states) && d)) ≡ true → p ≤ 2 → x < sh .states
+        at zero x d a e l = absurd (omega arith)
+        at (suc zero) x d a e l = ltb-true x (sh .states) (and-true (ltb x (sh .states)) d e .0)
+        at (suc (suc zero)) x d a e l = ltb-true x (sh .states) (and-true (ltb x (sh .states)) d e .0)
+        at (suc (suc (suc p))) x d a e l = absurd (omega arith)
 
-  pub one-owner : (owner : ℕ) → owner < 65535 → count (λ x. eqb (x .0) owner) (readCharts s .transition-actions) ≡ times owner (map (ownerAt s sh 3 3) (upto (sh .actions)))
-  one-owner owner h =
-      count-actions s sh is 3 (λ x. eqb (x .0) owner)
-      ∙ (λ j. count (λ i. at (placeAt s sh i) (actionAt s sh i .0) j) (upto (sh .actions)))
-      ∙ sym (count-map (ownerAt s sh 3 3) (λ k. eqb k owner) (upto (sh .actions)))
-    where
-      at : (p x : ℕ) → (eqb p 3 && eqb x owner) ≡ eqb (cond (between 3 3 p) x 65535) owner
-      at p x = ap (λ b. b && eqb x owner) (sym (third p)) ∙ owned (between 3 3 p) x owner h
-
-  eight-within : (actions : List (ℕ × Deed)) (keys : List ℕ) (n : ℕ) → n ≤ 65535 →
-      ((owner : ℕ) → owner < 65535 → count (λ x. eqb (x .0) owner) actions ≡ times owner keys) →
-      all (atMostEight actions) (upto n) ≡ within 8 (replicate n 0) keys
-  eight-within actions keys n h f =
-      all-alike (atMostEight actions) (λ j. leb (times j keys) 8) n (λ j b. ap (λ m. leb m 8) (f j (omega arith)))
-      ∙ sym (within-is 8 (omega arith) n keys)
-
-  pub state-owners-is : all (atMostEight (readCharts s .entries ++ readCharts s .exits)) (upto (length (readCharts s .homes))) ≡ within 8 (replicate (sh .states) 0) (map (ownerAt s sh 1 2) (upto (sh .actions)))
-  state-owners-is =
-      ap (λ n. all (atMostEight (readCharts s .entries ++ readCharts s .exits)) (upto n)) (length-homes s sh is)
-      ∙ eight-within (readCharts s .entries ++ readCharts s .exits) (map (ownerAt s sh 1 2) (upto (sh .actions))) (sh .states) (omega (arith, most-states s sh is)) two-owners
-
-  pub transition-owners-is : all (atMostEight (readCharts s .transition-actions)) (upto (length (readCharts s .transitions))) ≡ within 8 (replicate (sh .transitions) 0) (map (ownerAt s sh 3 3) (upto (sh .actions)))
-  transition-owners-is =
-      ap (λ n. all (atMostEight (readCharts s .transition-actions)) (upto n)) (length-transitions s sh is)
-      ∙ eight-within (readCharts s .transition-actions) (map (ownerAt s sh 3 3) (upto (sh .actions))) (sh .transitions) (omega (arith, most-transitions s sh is)) one-owner
+    pub owners-is :
+        (all (atMostEight (readCharts s .entries ++ readCharts s .exits)) (upto (length (readCharts s .homes)))
+        && all (atMostEight (readCharts s .transition-actions)) (upto (length (readCharts s .transitions))))
+        ≡ within 8 (replicate (sh .states + sh .transitions) 0) (map (ownerAt s sh) (upto (sh .actions)))
+    owners-is =
+        (λ i. all (λ owner. leb (state-actions owner i) 8) (upto (length-homes s sh is i))
+        && all (λ owner. leb (count-actions s sh is 3 (λ x. eqb (x .0) owner) i) 8) (upto (length-transitions s sh is i)))
+        ∙ owners-within (sh .actions) (sh .states) (sh .transitions) (placeAt s sh) (λ i. actionAt s sh i .0) owner-known
 
   -- ---- priorities
 

@@ -18,8 +18,8 @@ module _ (s : List ℕ) (sh : Shape) where
   transitionNamed t =
       ltb (transitionAt s sh t .source) (sh .states) && ltb (transitionAt s sh t .target) (sh .states) && guardNamed (sh .nodes) (transitionAt s sh t .guard)
 
-  -- of an action of that place, with so many owners; one of another place passes
-  abbrev pub actionNamed : ℕ → ℕ → ℕ → Bool
-  actionNamed place owners i =
-      not (eqb (placeAt s sh i) place)
-      || (ltb (actionAt s sh i .0) owners && deedNamed (sh .variables) (sh .nodes) (actionAt s sh i .1))
+  -- of an action of a state, and of one of a transition; one of another place passes
+  abbrev pub actionNamed : ℕ → Bool
+  actionNamed i =
+      (not (eqb (placeAt s sh i) 1 || eqb (placeAt s sh i) 2) || (ltb (actionAt s sh i .0) (sh .states) && deedNamed (sh .variables) (sh .nodes) (actionAt s sh i .1)))
+      && (not (eqb (placeAt s sh i) 3) || (ltb (actionAt s sh i .0) (sh .transitions) && deedNamed (sh .variables) (sh .nodes) (actionAt s sh i .1)))

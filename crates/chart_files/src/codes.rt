@@ -1,9 +1,8 @@
-// Refusal 5: codes and ranges, record by record.
+// Refusal 5: codes and ranges of a record.
 ghost use mathlib.Core.Path.{_≡_};
 ghost use mathlib.Core.Bool.{true};
 ghost use mathlib.Core.List.{[], _∷_};
-ghost use Rattle.records.specs.Lists.{all, caseOf};
-ghost use Rattle.records.specs.Bytes.{records};
+ghost use Rattle.records.specs.Lists.{caseOf};
 ghost use Rattle.model.specs.ChartFile.{isEvent, isDuration, transitionInCode, variableInCode, nodeInCode, deedInCode, actionInCode, inCode};
 use records::byte_at;
 use records::i16_at;
@@ -58,7 +57,7 @@ fn action_in_code(r: &[u8]) -> bool
     (1 <= place) & (place <= 3) & deed_in_code(byte_at(r, 4), byte_at(r, 5))
 }
 
-fn in_code(r: &[u8]) -> bool
+pub fn in_code(r: &[u8]) -> bool
     ensures { λ t. ⌜ t ≡ inCode (now (r .entry)) ⌝ }
 {
     match byte_at(r, 0) {
@@ -68,19 +67,4 @@ fn in_code(r: &[u8]) -> bool
         6 => action_in_code(r),
         _ => true,
     }
-}
-
-pub fn all_in_code(s: &[u8]) -> bool
-    ensures { λ r. ⌜ r ≡ all inCode (records (now (s .entry))) ⌝ }
-{
-    let mut i: usize = 0;
-    while i < s.len() / 16 {
-        let at = 16 * i;
-        let end = at + 16;
-        if !in_code(&s[at..end]) {
-            return false;
-        }
-        i += 1;
-    }
-    true
 }

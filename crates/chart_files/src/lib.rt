@@ -1,4 +1,8 @@
 // The reader of chart files: the framing, the checks on what the records say, and the refusal of a file.
+ghost use mathlib.Core.Path.{_≡_};
+ghost use Rattle.records.specs.Lists.{all};
+ghost use Rattle.records.specs.Bytes.{records};
+ghost use Rattle.model.specs.ChartFile.{unused, unusedAreZero, inCode};
 ghost use Rattle.chart_files.specs.Shape.{IsShape, IsShaped, IsChecked};
 
 pub mod codes;
@@ -9,13 +13,13 @@ pub mod timing;
 pub mod unused;
 pub mod uses;
 
-use codes::all_in_code;
+use codes::in_code;
 use names::all_named;
 use records::Framing;
 use records::frame_of;
 use structure::structured;
 use timing::all_ticking;
-use unused::all_clean;
+use unused::record_clean;
 use uses::nodes_fit;
 
 // How many records a framed chart file has of each kind, from kind 1 on.
@@ -75,15 +79,42 @@ pub fn shape_of(s: &[u8]) -> Checked
     }
 }
 
+// What all records pass by themselves: refusal 4, and 5.
+struct Tested {
+    clean: bool,
+    coded: bool,
+}
+
+// One pass for both. None is left early, so that a stray byte is refused before an earlier record's code.
+fn test_records(s: &[u8]) -> Tested
+    ensures { λ r. ⌜ (r .clean ≡ all (λ r. unusedAreZero (unused r) r) (records (now (s .entry)))) × (r .coded ≡ all inCode (records (now (s .entry)))) ⌝ }
+{
+    let mut clean = true;
+    let mut coded = true;
+    let mut i: usize = 0;
+    while i < s.len() / 16 {
+        let at = 16 * i;
+        let end = at + 16;
+        clean = clean & record_clean(&s[at..end]);
+        coded = coded & in_code(&s[at..end]);
+        i += 1;
+    }
+    Tested {
+        clean: clean,
+        coded: coded,
+    }
+}
+
 // Refusals 4 to 9 of a framed file, in their order.
 fn check_framed(s: &[u8], shape: Shape) -> Checked
     requires { ⌜ IsShape (now s) shape ⌝ }
     ensures { λ r. ⌜ IsChecked (now (s .entry)) r ⌝ }
 {
-    if !all_clean(s) {
+    let tested = test_records(s);
+    if !tested.clean {
         return Checked::Refused(Refusal::StrayByte);
     }
-    if !all_in_code(s) {
+    if !tested.coded {
         return Checked::Refused(Refusal::BrokenCode);
     }
     if !all_named(s, shape) {

@@ -85,21 +85,23 @@ pub fn deed_named(deed: Deed, variables: u16, nodes: u16) -> bool
     }
 }
 
-// An action of another place passes.
-fn action_named(s: &[u8], shape: Shape, place: u8, owners: u16, i: u16) -> bool
-    ensures { λ r. ⌜ r ≡ actionNamed (now (s .entry)) shape place owners i ⌝ }
+// An action that is neither a state's nor a transition's passes.
+fn action_named(s: &[u8], shape: Shape, i: u16) -> bool
+    ensures { λ r. ⌜ r ≡ actionNamed (now (s .entry)) shape i ⌝ }
 {
-    (place_of(s, shape, i) != place)
-        | ((owner_of(s, shape, i) < owners)
-            & deed_named(deed_of(s, shape, i), shape.variables, shape.nodes))
+    let place = place_of(s, shape, i);
+    let owner = owner_of(s, shape, i);
+    let deed = deed_named(deed_of(s, shape, i), shape.variables, shape.nodes);
+    (!((place == 1) | (place == 2)) | ((owner < shape.states) & deed))
+        & ((place != 3) | ((owner < shape.transitions) & deed))
 }
 
-fn actions_named(s: &[u8], shape: Shape, place: u8, owners: u16) -> bool
-    ensures { λ r. ⌜ r ≡ all (actionNamed (now (s .entry)) shape place owners) (upto (shape .actions)) ⌝ }
+fn actions_named(s: &[u8], shape: Shape) -> bool
+    ensures { λ r. ⌜ r ≡ all (actionNamed (now (s .entry)) shape) (upto (shape .actions)) ⌝ }
 {
     let mut i = 0;
     while i < shape.actions {
-        if !action_named(s, shape, place, owners, i) {
+        if !action_named(s, shape, i) {
             return false;
         }
         i += 1;
@@ -115,7 +117,5 @@ pub fn all_named(s: &[u8], shape: Shape) -> bool
         & homes_named(s, shape)
         & transitions_named(s, shape)
         & nodes_named(node_records(s, shape), shape.nodes, shape.variables)
-        & actions_named(s, shape, 1, shape.states)
-        & actions_named(s, shape, 2, shape.states)
-        & actions_named(s, shape, 3, shape.transitions)
+        & actions_named(s, shape)
 }

@@ -1,18 +1,20 @@
 // Refusal 7: transitions inside charts, initial states, priorities, and at most eight actions an owner.
 ghost use mathlib.Core.Path.{_≡_};
-ghost use mathlib.Core.Bool.{true};
+ghost use mathlib.Core.Bool.{true, _&&_};
 ghost use mathlib.Core.List.{map, _++_};
 ghost use Prim.Native.Nat.{_+_, _*_, _≤_, _<_};
-ghost use lib.Dec.{eqb, ltb};
+ghost use lib.Dec.{ltb};
 ghost use lib.ListN.{length, getD};
 ghost use Rattle.records.specs.Lists.{all, upto};
 ghost use Rattle.records.specs.Bytes.{records};
+ghost use Rattle.expressions.specs.Uses.{addUses};
 ghost use Rattle.model.specs.ChartSet.{readCharts};
 ghost use Rattle.model.specs.ChartFile as file;
 ghost use Rattle.chart_files.specs.Shape.{IsShape};
-ghost use Rattle.chart_files.specs.Places.{transitionAt};
+ghost use Rattle.chart_files.specs.Places.{initialAt, transitionAt};
+ghost use Rattle.chart_files.specs.Names.{initialNamed};
 ghost use Rattle.chart_files.specs.Tallies.{addOne, within};
-ghost use Rattle.chart_files.specs.Structure.{insideChart, isFree, apart, idle, pairAt, ownerAt};
+ghost use Rattle.chart_files.specs.Structure.{insideChart, isFree, apart, idle, leftOnce, sourceAt, pairAt, ownerAt};
 use super::Shape;
 use super::fields::Guard;
 use super::fields::Trigger;
@@ -25,6 +27,8 @@ use super::fields::priority_of;
 use super::fields::source_of;
 use super::fields::target_of;
 use super::fields::trigger_of;
+use expressions::sorts::add_use;
+use records::byte_at;
 
 // The chart of a state; a number that names no state has chart 0.
 fn chart_of(s: &[u8], shape: Shape, state: u16) -> u8
@@ -85,44 +89,70 @@ fn unconditional(s: &[u8], shape: Shape, t: u16) -> bool
     }
 }
 
-fn leaves(s: &[u8], shape: Shape, state: u16, t: u16) -> bool
-    ensures { λ r. ⌜ r ≡ eqb (transitionAt (now (s .entry)) shape t .source) state ⌝ }
+// How many charts have each state as their initial one, up to 2; and how many transitions leave it.
+fn count_initials(s: &[u8], shape: Shape, initial: &mut [u8])
+    ensures { λ _. ⌜ now (initial .exit) ≡ addUses (now (initial .entry)) (map (initialAt (now (s .entry)) shape) (upto (shape .charts))) ⌝ }
 {
-    source_of(s, shape, t) == state
-}
-
-// How many transitions leave a state.
-fn leaving(s: &[u8], shape: Shape, state: u16) -> u16
-    requires { ⌜ IsShape (now s) shape ⌝ }
-    ensures { λ r. ⌜ r ≡ length (file.leavingState (readCharts (now (s .entry))) state) ⌝ }
-{
-    let size = shape.transitions;
-    let mut n: u16 = 0;
-    let mut t = 0;
-    while t < size {
-        if leaves(s, shape, state, t) {
-            n += 1;
-        }
-        t += 1;
+    let n = shape.charts;
+    let mut c = 0;
+    while c < n {
+        add_use(initial, initial_of(s, c));
+        c += 1;
     }
-    n
 }
 
-// A transition does not enter an initial state, and leaves it, if it does, unconditionally.
-fn kept_apart(s: &[u8], shape: Shape, state: u16, t: u16) -> bool
-    ensures { λ r. ⌜ r ≡ apart (now (s .entry)) shape state t ⌝ }
-{
-    let target = target_of(s, shape, t);
-    (target != state) & (!leaves(s, shape, state, t) | unconditional(s, shape, t))
-}
-
-fn all_apart(s: &[u8], shape: Shape, state: u16) -> bool
-    ensures { λ r. ⌜ r ≡ all (apart (now (s .entry)) shape state) (upto (shape .transitions)) ⌝ }
+fn count_sources(s: &[u8], shape: Shape, left: &mut [u8])
+    ensures { λ _. ⌜ now (left .exit) ≡ addUses (now (left .entry)) (map (sourceAt (now (s .entry)) shape) (upto (shape .transitions))) ⌝ }
 {
     let n = shape.transitions;
     let mut t = 0;
     while t < n {
-        if !kept_apart(s, shape, state, t) {
+        add_use(left, source_of(s, shape, t));
+        t += 1;
+    }
+}
+
+// A chart's initial state is one of its own, and is left once.
+fn left_once(s: &[u8], shape: Shape, left: &[u8], c: u16) -> bool
+    requires { ⌜ IsShape (now s) shape ⌝ }
+    ensures { λ r. ⌜ r ≡ leftOnce (now (s .entry)) shape (now (left .entry)) c ⌝ }
+{
+    let state = initial_of(s, c);
+    let home = chart_of(s, shape, state) as u16;
+    (home == c) & (byte_at(left, state as usize) == 1)
+}
+
+fn all_left_once(s: &[u8], shape: Shape, left: &[u8]) -> bool
+    requires { ⌜ IsShape (now s) shape ⌝ }
+    ensures { λ r. ⌜ r ≡ all (leftOnce (now (s .entry)) shape (now (left .entry))) (upto (shape .charts)) ⌝ }
+{
+    let n = shape.charts;
+    let mut c = 0;
+    while c < n {
+        if !left_once(s, shape, left, c) {
+            return false;
+        }
+        c += 1;
+    }
+    true
+}
+
+// A transition does not enter an initial state, and leaves one, if it does, unconditionally.
+fn kept_apart(s: &[u8], shape: Shape, initial: &[u8], t: u16) -> bool
+    ensures { λ r. ⌜ r ≡ apart (now (s .entry)) shape (now (initial .entry)) t ⌝ }
+{
+    let target = byte_at(initial, target_of(s, shape, t) as usize);
+    let source = byte_at(initial, source_of(s, shape, t) as usize);
+    (target == 0) & ((source == 0) | unconditional(s, shape, t))
+}
+
+fn all_apart(s: &[u8], shape: Shape, initial: &[u8]) -> bool
+    ensures { λ r. ⌜ r ≡ all (apart (now (s .entry)) shape (now (initial .entry))) (upto (shape .transitions)) ⌝ }
+{
+    let n = shape.transitions;
+    let mut t = 0;
+    while t < n {
+        if !kept_apart(s, shape, initial, t) {
             return false;
         }
         t += 1;
@@ -130,22 +160,22 @@ fn all_apart(s: &[u8], shape: Shape, state: u16) -> bool
     true
 }
 
-// Action i is neither an entry nor an exit action of a state.
-fn is_idle(s: &[u8], shape: Shape, state: u16, i: u16) -> bool
-    ensures { λ r. ⌜ r ≡ idle (now (s .entry)) shape state i ⌝ }
+// Action i is neither an entry nor an exit action of an initial state.
+fn is_idle(s: &[u8], shape: Shape, initial: &[u8], i: u16) -> bool
+    ensures { λ r. ⌜ r ≡ idle (now (s .entry)) shape (now (initial .entry)) i ⌝ }
 {
     let place = place_of(s, shape, i);
-    let owner = owner_of(s, shape, i);
-    !((1 <= place) & (place <= 2) & (owner == state))
+    let owner = byte_at(initial, owner_of(s, shape, i) as usize);
+    (owner == 0) | !((1 <= place) & (place <= 2))
 }
 
-fn all_idle(s: &[u8], shape: Shape, state: u16) -> bool
-    ensures { λ r. ⌜ r ≡ all (idle (now (s .entry)) shape state) (upto (shape .actions)) ⌝ }
+fn all_idle(s: &[u8], shape: Shape, initial: &[u8]) -> bool
+    ensures { λ r. ⌜ r ≡ all (idle (now (s .entry)) shape (now (initial .entry))) (upto (shape .actions)) ⌝ }
 {
     let n = shape.actions;
     let mut i = 0;
     while i < n {
-        if !is_idle(s, shape, state, i) {
+        if !is_idle(s, shape, initial, i) {
             return false;
         }
         i += 1;
@@ -153,32 +183,16 @@ fn all_idle(s: &[u8], shape: Shape, state: u16) -> bool
     true
 }
 
-// An initial state is one of its chart's, is left once and unconditionally, is never entered, and does nothing.
-fn initial_fits(s: &[u8], shape: Shape, chart: u16) -> bool
-    requires { ⌜ IsShape (now s) shape × (chart < shape .charts) ⌝ }
-    ensures { λ r. ⌜ r ≡ file.initialFits (readCharts (now (s .entry))) chart ⌝ }
-{
-    let state = initial_of(s, chart);
-    let home = chart_of(s, shape, state) as u16;
-    (home == chart)
-        & (leaving(s, shape, state) == 1)
-        & all_apart(s, shape, state)
-        & all_idle(s, shape, state)
-}
-
+// An initial state is one of its chart's, is left once and unconditionally, is never entered, and does nothing: all charts at once.
 fn initials_fit(s: &[u8], shape: Shape) -> bool
-    requires { ⌜ IsShape (now s) shape ⌝ }
+    requires { ⌜ IsShape (now s) shape × (all (initialNamed (now s) shape) (upto (shape .charts)) ≡ true) ⌝ }
     ensures { λ r. ⌜ r ≡ all (file.initialFits (readCharts (now (s .entry)))) (upto (shape .charts)) ⌝ }
 {
-    let n = shape.charts;
-    let mut c = 0;
-    while c < n {
-        if !initial_fits(s, shape, c) {
-            return false;
-        }
-        c += 1;
-    }
-    true
+    let mut initial = [0u8; 128];
+    let mut left = [0u8; 128];
+    count_initials(s, shape, &mut initial);
+    count_sources(s, shape, &mut left);
+    all_left_once(s, shape, &left) & all_apart(s, shape, &initial) & all_idle(s, shape, &initial)
 }
 
 // One more at place k, unless it has as many as it may. A place past the end is none.
@@ -232,27 +246,26 @@ fn priorities_differ(s: &[u8], shape: Shape) -> bool
     pairs_within(s, shape, &mut seen[..n])
 }
 
-// The owner of action i, if its place is one from `low` to `high`; else 65,535, which owns nothing.
-fn owner_at(s: &[u8], shape: Shape, low: u8, high: u8, i: u16) -> u16
-    ensures { λ r. ⌜ r ≡ ownerAt (now (s .entry)) shape low high i ⌝ }
+// The number of action i's owner: the states, and the transitions behind them.
+fn owner_at(s: &[u8], shape: Shape, i: u16) -> usize
+    ensures { λ r. ⌜ r ≡ ownerAt (now (s .entry)) shape i ⌝ }
 {
-    let place = place_of(s, shape, i);
-    if low <= place {
-        if place <= high {
-            return owner_of(s, shape, i);
-        }
+    let owner = owner_of(s, shape, i) as usize;
+    if place_of(s, shape, i) == 3 {
+        (shape.states as usize) + owner
+    } else {
+        owner
     }
-    65535
 }
 
-// No owner in these places comes more than eight times, from what is counted on.
-fn owners_within(s: &[u8], shape: Shape, low: u8, high: u8, counts: &mut [u8]) -> bool
-    ensures { λ r. ⌜ r ≡ within 8 (now (counts .entry)) (map (ownerAt (now (s .entry)) shape low high) (upto (shape .actions))) ⌝ }
+// No owner comes more than eight times, from what is counted on.
+fn owners_within(s: &[u8], shape: Shape, counts: &mut [u8]) -> bool
+    ensures { λ r. ⌜ r ≡ within 8 (now (counts .entry)) (map (ownerAt (now (s .entry)) shape) (upto (shape .actions))) ⌝ }
 {
     let n = shape.actions;
     let mut i = 0;
     while i < n {
-        if !count_within(counts, owner_at(s, shape, low, high, i) as usize, 8) {
+        if !count_within(counts, owner_at(s, shape, i), 8) {
             return false;
         }
         i += 1;
@@ -261,32 +274,22 @@ fn owners_within(s: &[u8], shape: Shape, low: u8, high: u8, counts: &mut [u8]) -
 }
 
 // A state's entry and exit actions count together.
-fn states_act(s: &[u8], shape: Shape) -> bool
-    requires { ⌜ IsShape (now s) shape ⌝ }
-    ensures { λ r. ⌜ r ≡ all (file.atMostEight (readCharts (now (s .entry)) .entries ++ readCharts (now (s .entry)) .exits)) (upto (length (readCharts (now (s .entry)) .homes))) ⌝ }
+fn owners_act(s: &[u8], shape: Shape) -> bool
+    requires { ⌜ IsShape (now s) shape × (all file.inCode (records (now s)) ≡ true) × (file.allNamed (readCharts (now s)) ≡ true) ⌝ }
+    ensures { λ r. ⌜ r ≡ (all (file.atMostEight (readCharts (now (s .entry)) .entries ++ readCharts (now (s .entry)) .exits)) (upto (length (readCharts (now (s .entry)) .homes))) && all (file.atMostEight (readCharts (now (s .entry)) .transition-actions)) (upto (length (readCharts (now (s .entry)) .transitions)))) ⌝ }
 {
-    let mut counts = [0u8; 128];
-    let n = shape.states as usize;
-    owners_within(s, shape, 1, 2, &mut counts[..n])
+    let mut counts = [0u8; 384];
+    let n = (shape.states as usize) + (shape.transitions as usize);
+    owners_within(s, shape, &mut counts[..n])
 }
 
-fn transitions_act(s: &[u8], shape: Shape) -> bool
-    requires { ⌜ IsShape (now s) shape ⌝ }
-    ensures { λ r. ⌜ r ≡ all (file.atMostEight (readCharts (now (s .entry)) .transition-actions)) (upto (length (readCharts (now (s .entry)) .transitions))) ⌝ }
-{
-    let mut counts = [0u8; 256];
-    let n = shape.transitions as usize;
-    owners_within(s, shape, 3, 3, &mut counts[..n])
-}
-
-// Of a framed file whose codes and ranges are kept.
+// Of a framed file whose codes and ranges are kept, and whose numbers name things.
 pub fn structured(s: &[u8], shape: Shape) -> bool
-    requires { ⌜ IsShape (now s) shape × (all file.inCode (records (now s)) ≡ true) ⌝ }
+    requires { ⌜ IsShape (now s) shape × (all file.inCode (records (now s)) ≡ true) × (file.allNamed (readCharts (now s)) ≡ true) ⌝ }
     ensures { λ r. ⌜ r ≡ file.structured (readCharts (now (s .entry))) ⌝ }
 {
     inside_charts(s, shape)
         & initials_fit(s, shape)
         & priorities_differ(s, shape)
-        & states_act(s, shape)
-        & transitions_act(s, shape)
+        & owners_act(s, shape)
 }

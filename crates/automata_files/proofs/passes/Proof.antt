@@ -1,14 +1,16 @@
 -- `passes` meets its contract: a pass for each test. Assumes nothing.
+use mathlib.Core.Path.{_∙_}
 use mathlib.Core.Bool.{_&&_}
+use Rattle.records.specs.Bytes.{records}
+use Rattle.model.specs.ChartFile.{unusedAreZero}
+use Rattle.model.specs.AutomataFile.{unusedInTable, tableInCode}
+use Rattle.chart_files.proofs.Numbers.{all-both}
 use borrow.Author.Needs.{needs}
 use Rattle.automata_files.proofs.passes.Statement.{statement}
 use Rattle.automata_files.proofs.passes.Tie as tie
 
-all-clean-requires : tie.Need-all-clean-requires
-all-clean-requires c κs = search needs
-
-all-in-code-requires : tie.Need-all-in-code-requires
-all-in-code-requires c κs = search needs
+all-sound-requires : tie.Need-all-sound-requires
+all-sound-requires c κs = search needs
 
 table-named-requires : tie.Need-table-named-requires
 table-named-requires c κs = search needs
@@ -26,9 +28,11 @@ table-nodes-fit-requires : tie.Need-table-nodes-fit-requires
 table-nodes-fit-requires c κs = search needs
 
 returns : tie.Need-returns
-returns c = λ i.
-    c .before .before .before .before .before .before .all-clean .ensures i
-    && c .before .before .before .before .before .all-in-code .ensures i
+returns c =
+    let s = c .before .before .before .before .before .before .before .args .s .now in
+    let sound = c .before .before .before .before .before .all-sound .ensures ∙ all-both (λ r. unusedAreZero (unusedInTable r) r) tableInCode (records s) in
+    λ i.
+    sound i
     && c .before .before .before .before .table-named .ensures i
     && c .before .before .before .clocks-tick .ensures i
     && c .before .before .inside-automata .ensures i
@@ -39,8 +43,7 @@ pub passes-spec : {M : Type 1} → statement M
 passes-spec =
     tie.close
     (tie.spec
-    all-clean-requires
-    all-in-code-requires
+    all-sound-requires
     table-named-requires
     clocks-tick-requires
     inside-automata-requires

@@ -13,51 +13,48 @@ use borrow.Author.Needs.{needs}
 use Rattle.chart_files.proofs.check_framed.Statement.{statement}
 use Rattle.chart_files.proofs.check_framed.Tie as tie
 
-zeros-hold : (c : tie.Else1) → all (λ r. unusedAreZero (unused r) r) (records (c .before .before .before .args .s .now)) ≡ true
-zeros-hold c = sym (c .before .all-clean .ensures) ∙ not-false _ (c .if1 .left)
+zeros-hold : (c : tie.Else1) → all (λ r. unusedAreZero (unused r) r) (records (c .before .before .before .before .args .s .now)) ≡ true
+zeros-hold c = sym (c .before .before .test-records .ensures .0) ∙ not-false _ (c .if1 .left)
 
-codes-hold : (c : tie.Else2) → all inCode (records (c .before .before .before .before .before .args .s .now)) ≡ true
-codes-hold c = sym (c .before .all-in-code .ensures) ∙ not-false _ (c .if2 .left)
+codes-hold : (c : tie.Else2) → all inCode (records (c .before .before .before .before .before .before .args .s .now)) ≡ true
+codes-hold c = sym (c .before .before .before .before .test-records .ensures .1) ∙ not-false _ (c .if2 .left)
 
-names-hold : (c : tie.Else3) → allNamed (readCharts (c .before .before .before .before .before .before .before .args .s .now)) ≡ true
+names-hold : (c : tie.Else3) → allNamed (readCharts (c .before .before .before .before .before .before .before .before .args .s .now)) ≡ true
 names-hold c = sym (c .before .all-named .ensures) ∙ not-false _ (c .if3 .left)
 
-shaped-hold : (c : tie.Else4) → structured (readCharts (c .before .before .before .before .before .before .before .before .before .args .s .now)) ≡ true
+shaped-hold : (c : tie.Else4) → structured (readCharts (c .before .before .before .before .before .before .before .before .before .before .args .s .now)) ≡ true
 shaped-hold c = sym (c .before .structured .ensures) ∙ not-false _ (c .if4 .left)
 
-nodes-hold : (c : tie.Else5) → nodesFit (readCharts (c .before .before .before .before .before .before .before .before .before .before .before .args .s .now)) ≡ true
+nodes-hold : (c : tie.Else5) → nodesFit (readCharts (c .before .before .before .before .before .before .before .before .before .before .before .before .args .s .now)) ≡ true
 nodes-hold c = sym (c .before .nodes-fit .ensures) ∙ not-false _ (c .if5 .left)
 
-ticks-hold : (c : tie.Else6) → all (λ t. ticking (t .trigger)) (readCharts (c .before .before .before .before .before .before .before .before .before .before .before .before .before .args .s .now) .transitions) ≡ true
+ticks-hold : (c : tie.Else6) → all (λ t. ticking (t .trigger)) (readCharts (c .before .before .before .before .before .before .before .before .before .before .before .before .before .before .args .s .now) .transitions) ≡ true
 ticks-hold c = sym (c .before .all-ticking .ensures) ∙ not-false _ (c .if6 .left)
 
-all-clean-requires : tie.Need-all-clean-requires
-all-clean-requires c κs = search needs
+test-records-requires : tie.Need-test-records-requires
+test-records-requires c κs = search needs
 
 returns : tie.Need-returns
 unfolding lowest
 returns c =
-    let k = c .before .before .before in
+    let k = c .before .before .before .before in
     refused (k .args .s .now) StrayByte
     (refusal-is (k .args .s .now) (k .pre .framed)
-    (sym (c .before .all-clean .ensures) ∙ not-true _ (c .if1 .taken))
+    (sym (c .before .before .test-records .ensures .0) ∙ not-true _ (c .if1 .taken))
     refl
     refl
     refl
     refl
     refl)
 
-all-in-code-requires : tie.Need-all-in-code-requires
-all-in-code-requires c κs = search needs
-
 returns-2 : tie.Need-returns-2
 unfolding lowest
 returns-2 c =
-    let k = c .before .before .before .before .before in
+    let k = c .before .before .before .before .before .before in
     refused (k .args .s .now) BrokenCode
     (refusal-is (k .args .s .now) (k .pre .framed)
     (zeros-hold (c .before .before))
-    (sym (c .before .all-in-code .ensures) ∙ not-true _ (c .if2 .taken))
+    (sym (c .before .before .before .before .test-records .ensures .1) ∙ not-true _ (c .if2 .taken))
     refl
     refl
     refl
@@ -69,7 +66,7 @@ all-named-requires c κs = search needs
 returns-3 : tie.Need-returns-3
 unfolding lowest
 returns-3 c =
-    let k = c .before .before .before .before .before .before .before in
+    let k = c .before .before .before .before .before .before .before .before in
     refused (k .args .s .now) DanglingNumber
     (refusal-is (k .args .s .now) (k .pre .framed)
     (zeros-hold (c .before .before .before .before))
@@ -80,12 +77,12 @@ returns-3 c =
     refl)
 
 structured-requires : tie.Need-structured-requires
-structured-requires c κs = (c .before .before .before .before .before .before .before .pre, codes-hold (c .before .before))
+structured-requires c κs = (c .before .before .before .before .before .before .before .before .pre, codes-hold (c .before .before), names-hold c)
 
 returns-4 : tie.Need-returns-4
 unfolding lowest
 returns-4 c =
-    let k = c .before .before .before .before .before .before .before .before .before in
+    let k = c .before .before .before .before .before .before .before .before .before .before in
     refused (k .args .s .now) BrokenStructure
     (refusal-is (k .args .s .now) (k .pre .framed)
     (zeros-hold (c .before .before .before .before .before .before))
@@ -96,12 +93,12 @@ returns-4 c =
     refl)
 
 nodes-fit-requires : tie.Need-nodes-fit-requires
-nodes-fit-requires c κs = (c .before .before .before .before .before .before .before .before .before .pre, codes-hold (c .before .before .before .before))
+nodes-fit-requires c κs = (c .before .before .before .before .before .before .before .before .before .before .pre, codes-hold (c .before .before .before .before))
 
 returns-5 : tie.Need-returns-5
 unfolding lowest
 returns-5 c =
-    let k = c .before .before .before .before .before .before .before .before .before .before .before in
+    let k = c .before .before .before .before .before .before .before .before .before .before .before .before in
     refused (k .args .s .now) BrokenNode
     (refusal-is (k .args .s .now) (k .pre .framed)
     (zeros-hold (c .before .before .before .before .before .before .before .before))
@@ -117,7 +114,7 @@ all-ticking-requires c κs = search needs
 returns-6 : tie.Need-returns-6
 unfolding lowest
 returns-6 c =
-    let k = c .before .before .before .before .before .before .before .before .before .before .before .before .before in
+    let k = c .before .before .before .before .before .before .before .before .before .before .before .before .before .before in
     refused (k .args .s .now) ZeroTicks
     (refusal-is (k .args .s .now) (k .pre .framed)
     (zeros-hold (c .before .before .before .before .before .before .before .before .before .before))
@@ -130,7 +127,7 @@ returns-6 c =
 returns-7 : tie.Need-returns-7
 unfolding lowest
 returns-7 c =
-    let k = c .before .before .before .before .before .before .before .before .before .before .before .before .before in
+    let k = c .before .before .before .before .before .before .before .before .before .before .before .before .before .before in
     accepted (k .args .s .now) (k .args .shape) (k .pre)
     (refusal-is (k .args .s .now) (k .pre .framed)
     (zeros-hold (c .before .before .before .before .before .before .before .before .before .before))
@@ -144,9 +141,8 @@ pub check-framed-spec : {M : Type 1} → statement M
 check-framed-spec =
     tie.close
     (tie.spec
-    all-clean-requires
+    test-records-requires
     returns
-    all-in-code-requires
     returns-2
     all-named-requires
     returns-3

@@ -2,12 +2,14 @@
 use mathlib.Core.Path.{_≡_, refl, sym, ap, _∙_}
 use mathlib.Core.List.{List, [], _∷_}
 use Prim.Native.Nat.{ℕ}
+use native.Mathlib.Omega.{arith}
 use borrow.Author.Tests.{ne-eqb}
 use Rattle.records.specs.Lists.{all, caseOf}
 use Rattle.model.specs.ChartFile.{unusedVariable, unusedNode, unusedAreZero}
 use Rattle.model.specs.AutomataFile.{unusedLiteral, unusedUpdate}
 use Rattle.chart_files.proofs.ListLaws.{entry}
 use Rattle.chart_files.proofs.RecordLoops.{unused-one, unused-two}
+use Rattle.chart_files.proofs.UnusedWords.{joined}
 use borrow.Author.Needs.{needs}
 use Rattle.automata_files.proofs.unused.record_clean.Statement.{statement}
 use Rattle.automata_files.proofs.unused.record_clean.Tie as tie
@@ -28,29 +30,35 @@ table r =
 byte-at-requires : tie.Need-byte-at-requires
 byte-at-requires c κs = search needs
 
-zeros-requires : tie.Need-zeros-requires
-zeros-requires c κs = search needs
+byte-zero-requires : tie.Need-byte-zero-requires
+byte-zero-requires c κs = search needs
 
-zeros-requires-2 : tie.Need-zeros-requires-2
-zeros-requires-2 c κs = search needs
+from-four-zero-requires : tie.Need-from-four-zero-requires
+from-four-zero-requires c κs = search needs
 
-zeros-requires-3 : tie.Need-zeros-requires-3
-zeros-requires-3 c κs = search needs
+two-zero-requires : tie.Need-two-zero-requires
+two-zero-requires c κs = search needs
 
-zeros-requires-4 : tie.Need-zeros-requires-4
-zeros-requires-4 c κs = search needs
+from-four-zero-requires-2 : tie.Need-from-four-zero-requires-2
+from-four-zero-requires-2 c κs = search needs
+
+byte-zero-requires-2 : tie.Need-byte-zero-requires-2
+byte-zero-requires-2 c κs = search needs
+
+from-eight-zero-requires : tie.Need-from-eight-zero-requires
+from-eight-zero-requires c κs = search needs
 
 literal-clean-requires : tie.Need-literal-clean-requires
 literal-clean-requires c κs = search needs
 
-zeros-requires-5 : tie.Need-zeros-requires-5
-zeros-requires-5 c κs = search needs
+from-four-zero-requires-3 : tie.Need-from-four-zero-requires-3
+from-four-zero-requires-3 c κs = search needs
 
-zeros-requires-6 : tie.Need-zeros-requires-6
-zeros-requires-6 c κs = search needs
+byte-zero-requires-3 : tie.Need-byte-zero-requires-3
+byte-zero-requires-3 c κs = search needs
 
-zeros-requires-7 : tie.Need-zeros-requires-7
-zeros-requires-7 c κs = search needs
+from-eight-zero-requires-2 : tie.Need-from-eight-zero-requires-2
+from-eight-zero-requires-2 c κs = search needs
 
 node-clean-requires : tie.Need-node-clean-requires
 node-clean-requires c κs = search needs
@@ -58,29 +66,32 @@ node-clean-requires c κs = search needs
 update-clean-requires : tie.Need-update-clean-requires
 update-clean-requires c κs = search needs
 
-zeros-requires-8 : tie.Need-zeros-requires-8
-zeros-requires-8 c κs = search needs
+byte-zero-requires-4 : tie.Need-byte-zero-requires-4
+byte-zero-requires-4 c κs = search needs
 
-zeros-requires-9 : tie.Need-zeros-requires-9
-zeros-requires-9 c κs = search needs
+two-zero-requires-2 : tie.Need-two-zero-requires-2
+two-zero-requires-2 c κs = search needs
+
+from-eight-zero-requires-3 : tie.Need-from-eight-zero-requires-3
+from-eight-zero-requires-3 c κs = search needs
 
 returns : tie.Need-returns
 unfolding all caseOf
 returns c =
     let r = c .before .before .before .before .before .args .r .now in
-    unused-two r (1, 2) (4, 16) ((4, 16) ∷ []) (c .before .zeros .ensures) (c .zeros2 .ensures) refl ∙ ap (λ l. unusedAreZero l r) (entry (table r) [] 33 (c .before .before .match .keys1) (c .before .before .before .byte-at .ensures))
+    unused-two r (1, 2) (4, 16) ((4, 16) ∷ []) (c .before .byte-zero .ensures) (c .from-four-zero .ensures) refl ∙ ap (λ l. unusedAreZero l r) (entry (table r) [] 33 (c .before .before .match .keys1) (c .before .before .before .byte-at .ensures))
 
 returns-2 : tie.Need-returns-2
 unfolding all caseOf
 returns-2 c =
-    let r = c .before .before .before .before .args .r .now in
-    unused-one r (2, 16) [] (c .zeros3 .ensures) refl ∙ ap (λ l. unusedAreZero l r) (entry (table r) [] 34 (c .before .match .keys2) (c .before .before .byte-at .ensures))
+    let r = c .before .before .before .before .before .args .r .now in
+    unused-one r (2, 16) [] (joined r 2 4 16 (omega arith) (omega arith) (c .before .two-zero .ensures) (c .from-four-zero2 .ensures)) refl ∙ ap (λ l. unusedAreZero l r) (entry (table r) [] 34 (c .before .before .match .keys2) (c .before .before .before .byte-at .ensures))
 
 returns-3 : tie.Need-returns-3
 unfolding all caseOf
 returns-3 c =
-    let r = c .before .before .before .before .args .r .now in
-    unused-one r (7, 16) [] (c .zeros4 .ensures) refl ∙ ap (λ l. unusedAreZero l r) (entry (table r) [] 35 (c .before .match .keys3) (c .before .before .byte-at .ensures))
+    let r = c .before .before .before .before .before .args .r .now in
+    unused-one r (7, 16) [] (joined r 7 8 16 (omega arith) (omega arith) (c .before .byte-zero2 .ensures) (c .from-eight-zero .ensures)) refl ∙ ap (λ l. unusedAreZero l r) (entry (table r) [] 35 (c .before .before .match .keys3) (c .before .before .before .byte-at .ensures))
 
 returns-4 : tie.Need-returns-4
 unfolding all caseOf
@@ -92,13 +103,13 @@ returns-5 : tie.Need-returns-5
 unfolding all caseOf
 returns-5 c =
     let r = c .before .before .before .before .args .r .now in
-    unused-one r (4, 16) [] (c .zeros5 .ensures) refl ∙ ap (λ l. unusedAreZero l r) (entry (table r) [] 37 (c .before .match .keys5) (c .before .before .byte-at .ensures))
+    unused-one r (4, 16) [] (c .from-four-zero3 .ensures) refl ∙ ap (λ l. unusedAreZero l r) (entry (table r) [] 37 (c .before .match .keys5) (c .before .before .byte-at .ensures))
 
 returns-6 : tie.Need-returns-6
 unfolding all caseOf
 returns-6 c =
     let r = c .before .before .before .before .before .args .r .now in
-    unused-two r (1, 2) (8, 16) ((8, 16) ∷ []) (c .before .zeros6 .ensures) (c .zeros7 .ensures) refl ∙ ap (λ l. unusedAreZero l r) (entry (table r) [] 38 (c .before .before .match .keys6) (c .before .before .before .byte-at .ensures))
+    unused-two r (1, 2) (8, 16) ((8, 16) ∷ []) (c .before .byte-zero3 .ensures) (c .from-eight-zero2 .ensures) refl ∙ ap (λ l. unusedAreZero l r) (entry (table r) [] 38 (c .before .before .match .keys6) (c .before .before .before .byte-at .ensures))
 
 returns-7 : tie.Need-returns-7
 unfolding all caseOf
@@ -115,8 +126,8 @@ returns-8 c =
 returns-9 : tie.Need-returns-9
 unfolding all caseOf
 returns-9 c =
-    let r = c .before .before .before .before .before .args .r .now in
-    unused-two r (1, 2) (6, 16) ((6, 16) ∷ []) (c .before .zeros8 .ensures) (c .zeros9 .ensures) refl ∙ ap (λ l. unusedAreZero l r) (entry (table r) [] 41 (c .before .before .match .keys9) (c .before .before .before .byte-at .ensures))
+    let r = c .before .before .before .before .before .before .args .r .now in
+    unused-two r (1, 2) (6, 16) ((6, 16) ∷ []) (c .before .before .byte-zero4 .ensures) (joined r 6 8 16 (omega arith) (omega arith) (c .before .two-zero2 .ensures) (c .from-eight-zero3 .ensures)) refl ∙ ap (λ l. unusedAreZero l r) (entry (table r) [] 41 (c .before .before .before .match .keys9) (c .before .before .before .before .byte-at .ensures))
 
 returns-10 : tie.Need-returns-10
 unfolding all caseOf
@@ -133,18 +144,21 @@ record-clean-spec =
     tie.close
     (tie.spec
     byte-at-requires
-    zeros-requires
-    zeros-requires-2
-    zeros-requires-3
-    zeros-requires-4
+    byte-zero-requires
+    from-four-zero-requires
+    two-zero-requires
+    from-four-zero-requires-2
+    byte-zero-requires-2
+    from-eight-zero-requires
     literal-clean-requires
-    zeros-requires-5
-    zeros-requires-6
-    zeros-requires-7
+    from-four-zero-requires-3
+    byte-zero-requires-3
+    from-eight-zero-requires-2
     node-clean-requires
     update-clean-requires
-    zeros-requires-8
-    zeros-requires-9
+    byte-zero-requires-4
+    two-zero-requires-2
+    from-eight-zero-requires-3
     returns
     returns-2
     returns-3

@@ -21,11 +21,13 @@ deed-named-requires c κs = search needs
 
 returns : tie.Need-returns
 returns c =
-    let a = c .before .before .before .before .before .args in
+    let a = c .before .before .before .before .before .before .before .args in
+    let place = c .before .before .before .before .before .place-of .ensures in
+    let owner = c .before .before .before .before .owner-of .ensures in
+    let deed = c .before .before .deed-named .ensures ∙ ap (deedNamed (a .shape .variables) (a .shape .nodes)) (c .before .before .before .deed-of .ensures) in
     λ i.
-    not (eqb (c .before .before .before .place-of .ensures i) (a .place))
-    || (ltb (c .before .before .owner-of .ensures i) (a .owners)
-    && (c .deed-named .ensures ∙ ap (deedNamed (a .shape .variables) (a .shape .nodes)) (c .before .deed-of .ensures)) i)
+    (not (eqb (place i) 1 || eqb (place i) 2) || (ltb (owner i) (a .shape .states) && deed i))
+    && (not (eqb (place i) 3) || (ltb (owner i) (a .shape .transitions) && deed i))
 
 pub action-named-spec : {M : Type 1} → statement M
 action-named-spec =

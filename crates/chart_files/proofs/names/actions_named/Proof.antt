@@ -9,13 +9,13 @@ use Rattle.chart_files.proofs.names.actions_named.Statement.{statement}
 use Rattle.chart_files.proofs.names.actions_named.Tie as tie
 
 abbrev Inv-loop : tie.InvT-loop
-Inv-loop s shape place owners i₀ i = Passed (actionNamed s shape place owners) (shape .actions) i
+Inv-loop s shape i₀ i = Passed (actionNamed s shape) (shape .actions) i
 
 abbrev μ-loop : tie.MeasureT-loop
-μ-loop s shape place owners i₀ i = shape .actions - i
+μ-loop s shape i₀ i = shape .actions - i
 
 loop-holds : tie.Need-loop-holds Inv-loop μ-loop
-loop-holds c = let a = c .before .args in passed-none (actionNamed (a .s .now) (a .shape) (a .place) (a .owners)) (a .shape .actions)
+loop-holds c = let a = c .before .args in passed-none (actionNamed (a .s .now) (a .shape)) (a .shape .actions)
 
 action-named-requires : tie.Need-action-named-requires Inv-loop μ-loop
 action-named-requires c κs = search needs
@@ -24,7 +24,7 @@ returns : tie.Need-returns Inv-loop μ-loop
 returns c =
     let a = c .before .before .before .before .before .before .args in
     let l = c .before .before .before .before .loop in
-    sym (passed-not (actionNamed (a .s .now) (a .shape) (a .place) (a .owners)) (a .shape .actions) (l .i) (l .inv) (c .before .before .if1 .taken) (sym (c .before .action-named .ensures) ∙ not-true _ (c .if2 .taken)))
+    sym (passed-not (actionNamed (a .s .now) (a .shape)) (a .shape .actions) (l .i) (l .inv) (c .before .before .if1 .taken) (sym (c .before .action-named .ensures) ∙ not-true _ (c .if2 .taken)))
 
 add-i : tie.Need-add-i Inv-loop μ-loop
 add-i c = search needs
@@ -36,13 +36,13 @@ loop-again : tie.Need-loop-again Inv-loop μ-loop
 loop-again c =
     let a = c .before .before .before .before .before .before .args in
     let l = c .before .before .before .before .loop in
-    passed-more (actionNamed (a .s .now) (a .shape) (a .place) (a .owners)) (a .shape .actions) (l .i) (l .inv) (c .before .before .if1 .taken) (sym (c .before .action-named .ensures) ∙ not-false _ (c .if2 .left))
+    passed-more (actionNamed (a .s .now) (a .shape)) (a .shape .actions) (l .i) (l .inv) (c .before .before .if1 .taken) (sym (c .before .action-named .ensures) ∙ not-false _ (c .if2 .left))
 
 returns-2 : tie.Need-returns-2 Inv-loop μ-loop
 returns-2 c =
     let a = c .before .before .before .before .args in
     let l = c .before .before .loop in
-    sym (passed-all (actionNamed (a .s .now) (a .shape) (a .place) (a .owners)) (a .shape .actions) (l .i) (l .inv) (c .if1 .left))
+    sym (passed-all (actionNamed (a .s .now) (a .shape)) (a .shape .actions) (l .i) (l .inv) (c .if1 .left))
 
 pub actions-named-spec : {M : Type 1} → statement M
 actions-named-spec =

@@ -26,24 +26,16 @@ nodes-named-requires c κs = search needs
 actions-named-requires : tie.Need-actions-named-requires
 actions-named-requires c κs = search needs
 
-actions-named-requires-2 : tie.Need-actions-named-requires-2
-actions-named-requires-2 c κs = search needs
-
-actions-named-requires-3 : tie.Need-actions-named-requires-3
-actions-named-requires-3 c κs = search needs
-
 returns : tie.Need-returns
 returns c =
-    let k = c .before .before .before .before .before .before .before .before .before in
+    let k = c .before .before .before .before .before .before .before in
     let sh = k .args .shape in
     (λ i.
-    c .before .before .before .before .before .before .before .initials-named .ensures i
-    && c .before .before .before .before .before .before .homes-named .ensures i
-    && c .before .before .before .before .before .transitions-named .ensures i
-    && (c .before .before .before .nodes-named .ensures ∙ ap (λ l. nodesNamed (nodeAt l) (sh .nodes) (sh .variables)) (c .before .before .before .before .node-records .ensures)) i
-    && c .before .before .actions-named .ensures i
-    && c .before .actions-named2 .ensures i
-    && c .actions-named3 .ensures i)
+    c .before .before .before .before .before .initials-named .ensures i
+    && c .before .before .before .before .homes-named .ensures i
+    && c .before .before .before .transitions-named .ensures i
+    && (c .before .nodes-named .ensures ∙ ap (λ l. nodesNamed (nodeAt l) (sh .nodes) (sh .variables)) (c .before .before .node-records .ensures)) i
+    && c .actions-named .ensures i)
     ∙ sym (named-is (k .args .s .now) sh (k .pre))
 
 pub all-named-spec : {M : Type 1} → statement M
@@ -56,6 +48,4 @@ all-named-spec =
     node-records-requires
     nodes-named-requires
     actions-named-requires
-    actions-named-requires-2
-    actions-named-requires-3
     returns)

@@ -10,40 +10,40 @@ use Rattle.chart_files.proofs.structure.all_apart.Statement.{statement}
 use Rattle.chart_files.proofs.structure.all_apart.Tie as tie
 
 abbrev Inv-loop : tie.InvT-loop
-Inv-loop s shape state n t₀ t = Passed (apart s shape state) (shape .transitions) t
+Inv-loop s shape initial n t₀ t = Passed (apart s shape initial) (shape .transitions) t
 
 abbrev μ-loop : tie.MeasureT-loop
-μ-loop s shape state n t₀ t = shape .transitions - t
+μ-loop s shape initial n t₀ t = shape .transitions - t
 
 loop-holds : tie.Need-loop-holds Inv-loop μ-loop
-loop-holds c = let a = c .before .args in passed-none (apart (now (a .s)) (a .shape) (a .state)) (a .shape .transitions)
+loop-holds c = let a = c .before .before .args in passed-none (apart (now (a .s)) (a .shape) (now (a .initial))) (a .shape .transitions)
 
 kept-apart-requires : tie.Need-kept-apart-requires Inv-loop μ-loop
 kept-apart-requires c κs = tt
 
 returns : tie.Need-returns Inv-loop μ-loop
 returns c =
-    let a = c .before .before .before .before .before .args in
+    let a = c .before .before .before .before .before .before .args in
     let l = c .before .before .before .loop in
     sym
-    (passed-not (apart (now (a .s)) (a .shape) (a .state)) (a .shape .transitions) (l .t) (l .inv) (c .before .before .loop-test .taken) (sym (c .before .kept-apart .ensures) ∙ not-true _ (c .if1 .taken)))
+    (passed-not (apart (now (a .s)) (a .shape) (now (a .initial))) (a .shape .transitions) (l .t) (l .inv) (c .before .before .loop-test .taken) (sym (c .before .kept-apart .ensures) ∙ not-true _ (c .if1 .taken)))
 
 add-t : tie.Need-add-t Inv-loop μ-loop
-add-t c = omega (arith, c .before .before .before .before .before .good)
+add-t c = omega (arith, c .before .before .before .before .before .before .good)
 
 loop-less : tie.Need-loop-less Inv-loop μ-loop
 loop-less c = omega arith
 
 loop-again : tie.Need-loop-again Inv-loop μ-loop
 loop-again c =
-    let a = c .before .before .before .before .before .args in
+    let a = c .before .before .before .before .before .before .args in
     let l = c .before .before .before .loop in
-    passed-more (apart (now (a .s)) (a .shape) (a .state)) (a .shape .transitions) (l .t) (l .inv) (c .before .before .loop-test .taken) (sym (c .before .kept-apart .ensures) ∙ not-false _ (c .if1 .left))
+    passed-more (apart (now (a .s)) (a .shape) (now (a .initial))) (a .shape .transitions) (l .t) (l .inv) (c .before .before .loop-test .taken) (sym (c .before .kept-apart .ensures) ∙ not-false _ (c .if1 .left))
 
 returns-2 : tie.Need-returns-2 Inv-loop μ-loop
 returns-2 c =
-    let a = c .before .before .before .args in
-    sym (passed-all (apart (now (a .s)) (a .shape) (a .state)) (a .shape .transitions) (c .before .loop .t) (c .before .loop .inv) (c .loop-test .left))
+    let a = c .before .before .before .before .args in
+    sym (passed-all (apart (now (a .s)) (a .shape) (now (a .initial))) (a .shape .transitions) (c .before .loop .t) (c .before .loop .inv) (c .loop-test .left))
 
 pub all-apart-spec : {M : Type 1} → statement M
 all-apart-spec = tie.close (tie.spec Inv-loop μ-loop loop-holds kept-apart-requires returns add-t loop-less loop-again returns-2)

@@ -1,50 +1,68 @@
--- `structure::initials_fit` meets its contract: the invariant is that the charts below `c` passed. Assumes nothing.
-use mathlib.Core.Path.{sym, _∙_}
-use Prim.Native.Nat.{_-_}
-use native.Mathlib.Omega.{arith}
-use borrow.Author.Tests.{not-true, not-false}
+-- `structure::initials_fit` meets its contract: the tests of all charts at once, by the two counts. Assumes nothing.
+use mathlib.Core.Path.{sym, ap, _∙_}
+use mathlib.Core.Bool.{_&&_}
+use borrow.Author.Needs.{needs}
 use denote.Ref.{now}
-use Rattle.expressions.proofs.Loops.{Passed, passed-none, passed-more, passed-all, passed-not}
-use Rattle.model.specs.ChartSet.{readCharts}
-use Rattle.model.specs.ChartFile.{initialFits}
+use Rattle.records.specs.Lists.{all, upto}
+use Rattle.chart_files.specs.Structure.{apart, idle, leftOnce}
+use Rattle.chart_files.proofs.Structures.{initials-is}
 use Rattle.chart_files.proofs.structure.initials_fit.Statement.{statement}
 use Rattle.chart_files.proofs.structure.initials_fit.Tie as tie
 
-abbrev Inv-loop : tie.InvT-loop
-Inv-loop s shape n c₀ c = Passed (initialFits (readCharts s)) (shape .charts) c
+slice-aggregate-count-initials : tie.Need-slice-aggregate-count-initials
+slice-aggregate-count-initials c = search needs
 
-abbrev μ-loop : tie.MeasureT-loop
-μ-loop s shape n c₀ c = shape .charts - c
+count-initials-requires : tie.Need-count-initials-requires
+count-initials-requires c κs = search needs
 
-loop-holds : tie.Need-loop-holds Inv-loop μ-loop
-loop-holds c = let a = c .before .args in passed-none (initialFits (readCharts (now (a .s)))) (a .shape .charts)
+slice-aggregate-count-sources : tie.Need-slice-aggregate-count-sources
+slice-aggregate-count-sources c = search needs
 
-initial-fits-requires : tie.Need-initial-fits-requires Inv-loop μ-loop
-initial-fits-requires c κs = (c .before .before .before .pre, c .loop-test .taken)
+count-sources-requires : tie.Need-count-sources-requires
+count-sources-requires c κs = search needs
 
-returns : tie.Need-returns Inv-loop μ-loop
+slice-aggregate-all-left-once : tie.Need-slice-aggregate-all-left-once
+slice-aggregate-all-left-once c = search needs
+
+all-left-once-requires : tie.Need-all-left-once-requires
+all-left-once-requires c κs = search needs
+
+slice-aggregate-all-apart : tie.Need-slice-aggregate-all-apart
+slice-aggregate-all-apart c = search needs
+
+all-apart-requires : tie.Need-all-apart-requires
+all-apart-requires c κs = search needs
+
+slice-aggregate-all-idle : tie.Need-slice-aggregate-all-idle
+slice-aggregate-all-idle c = search needs
+
+all-idle-requires : tie.Need-all-idle-requires
+all-idle-requires c κs = search needs
+
+returns : tie.Need-returns
 returns c =
-    let a = c .before .before .before .before .before .args in
-    let l = c .before .before .before .loop in
-    sym
-    (passed-not (initialFits (readCharts (now (a .s)))) (a .shape .charts) (l .c) (l .inv) (c .before .before .loop-test .taken) (sym (c .before .initial-fits .ensures) ∙ not-true _ (c .if1 .taken)))
-
-add-c : tie.Need-add-c Inv-loop μ-loop
-add-c c = omega (arith, c .before .before .before .before .before .good)
-
-loop-less : tie.Need-loop-less Inv-loop μ-loop
-loop-less c = omega arith
-
-loop-again : tie.Need-loop-again Inv-loop μ-loop
-loop-again c =
-    let a = c .before .before .before .before .before .args in
-    let l = c .before .before .before .loop in
-    passed-more (initialFits (readCharts (now (a .s)))) (a .shape .charts) (l .c) (l .inv) (c .before .before .loop-test .taken) (sym (c .before .initial-fits .ensures) ∙ not-false _ (c .if1 .left))
-
-returns-2 : tie.Need-returns-2 Inv-loop μ-loop
-returns-2 c =
-    let a = c .before .before .before .args in
-    sym (passed-all (initialFits (readCharts (now (a .s)))) (a .shape .charts) (c .before .loop .c) (c .before .loop .inv) (c .loop-test .left))
+    let b = c .before .before .before .before .before .before .before .before .before .before .before .before .before in
+    let s = now (b .args .s) in
+    let sh = b .args .shape in
+    let initial = c .before .before .before .before .before .before .before .before .before .before .count-initials .ensures in
+    let left = c .before .before .before .before .before .before .before .count-sources .ensures in
+    (λ j. (c .before .before .before .before .all-left-once .ensures ∙ ap (λ l. all (leftOnce s sh l) (upto (sh .charts))) left) j
+    && (c .before .before .all-apart .ensures ∙ ap (λ l. all (apart s sh l) (upto (sh .transitions))) initial) j
+    && (c .all-idle .ensures ∙ ap (λ l. all (idle s sh l) (upto (sh .actions))) initial) j)
+    ∙ sym (initials-is s sh (b .pre .0) (b .pre .1))
 
 pub initials-fit-spec : {M : Type 1} → statement M
-initials-fit-spec = tie.close (tie.spec Inv-loop μ-loop loop-holds initial-fits-requires returns add-c loop-less loop-again returns-2)
+initials-fit-spec =
+    tie.close
+    (tie.spec
+    slice-aggregate-count-initials
+    count-initials-requires
+    slice-aggregate-count-sources
+    count-sources-requires
+    slice-aggregate-all-left-once
+    all-left-once-requires
+    slice-aggregate-all-apart
+    all-apart-requires
+    slice-aggregate-all-idle
+    all-idle-requires
+    returns)

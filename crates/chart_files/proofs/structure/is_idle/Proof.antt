@@ -1,7 +1,10 @@
 -- `structure::is_idle` meets its contract. Assumes nothing.
-use mathlib.Core.Bool.{not, _&&_}
+use mathlib.Core.Path.{ap, _∙_}
+use mathlib.Core.Bool.{not, _&&_, _||_}
 use borrow.Author.Needs.{needs}
+use denote.Ref.{now}
 use lib.Dec.{leb, eqb}
+use lib.ListN.{getD}
 use Rattle.chart_files.proofs.structure.is_idle.Statement.{statement}
 use Rattle.chart_files.proofs.structure.is_idle.Tie as tie
 
@@ -11,8 +14,18 @@ place-of-requires c κs = search needs
 owner-of-requires : tie.Need-owner-of-requires
 owner-of-requires c κs = search needs
 
+cast-byte-at : tie.Need-cast-byte-at
+cast-byte-at c = search needs
+
+byte-at-requires : tie.Need-byte-at-requires
+byte-at-requires c κs = search needs
+
 returns : tie.Need-returns
-returns c = λ j. not ((leb 1 (c .before .place-of .ensures j) && leb (c .before .place-of .ensures j) 2) && eqb (c .owner-of .ensures j) (c .before .before .before .args .state))
+returns c =
+    let initial = now (c .before .before .before .before .before .args .initial) in
+    let owner = c .byte-at .ensures ∙ ap (λ n. getD initial n 0) (c .before .owner-of .ensures) in
+    let place = c .before .before .place-of .ensures in
+    λ j. eqb (owner j) 0 || not (leb 1 (place j) && leb (place j) 2)
 
 pub is-idle-spec : {M : Type 1} → statement M
-is-idle-spec = tie.close (tie.spec place-of-requires owner-of-requires returns)
+is-idle-spec = tie.close (tie.spec place-of-requires owner-of-requires cast-byte-at byte-at-requires returns)

@@ -14,19 +14,16 @@ use Rattle.chart_files.proofs.structure.owners_within.Statement.{statem
 use Rattle.chart_files.proofs.structure.owners_within.Tie as tie
 
 abbrev Inv-loop : tie.InvT-loop
-Inv-loop s shape low high counts₀ n i₀ counts i = Tallied 8 (ownerAt s shape low high) (shape .actions) counts₀ counts i
+Inv-loop s shape counts₀ n i₀ counts i = Tallied 8 (ownerAt s shape) (shape .actions) counts₀ counts i
 
 abbrev μ-loop : tie.MeasureT-loop
-μ-loop s shape low high counts₀ n i₀ counts i = shape .actions - i
+μ-loop s shape counts₀ n i₀ counts i = shape .actions - i
 
 loop-holds : tie.Need-loop-holds Inv-loop μ-loop
-loop-holds c = let a = c .before .before .args in tallied-none 8 (ownerAt (now (a .s)) (a .shape) (a .low) (a .high)) (a .shape .actions) (now (a .counts))
+loop-holds c = let a = c .before .before .args in tallied-none 8 (ownerAt (now (a .s)) (a .shape)) (a .shape .actions) (now (a .counts))
 
 owner-at-requires : tie.Need-owner-at-requires Inv-loop μ-loop
 owner-at-requires c κs = tt
-
-cast-count-within : tie.Need-cast-count-within Inv-loop μ-loop
-cast-count-within c = search needs
 
 count-within-requires : tie.Need-count-within-requires Inv-loop μ-loop
 count-within-requires c κs = omega arith
@@ -40,7 +37,7 @@ returns c =
     let l = c .before .before .before .before .before .before .before .loop in
     let f = c .before .before .before .count-within .ensures .0 in
     sym
-    (tallied-not 8 (ownerAt (now (a .s)) (a .shape) (a .low) (a .high)) (a .shape .actions) (now (a .counts)) (l .counts) (l .i) (l .inv) (c .before .before .before .before .before .before .loop-test .taken)
+    (tallied-not 8 (ownerAt (now (a .s)) (a .shape)) (a .shape .actions) (now (a .counts)) (l .counts) (l .i) (l .inv) (c .before .before .before .before .before .before .loop-test .taken)
     (ap (λ k. ltb (getD (l .counts) k 0) 8) (sym (c .before .before .before .before .owner-at .ensures)) ∙ sym f ∙ not-true _ (c .if1 .taken)))
 
 add-i : tie.Need-add-i Inv-loop μ-loop
@@ -56,7 +53,7 @@ loop-again c =
     let f = c .before .before .before .count-within .ensures in
     let k = c .before .before .before .before .owner-at .ensures in
     let t = not-false _ (c .if1 .left) in
-    tallied-more 8 (ownerAt (now (a .s)) (a .shape) (a .low) (a .high)) (a .shape .actions) (now (a .counts)) (l .counts) _ (l .i) (l .inv) (c .before .before .before .before .before .before .loop-test .taken)
+    tallied-more 8 (ownerAt (now (a .s)) (a .shape)) (a .shape .actions) (now (a .counts)) (l .counts) _ (l .i) (l .inv) (c .before .before .before .before .before .before .loop-test .taken)
     (ap (λ k. ltb (getD (l .counts) k 0) 8) (sym k) ∙ sym (f .0) ∙ t)
     (f .1 t ∙ ap (addOne (l .counts)) k)
 
@@ -67,7 +64,7 @@ returns-2 : tie.Need-returns-2 Inv-loop μ-loop
 returns-2 c =
     let a = c .before .before .before .before .args in
     let l = c .before .loop in
-    sym (tallied-all 8 (ownerAt (now (a .s)) (a .shape) (a .low) (a .high)) (a .shape .actions) (now (a .counts)) (l .counts) (l .i) (l .inv) (c .loop-test .left))
+    sym (tallied-all 8 (ownerAt (now (a .s)) (a .shape)) (a .shape .actions) (now (a .counts)) (l .counts) (l .i) (l .inv) (c .loop-test .left))
 
 pub owners-within-spec : {M : Type 1} → statement M
-owners-within-spec = tie.close (tie.spec Inv-loop μ-loop loop-holds owner-at-requires cast-count-within count-within-requires same-length returns add-i loop-less loop-again same-length-2 returns-2)
+owners-within-spec = tie.close (tie.spec Inv-loop μ-loop loop-holds owner-at-requires count-within-requires same-length returns add-i loop-less loop-again same-length-2 returns-2)

@@ -2,11 +2,13 @@
 use mathlib.Core.Path.{_≡_, refl, sym, ap, _∙_}
 use mathlib.Core.List.{List, [], _∷_}
 use Prim.Native.Nat.{ℕ}
+use native.Mathlib.Omega.{arith}
 use borrow.Author.Tests.{ne-eqb}
 use Rattle.records.specs.Lists.{all, caseOf}
 use Rattle.model.specs.ChartFile.{unusedTransition, unusedVariable, unusedNode, unusedAction, unusedAreZero}
 use Rattle.chart_files.proofs.ListLaws.{entry}
 use Rattle.chart_files.proofs.RecordLoops.{unused-one, unused-two}
+use Rattle.chart_files.proofs.UnusedWords.{joined}
 use borrow.Author.Needs.{needs}
 use Rattle.chart_files.proofs.unused.record_clean.Statement.{statement}
 use Rattle.chart_files.proofs.unused.record_clean.Tie as tie
@@ -24,23 +26,26 @@ table r =
 byte-at-requires : tie.Need-byte-at-requires
 byte-at-requires c κs = search needs
 
-zeros-requires : tie.Need-zeros-requires
-zeros-requires c κs = search needs
+byte-zero-requires : tie.Need-byte-zero-requires
+byte-zero-requires c κs = search needs
 
-zeros-requires-2 : tie.Need-zeros-requires-2
-zeros-requires-2 c κs = search needs
+from-four-zero-requires : tie.Need-from-four-zero-requires
+from-four-zero-requires c κs = search needs
 
-zeros-requires-3 : tie.Need-zeros-requires-3
-zeros-requires-3 c κs = search needs
+two-zero-requires : tie.Need-two-zero-requires
+two-zero-requires c κs = search needs
+
+from-four-zero-requires-2 : tie.Need-from-four-zero-requires-2
+from-four-zero-requires-2 c κs = search needs
 
 transition-clean-requires : tie.Need-transition-clean-requires
 transition-clean-requires c κs = search needs
 
-zeros-requires-4 : tie.Need-zeros-requires-4
-zeros-requires-4 c κs = search needs
+byte-zero-requires-2 : tie.Need-byte-zero-requires-2
+byte-zero-requires-2 c κs = search needs
 
-zeros-requires-5 : tie.Need-zeros-requires-5
-zeros-requires-5 c κs = search needs
+from-eight-zero-requires : tie.Need-from-eight-zero-requires
+from-eight-zero-requires c κs = search needs
 
 node-clean-requires : tie.Need-node-clean-requires
 node-clean-requires c κs = search needs
@@ -52,13 +57,13 @@ returns : tie.Need-returns
 unfolding all caseOf
 returns c =
     let r = c .before .before .before .before .before .args .r .now in
-    unused-two r (1, 2) (4, 16) ((4, 16) ∷ []) (c .before .zeros .ensures) (c .zeros2 .ensures) refl ∙ ap (λ l. unusedAreZero l r) (entry (table r) [] 1 (c .before .before .match .keys1) (c .before .before .before .byte-at .ensures))
+    unused-two r (1, 2) (4, 16) ((4, 16) ∷ []) (c .before .byte-zero .ensures) (c .from-four-zero .ensures) refl ∙ ap (λ l. unusedAreZero l r) (entry (table r) [] 1 (c .before .before .match .keys1) (c .before .before .before .byte-at .ensures))
 
 returns-2 : tie.Need-returns-2
 unfolding all caseOf
 returns-2 c =
-    let r = c .before .before .before .before .args .r .now in
-    unused-one r (2, 16) [] (c .zeros3 .ensures) refl ∙ ap (λ l. unusedAreZero l r) (entry (table r) [] 2 (c .before .match .keys2) (c .before .before .byte-at .ensures))
+    let r = c .before .before .before .before .before .args .r .now in
+    unused-one r (2, 16) [] (joined r 2 4 16 (omega arith) (omega arith) (c .before .two-zero .ensures) (c .from-four-zero2 .ensures)) refl ∙ ap (λ l. unusedAreZero l r) (entry (table r) [] 2 (c .before .before .match .keys2) (c .before .before .before .byte-at .ensures))
 
 returns-3 : tie.Need-returns-3
 unfolding all caseOf
@@ -70,7 +75,7 @@ returns-4 : tie.Need-returns-4
 unfolding all caseOf
 returns-4 c =
     let r = c .before .before .before .before .before .args .r .now in
-    unused-two r (1, 2) (8, 16) ((8, 16) ∷ []) (c .before .zeros4 .ensures) (c .zeros5 .ensures) refl ∙ ap (λ l. unusedAreZero l r) (entry (table r) [] 4 (c .before .before .match .keys4) (c .before .before .before .byte-at .ensures))
+    unused-two r (1, 2) (8, 16) ((8, 16) ∷ []) (c .before .byte-zero2 .ensures) (c .from-eight-zero .ensures) refl ∙ ap (λ l. unusedAreZero l r) (entry (table r) [] 4 (c .before .before .match .keys4) (c .before .before .before .byte-at .ensures))
 
 returns-5 : tie.Need-returns-5
 unfolding all caseOf
@@ -97,12 +102,13 @@ record-clean-spec =
     tie.close
     (tie.spec
     byte-at-requires
-    zeros-requires
-    zeros-requires-2
-    zeros-requires-3
+    byte-zero-requires
+    from-four-zero-requires
+    two-zero-requires
+    from-four-zero-requires-2
     transition-clean-requires
-    zeros-requires-4
-    zeros-requires-5
+    byte-zero-requires-2
+    from-eight-zero-requires
     node-clean-requires
     action-clean-requires
     returns

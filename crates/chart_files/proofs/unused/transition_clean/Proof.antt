@@ -1,81 +1,31 @@
--- `unused::transition_clean` meets its contract: each arm is the table's entry of its code. Assumes nothing.
-use mathlib.Core.Path.{_≡_, refl, sym, _∙_}
-use mathlib.Core.List.{List, [], _∷_}
-use Prim.Native.Nat.{ℕ}
-use borrow.Author.Tests.{ne-eqb}
-use Rattle.records.specs.Lists.{caseOf}
+-- `unused::transition_clean` meets its contract, by the code. Assumes nothing.
+use mathlib.Core.Path.{_∙_}
+use mathlib.Core.Bool.{_&&_, _||_}
+use lib.Dec.{leb, ltb, eqb}
 use Rattle.records.specs.Bytes.{byte}
-use Rattle.chart_files.proofs.ListLaws.{entry}
-use Rattle.chart_files.proofs.RecordLoops.{unused-one, unused-two}
+use Rattle.chart_files.proofs.UnusedWords.{transition-unused}
 use borrow.Author.Needs.{needs}
 use Rattle.chart_files.proofs.unused.transition_clean.Statement.{statement}
 use Rattle.chart_files.proofs.unused.transition_clean.Tie as tie
 
-abbrev table : List (ℕ × List (ℕ × ℕ))
-table = (0, (7, 12) ∷ []) ∷ (1, (8, 12) ∷ []) ∷ (2, (7, 8) ∷ []) ∷ (3, (7, 8) ∷ []) ∷ []
-
-zeros-requires : tie.Need-zeros-requires
-zeros-requires c κs = search needs
-
 byte-at-requires : tie.Need-byte-at-requires
 byte-at-requires c κs = search needs
 
-zeros-requires-2 : tie.Need-zeros-requires-2
-zeros-requires-2 c κs = search needs
+byte-zero-requires : tie.Need-byte-zero-requires
+byte-zero-requires c κs = search needs
 
-zeros-requires-3 : tie.Need-zeros-requires-3
-zeros-requires-3 c κs = search needs
+four-zero-requires : tie.Need-four-zero-requires
+four-zero-requires c κs = search needs
 
-zeros-requires-4 : tie.Need-zeros-requires-4
-zeros-requires-4 c κs = search needs
-
-zeros-requires-5 : tie.Need-zeros-requires-5
-zeros-requires-5 c κs = search needs
+two-zero-requires : tie.Need-two-zero-requires
+two-zero-requires c κs = search needs
 
 returns : tie.Need-returns
-unfolding caseOf
 returns c =
     let r = c .before .before .before .before .before .args .r .now in
-    unused-two r (14, 16) (7, 12) (caseOf (byte r 6) table []) (c .before .before .before .zeros .ensures) (c .zeros2 .ensures) (entry table [] 0 (c .before .match .keys1) (c .before .before .byte-at .ensures))
-
-returns-2 : tie.Need-returns-2
-unfolding caseOf
-returns-2 c =
-    let r = c .before .before .before .before .before .args .r .now in
-    unused-two r (14, 16) (8, 12) (caseOf (byte r 6) table []) (c .before .before .before .zeros .ensures) (c .zeros3 .ensures) (entry table [] 1 (c .before .match .keys2) (c .before .before .byte-at .ensures))
-
-returns-3 : tie.Need-returns-3
-unfolding caseOf
-returns-3 c =
-    let r = c .before .before .before .before .before .args .r .now in
-    unused-two r (14, 16) (7, 8) (caseOf (byte r 6) table []) (c .before .before .before .zeros .ensures) (c .zeros4 .ensures) (entry table [] 2 (c .before .match .keys3) (c .before .before .byte-at .ensures))
-
-returns-4 : tie.Need-returns-4
-unfolding caseOf
-returns-4 c =
-    let r = c .before .before .before .before .before .args .r .now in
-    unused-two r (14, 16) (7, 8) (caseOf (byte r 6) table []) (c .before .before .before .zeros .ensures) (c .zeros5 .ensures) (entry table [] 3 (c .before .match .keys4) (c .before .before .byte-at .ensures))
-
-returns-5 : tie.Need-returns-5
-unfolding caseOf
-returns-5 c =
-    let r = c .before .before .before .before .args .r .now in
-    let k = c .before .byte-at .result in
-    let none : caseOf k table [] ≡ [] = rw (ne-eqb k 0 (c .match .rest .0 .0 .0 .1), ne-eqb k 1 (c .match .rest .0 .0 .1), ne-eqb k 2 (c .match .rest .0 .1), ne-eqb k 3 (c .match .rest .1)) in
-    unused-one r (14, 16) (caseOf (byte r 6) table []) (c .before .before .zeros .ensures) (sym none ∙ entry table [] k refl (c .before .byte-at .ensures))
+    let code = c .before .before .before .byte-at .ensures in
+    (λ i. c .two-zero .ensures i && ((eqb (code i) 1 || ltb 3 (code i) || c .before .before .byte-zero .ensures i) && (leb 2 (code i) || c .before .four-zero .ensures i)))
+    ∙ transition-unused r (byte r 6)
 
 pub transition-clean-spec : {M : Type 1} → statement M
-transition-clean-spec =
-    tie.close
-    (tie.spec
-    zeros-requires
-    byte-at-requires
-    zeros-requires-2
-    zeros-requires-3
-    zeros-requires-4
-    zeros-requires-5
-    returns
-    returns-2
-    returns-3
-    returns-4
-    returns-5)
+transition-clean-spec = tie.close (tie.spec byte-at-requires byte-zero-requires four-zero-requires two-zero-requires returns)

@@ -1,0 +1,52 @@
+-- `structure::owners_act` meets its contract: the places that are lent are empty. Assumes nothing.
+use mathlib.Core.Path.{sym, ap, _∙_}
+use mathlib.Core.List.{map}
+use Prim.Native.Nat.{_+_}
+use native.Mathlib.Omega.{arith}
+use borrow.Author.Needs.{needs}
+use denote.Ref.{now}
+use Rattle.records.specs.Lists.{upto}
+use Rattle.chart_files.specs.Tallies.{within}
+use Rattle.chart_files.specs.Structure.{ownerAt}
+use Rattle.chart_files.proofs.Readings.{most-states, most-transitions}
+use Rattle.chart_files.proofs.NameLaws.{actions-known}
+use Rattle.chart_files.proofs.Structures.{owners-is}
+use Rattle.chart_files.proofs.Tallies.{take-zeros, length-zeros}
+use Rattle.chart_files.proofs.structure.owners_act.Statement.{statement}
+use Rattle.chart_files.proofs.structure.owners_act.Tie as tie
+
+cast-n : tie.Need-cast-n
+cast-n c = search needs
+
+cast-n-2 : tie.Need-cast-n-2
+cast-n-2 c = search needs
+
+add-n : tie.Need-add-n
+add-n c = search needs
+
+array-borrow-prefix-counts : tie.Need-array-borrow-prefix-counts
+array-borrow-prefix-counts c =
+    let b = c .before .before .before in
+    omega (arith, most-states (now (b .args .s)) (b .args .shape) (b .pre .0), most-transitions (now (b .args .s)) (b .args .shape) (b .pre .0))
+
+slice-aggregate-owners-within : tie.Need-slice-aggregate-owners-within
+slice-aggregate-owners-within c =
+    let b = c .before .before .before .before in
+    length-zeros (b .args .shape .states + b .args .shape .transitions) 384
+    (omega (arith, most-states (now (b .args .s)) (b .args .shape) (b .pre .0), most-transitions (now (b .args .s)) (b .args .shape) (b .pre .0)))
+
+owners-within-requires : tie.Need-owners-within-requires
+owners-within-requires c κs = search needs
+
+returns : tie.Need-returns
+returns c =
+    let b = c .before .before .before .before .before .before in
+    let s = now (b .args .s) in
+    let sh = b .args .shape in
+    c .before .owners-within .ensures
+    ∙ ap (λ l. within 8 l (map (ownerAt s sh) (upto (sh .actions))))
+    (take-zeros (sh .states + sh .transitions) 384 (omega (arith, most-states s sh (b .pre .0), most-transitions s sh (b .pre .0))))
+    ∙ sym (owners-is s sh (b .pre .0) (b .pre .1) (actions-known s sh (b .pre .0) (b .pre .2)))
+
+pub owners-act-spec : {M : Type 1} → statement M
+owners-act-spec = tie.close (tie.spec cast-n cast-n-2 add-n array-borrow-prefix-counts slice-aggregate-owners-within owners-within-requires returns)
