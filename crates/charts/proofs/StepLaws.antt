@@ -4,17 +4,18 @@ use mathlib.Core.Logic.{inl, inr}
 use mathlib.Core.Bool.{Bool, true, false, cond}
 use mathlib.Core.Option.{some, none}
 use mathlib.Core.List.{List, [], _∷_, _++_, map}
-use Prim.Native.Nat.{ℕ, _+_, _-_, _≤_, _<_}
+use Prim.Native.Nat.{ℕ, zero, suc, _+_, _-_, _≤_, _<_}
 use native.Mathlib.Nat.{sub-zero}
 use native.Mathlib.Omega.{arith}
 use borrow.Author.Tests.{eq-eqb, ne-eqb}
 use lib.Dec.{eqb}
+use lib.IntN.{ℤ}
 use lib.ListN.{length}
 use Rattle.records.specs.Lists.{keep, gather, from, upto, sorted, caseOf}
 use Rattle.records.specs.Refusal.{Refusal, Out, val, fault, _>>=_, choose}
 use Rattle.expressions.proofs.Loops.{left-more, left-none}
 use Rattle.model.specs.Owned.{of}
-use Rattle.model.specs.Runs.{World, Run, Answer, taken, deeds}
+use Rattle.model.specs.Runs.{World, Run, Answer, taken, idle, deeds}
 use Rattle.model.specs.ChartSet.{ChartSet, readActions, readCharts, transition}
 use Rattle.model.specs.Charts.{row, firstThat, acted, follow}
 use Rattle.chart_files.specs.declared.Shape.{Shape}
@@ -22,7 +23,11 @@ use Rattle.chart_files.specs.Places.{transitionAt, actionAt}
 use Rattle.chart_files.proofs.Readings.{transition-is, length-transitions, most-states, most-transitions}
 use Rattle.charts.specs.Accepted.{Accepted}
 use Rattle.charts.specs.Tables.{earliest, named, leaves, keyed}
-use Rattle.charts.specs.StepOf.{slotHolds, entered}
+use Rattle.charts.specs.RunOf.{runIn}
+use Rattle.charts.specs.StepOf.{slotHolds, entered, movedOf, eventsAfter}
+use Rattle.charts.specs.declared.steps.Moved.{Moved}
+use Rattle.charts.specs.declared.steps.Moved.the-variants.{Taken, Idle, Fault}
+use Rattle.machines.proofs.Turning.{WentOn, val-is}
 use Rattle.machines.proofs.Earliest.{keep-alike, one-found}
 use Rattle.charts.proofs.RowLaws.{row-of}
 use Rattle.charts.proofs.Sound.{source-known, target-known}
@@ -71,6 +76,12 @@ module _ (cs : ChartSet) (st : ℕ) (f : ℕ → Out Bool) where
   unfolding gather firstThat
   tried-all j so-far h = sym (so-far .1 ∙ ap (λ l. firstThat f (gather (λ q. named (slot cs st q)) l)) (left-none (j + 1) 17 (omega arith)))
 
+  -- from an end on the places name none
+  pub tried-end : (n j : ℕ) → j + n ≡ 16 → Tried j → ((i : ℕ) → j ≤ i → i < 16 → slot cs st (i + 1) ≡ 65535) → val none ≡ firstThat f (row cs st)
+  tried-end zero j e t none-named = tried-all j t (omega arith)
+  tried-end (suc n) j e t none-named =
+      tried-end n (j + 1) (omega arith) (tried-more j 65535 t (omega arith) (sym (none-named j (omega arith) (omega arith))) refl) (λ i a b. none-named i (omega arith) b)
+
 -- what holds is named
 pub holds-named : (f : ℕ → Out Bool) (t : ℕ) → val true ≡ slotHolds f t → t ≡ 65535 → ⊥
 holds-named f t e h = go (eqb t 65535) (eq-eqb t 65535 h) e
@@ -91,6 +102,19 @@ module _ (cs : ChartSet) (chart : ℕ) (r : Run) (t : ℕ) where
   pub follow-taken : (w : World) → val w ≡ acted cs t (r .world) → (target : ℕ) → target ≡ transition cs t .target → (r′ : Run) → r′ ≡ entered r chart target w →
       val (taken t, r′) ≡ follow cs chart r (some t)
   follow-taken w e target d r′ f = ap (λ x. val (taken t, x)) (f ∙ ap (λ g. entered r chart g w) d) ∙ ap (λ o. o >>= then-entered) e
+
+-- ---- in place
+
+module _ (states ages : List ℕ) (vars : List ℤ) (events position cycles : ℕ) (o : Out (Answer × Run)) where
+  pub moved-on : (m : Moved) (after : ℕ) → movedOf m states ages vars events position cycles ≡ o → val after ≡ eventsAfter m events → WentOn o (runIn states ages vars after position cycles)
+  moved-on (Taken t n) after d e = record { answer = taken t; is = sym d ∙ ap (λ k. val (taken t, runIn states ages vars k position cycles)) (sym (val-is e)) }
+  moved-on Idle after d e = record { answer = idle; is = sym d ∙ ap (λ k. val (idle, runIn states ages vars k position cycles)) (sym (val-is e)) }
+  moved-on (Fault w) after d e = let z : _≡_ {A = ℕ} 0 1 = cc in absurd (omega arith)
+
+  pub moved-wrong : (m : Moved) (w : Refusal) → movedOf m states ages vars events position cycles ≡ o → fault w ≡ eventsAfter m events → o ≡ fault w
+  moved-wrong (Taken t n) w d e = let z : _≡_ {A = ℕ} 0 1 = cc in absurd (omega arith)
+  moved-wrong Idle w d e = let z : _≡_ {A = ℕ} 0 1 = cc in absurd (omega arith)
+  moved-wrong (Fault v) w d e = sym d ∙ sym (cc)
 
 -- ---- of an accepted file
 

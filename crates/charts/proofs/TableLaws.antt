@@ -8,7 +8,7 @@ use lib.Dec.{eqb}
 use lib.ListN.{length, getD, set, replicate, length-set, length-replicate, getD-replicate}
 use lib.Seq.{getD-set-same, getD-set-other}
 use borrow.Author.Tests.{eqb-true, eqb-false}
-use Rattle.charts.specs.Tables.{earliest}
+use Rattle.charts.specs.Tables.{HasEnds, earliest}
 use Rattle.machines.proofs.Earliest.{earliest-one, earliest-none}
 
 -- ---- rows: each number u has a source and a priority
@@ -75,3 +75,48 @@ module _ (source priority : ℕ → ℕ) (size : ℕ) where
         widths : (st : ℕ) → st < 128 → (b : Bool) → eqb st i ≡ b → length (getD next-rows st []) ≡ 16
         widths st h true e = ap (λ m. length (getD next-rows m [])) (eqb-true st i e) ∙ ap length row-here ∙ wide-here
         widths st h false e = ap length (row-there st (eqb-false st i e)) ∙ so-far .wide st h
+
+-- ---- an end for each row
+
+abbrev pub Ended : List (List ℕ) → List ℕ → Type 0
+Ended rows ends = (length ends ≡ 128) × HasEnds rows ends
+
+pub ends-none : Ended (replicate 128 (replicate {A = ℕ} 16 65535)) (replicate 128 0)
+ends-none = (
+  length-replicate {A = ℕ} 128 0,
+  λ st h. (
+    omega (arith, getD-replicate {A = ℕ} 128 st 0 0 h),
+    λ j _ l. ap (λ r. getD r j 0) (getD-replicate 128 st (replicate {A = ℕ} 16 65535) [] h) ∙ getD-replicate {A = ℕ} 16 j 65535 0 l,
+  ),
+)
+
+-- place k of row i is written, and its end is past it
+module _ (rows : List (List ℕ)) (ends : List ℕ) (i k u p : ℕ) (long : length rows ≡ 128) (so-far : Ended rows ends) (in-rows : i < 128) (low : getD ends i 0 ≤ p) (past : k + 1 ≤ p) (fits : p ≤ 16) where
+  pub ends-more : Ended (set rows i (set (getD rows i []) k u)) (set ends i p)
+  ends-more = (length-set ends i p ∙ so-far .0, λ st h. go st h (eqb st i) refl)
+    where
+      rows′ : List (List ℕ)
+      rows′ = set rows i (set (getD rows i []) k u)
+
+      go : (st : ℕ) → st < 128 → (b : Bool) → eqb st i ≡ b →
+          (getD (set ends i p) st 0 ≤ 16) × ((j : ℕ) → getD (set ends i p) st 0 ≤ j → j < 16 → getD (getD rows′ st []) j 0 ≡ 65535)
+      go st h true e =
+          let q : st ≡ i = eqb-true st i e in
+          let a : getD (set ends i p) st 0 ≡ p = ap (λ n. getD (set ends i p) n 0) q ∙ getD-set-same ends i p 0 (omega (arith, so-far .0)) in
+          let b : getD rows′ st [] ≡ set (getD rows i []) k u = ap (λ n. getD rows′ n []) q ∙ getD-set-same rows i (set (getD rows i []) k u) [] (omega (arith, long)) in (
+            omega (arith, a),
+            λ j l m.
+                ap (λ r. getD r j 0) b
+                ∙ getD-set-other (getD rows i []) k j u 0 (λ d. absurd (omega (arith, a, d)))
+                ∙ so-far .1 i in-rows .1 j (omega (arith, a)) m,
+          )
+      go st h false e =
+          let n : st ≡ i → ⊥ = eqb-false st i e in
+          let a : getD (set ends i p) st 0 ≡ getD ends st 0 = getD-set-other ends i st p 0 n in (
+            omega (arith, a, so-far .1 st h .0),
+            λ j l m. ap (λ r. getD r j 0) (getD-set-other rows i st (set (getD rows i []) k u) [] n) ∙ so-far .1 st h .1 j (omega (arith, a)) m,
+          )
+
+-- a row's whole length is an end
+pub whole-rows : (rows : List (List ℕ)) → HasEnds rows (replicate 128 16)
+whole-rows rows st h = let e : getD (replicate {A = ℕ} 128 16) st 0 ≡ 16 = getD-replicate {A = ℕ} 128 st 16 0 h in (omega (arith, e), λ j l m. absurd (omega (arith, e)))

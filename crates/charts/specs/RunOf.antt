@@ -1,11 +1,14 @@
 -- The code's run as the model's. Its arrays have 8, 8 and 64 places by their types, as the model's check 12 asks of a lent run. Assumes nothing: these
 -- are definitions.
 use mathlib.Core.Bool.{cond}
+use mathlib.Core.List.{List}
 use Prim.Native.Nat.{ℕ, _+_, _≤_, _<_}
 use lib.Dec.{ltb}
+use lib.IntN.{ℤ}
 use lib.ListN.{getD}
 use Rattle.model.specs.Runs.{Run}
 pub use Rattle.machines.specs.Checks.{beforeOf}
+use Rattle.machines.specs.Worlds.{worldIn}
 use Rattle.charts.specs.declared.runs.Run as declared-run
 
 abbrev pub runOf : declared-run.Run → Run
@@ -14,6 +17,10 @@ runOf r = record {
   timers = r .ages;
   world = record { vars = r .variables; events = r .events; position = r .position; cycles = r .cycles };
 }
+
+-- the run of these places
+abbrev pub runIn : List ℕ → List ℕ → List ℤ → ℕ → ℕ → ℕ → Run
+runIn states ages vars events position cycles = record { at = states; timers = ages; world = worldIn vars events position cycles }
 
 -- a cycle may still be done, and no chart's age is over the count of those done: so ages and count have room for one more
 abbrev pub Young : ℕ → Run → Type 0

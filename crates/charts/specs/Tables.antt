@@ -3,7 +3,7 @@ use mathlib.Core.Path.{_≡_}
 use mathlib.Core.Logic.{_⊎_}
 use mathlib.Core.Bool.{Bool, _&&_}
 use mathlib.Core.List.{List, [], _∷_}
-use Prim.Native.Nat.{ℕ, _+_, _-_, _<_}
+use Prim.Native.Nat.{ℕ, _+_, _-_, _≤_, _<_}
 use lib.Dec.{eqb}
 use lib.ListN.{length, getD}
 use Rattle.records.specs.Lists.{caseOf}
@@ -22,6 +22,10 @@ leaves cs st q u = eqb (transition cs u .source) st && eqb (transition cs u .pri
 abbrev pub HasRows : ChartSet → List (List ℕ) → Type 0
 HasRows cs rows =
     (st j : ℕ) → st < 128 → j < 16 → getD (getD rows st []) j 0 ≡ earliest (leaves cs st (j + 1)) 0 (length (cs .transitions))
+
+-- of each state an end of its row: no place from there on names a transition
+abbrev pub HasEnds : List (List ℕ) → List ℕ → Type 0
+HasEnds rows ends = (st : ℕ) → st < 128 → (getD ends st 0 ≤ 16) × ((j : ℕ) → getD ends st 0 ≤ j → j < 16 → getD (getD rows st []) j 0 ≡ 65535)
 
 -- ---- actions
 

@@ -1,7 +1,7 @@
 -- What turns and cycles answer, as outcomes of the model's calls. Assumes nothing: these are definitions.
 use mathlib.Core.List.{List}
 use Prim.Native.Nat.{ℕ, _≤_, _<_}
-use Rattle.records.specs.Refusal.{Refusal as Number, impossible-run, misplaced-events, cycles-done, Out, val, fault, _>>=_}
+use Rattle.records.specs.Refusal.{Refusal as Number, impossible-run, misplaced-events, cycles-done, Out, val, fault}
 use Rattle.model.specs.Outcome.{Outcome}
 use Rattle.model.specs.Runs as M
 use Rattle.model.specs.ChartSet.{readCharts}
@@ -42,10 +42,6 @@ abbrev pub endingOf : declared-ending.Ending → Out (Unit {0})
 endingOf declared-ending.the-variants.Done = val tt
 endingOf (declared-ending.the-variants.Fault w) = fault (reasonOf w)
 endingOf (declared-ending.the-variants.Refused w) = fault (refusalOf w)
-
--- of a turn only whether it was taken
-abbrev pub wentOn : Answer → Out (Unit {0})
-wentOn a = answerOf a >>= λ _. val tt
 
 abbrev pub calledOf : Called → Outcome (Unit {0}) M.Run
 calledOf t = record { answer = endingOf (t .answer); lent = runOf (t .run) }

@@ -5,8 +5,8 @@ ghost use Rattle.charts.specs.RunOf.{runOf};
 ghost use Rattle.charts.specs.TurnOf.{turnOf, calledOf};
 use super::runs::Run;
 use super::runs::start;
-use super::tables::actions_of;
-use super::tables::rows_of;
+use super::tables::fill_actions;
+use super::tables::fill_rows;
 use super::turns::Called;
 use super::turns::Ending;
 use super::turns::Refusal;
@@ -40,10 +40,13 @@ pub fn call_turn(s: &[u8], run: Run, events: u32) -> Turned
     match check(s) {
         Checked::Refused(refusal) => unready(run, Refusal::File(refusal)),
         Checked::Accepted(shape) => {
-            let rows = rows_of(s, shape);
-            let actions = actions_of(s, shape);
-            let first = actions.first;
-            let next = actions.next;
+            let empty = [65535u16; 16];
+            let mut rows = [empty; 128];
+            let mut ends = [0u8; 128];
+            let mut first = [65535u16; 512];
+            let mut next = [65535u16; 512];
+            fill_rows(s, shape, &mut rows, &mut ends);
+            fill_actions(s, shape, &mut first, &mut next);
             turn(s, shape, &rows, &first, &next, run, events)
         }
     }
@@ -55,10 +58,13 @@ pub fn call_cycle(s: &[u8], run: Run, events: u32) -> Called
     match check(s) {
         Checked::Refused(refusal) => undone(run, Refusal::File(refusal)),
         Checked::Accepted(shape) => {
-            let rows = rows_of(s, shape);
-            let actions = actions_of(s, shape);
-            let first = actions.first;
-            let next = actions.next;
+            let empty = [65535u16; 16];
+            let mut rows = [empty; 128];
+            let mut ends = [0u8; 128];
+            let mut first = [65535u16; 512];
+            let mut next = [65535u16; 512];
+            fill_rows(s, shape, &mut rows, &mut ends);
+            fill_actions(s, shape, &mut first, &mut next);
             cycle(s, shape, &rows, &first, &next, run, events)
         }
     }

@@ -9,7 +9,7 @@ ghost use Rattle.model.specs.ChartSet.{ChartSet, readCharts};
 ghost use Rattle.model.specs.Charts.{charts as machine};
 ghost use Rattle.chart_files.specs.Shape.{IsShape};
 ghost use Rattle.machines.specs.Checks.{zeros, beforeOf};
-ghost use Rattle.charts.specs.RunOf.{runOf, Young, aged};
+ghost use Rattle.charts.specs.RunOf.{runOf, runIn, Young, aged};
 use super::values::values_of;
 use chart_files::Shape;
 use machines::checks::Before;
@@ -127,7 +127,7 @@ pub fn moved(mut run: Run) -> Run
     run
 }
 
-fn older(charts: u16, ages: [u32; 8]) -> [u32; 8]
+pub fn older(charts: u16, ages: [u32; 8]) -> [u32; 8]
     requires { ⌜ charts ≤ 8 ⌝ }
     requires { ⌜ ((k : ℕ) → k < charts → getD ages k 0 < 4294967295) ⌝ }
     ensures { λ r. ⌜ r ≡ mapFrom 0 (aged charts) ages ⌝ }
@@ -155,4 +155,18 @@ pub fn time_passed(charts: u16, mut run: Run) -> Run
     run.position = 1;
     run.cycles += 1;
     run
+}
+
+// The run of these places between two cycles.
+pub fn between(states: [u16; 8], ages: [u32; 8], variables: [i16; 64], cycles: u32) -> Run
+    ensures { λ r. ⌜ runOf r ≡ runIn states ages variables 0 1 cycles ⌝ }
+{
+    Run {
+        states,
+        ages,
+        variables,
+        events: 0,
+        position: 1,
+        cycles,
+    }
 }

@@ -6,16 +6,18 @@ ghost use Rattle.model.specs.ChartSet.{readCharts};
 ghost use Rattle.model.specs.Charts.{row, firstThat, transitionHolds, acted, follow as followed, chartStep};
 ghost use mathlib.Core.Option.{some};
 ghost use Rattle.charts.specs.Accepted.{Accepted};
-ghost use Rattle.charts.specs.Tables.{HasRows, HasActions};
-ghost use Rattle.charts.specs.RunOf.{runOf};
+ghost use Rattle.charts.specs.Tables.{HasRows, HasEnds, HasActions};
+ghost use Rattle.charts.specs.RunOf.{runOf, runIn};
 ghost use Rattle.machines.specs.Worlds.{worldIn, worldAfter, bareWorld};
-ghost use Rattle.charts.specs.StepOf.{choiceOf, ChoiceOf, slotHolds, entered, stepOf};
+ghost use Rattle.charts.specs.StepOf.{choiceOf, ChoiceOf, slotHolds, movedOf, stepOf};
+ghost use Rattle.charts.specs.TurnOf.{Known};
+use super::deeds::chained_deeds;
 use super::deeds::do_deeds;
 use super::runs::Run;
 use super::transitions::holds;
+use super::transitions::source_of;
+use super::transitions::target_of;
 use chart_files::Shape;
-use chart_files::fields::source_of;
-use chart_files::fields::target_of;
 use expressions::arithmetic::Truth;
 use machines::deeds::Done;
 use machines::deeds::Reason;
@@ -38,6 +40,27 @@ pub enum Choice {
     Failed(Reason),
 }
 
+// What a chart's turn in place comes to, with the events after it.
+pub enum Moved {
+    Taken(u16, u32),
+    Idle,
+    Fault(Reason),
+}
+
+// The run with these places and events.
+fn placed(run: Run, states: [u16; 8], ages: [u32; 8], variables: [i16; 64], events: u32) -> Run
+    ensures { λ r. ⌜ runOf r ≡ runIn states ages variables events (run .position) (run .cycles) ⌝ }
+{
+    Run {
+        states,
+        ages,
+        variables,
+        events,
+        position: run.position,
+        cycles: run.cycles,
+    }
+}
+
 // A place of a row that names none does not hold.
 fn slot_holds(s: &[u8], shape: Shape, vars: &[i16; 64], events: u32, age: u32, t: u16) -> Truth
     requires { ⌜ Accepted (now s) shape × ((t ≡ 65535 → ⊥) → t < shape .transitions) ⌝ }
@@ -55,20 +78,22 @@ fn first_that(
     s: &[u8],
     shape: Shape,
     rows: &[[u16; 16]; 128],
+    ends: &[u8; 128],
     vars: &[i16; 64],
     events: u32,
     age: u32,
     state: u16,
 ) -> Choice
-    requires { ⌜ Accepted (now s) shape × HasRows (readCharts (now s)) (now rows) ⌝ }
+    requires { ⌜ Accepted (now s) shape × HasRows (readCharts (now s)) (now rows) × HasEnds (now rows) (now ends) ⌝ }
     ensures { λ r. ⌜ (choiceOf r ≡ firstThat (transitionHolds (readCharts (now (s .entry))) (bareWorld (now (vars .entry)) events) age) (row (readCharts (now (s .entry))) state)) × ChoiceOf (shape .transitions) r ⌝ }
 {
     if shape.states <= state {
         return Choice::Nothing;
     }
     let i = state as usize;
+    let end = ends[i] as usize;
     let mut j: usize = 0;
-    while j < 16 {
+    while j < end {
         let t = rows[i][j];
         match slot_holds(s, shape, vars, events, age, t) {
             Truth::Fault(w) => return Choice::Failed(reason_for(w)),
@@ -103,56 +128,62 @@ fn act(
         Done::Fault(w) => Done::Fault(w),
         Done::Events(left) => match do_deeds(s, shape, first, next, crossing, vars, left) {
             Done::Fault(w) => Done::Fault(w),
-            Done::Events(crossed) => do_deeds(s, shape, first, next, entering, vars, crossed),
+            Done::Events(crossed) => chained_deeds(s, shape, first, next, entering, vars, crossed),
         },
     }
 }
 
-// A state that is entered has the age 0.
-fn enter(run: Run, chart: u16, target: u16, variables: [i16; 64], events: u32) -> Run
-    requires { ⌜ chart < 8 ⌝ }
-    ensures { λ r. ⌜ runOf r ≡ entered (runOf run) chart target (worldIn variables events (run .position) (run .cycles)) ⌝ }
-{
-    let mut states = run.states;
-    let mut ages = run.ages;
-    let i = chart as usize;
-    states[i] = target;
-    ages[i] = 0;
-    Run {
-        states,
-        ages,
-        variables,
-        events,
-        position: run.position,
-        cycles: run.cycles,
-    }
-}
-
+// A transition that holds is taken: the state that is entered has the age 0.
 fn follow(
     s: &[u8],
     shape: Shape,
     first: &[u16; 512],
     next: &[u16; 512],
     chart: u16,
-    run: Run,
     t: u16,
-) -> Step
+    states: &mut [u16; 8],
+    ages: &mut [u32; 8],
+    vars: &mut [i16; 64],
+    events: u32,
+) -> Moved
     requires { ⌜ Accepted (now s) shape × HasActions (now s) shape (now first) (now next) × (chart < 8) × (t < shape .transitions) ⌝ }
-    ensures { λ r. ⌜ stepOf r ≡ followed (readCharts (now (s .entry))) chart (runOf run) (some t) ⌝ }
-    ensures { λ r. ⌜ ((w : Reason) → r .reply ≡ Reply.Fault w → r .run ≡ run) ⌝ }
+    ensures { λ r. ⌜ ((p c : ℕ) → movedOf r (now (states .exit)) (now (ages .exit)) (now (vars .exit)) events p c ≡ followed (readCharts (now (s .entry))) chart (runIn (now (states .entry)) (now (ages .entry)) (now (vars .entry)) events p c) (some t)) ⌝ }
 {
-    let mut variables = run.variables;
-    match act(s, shape, first, next, t, &mut variables, run.events) {
-        Done::Fault(w) => {
-            let reply = Reply::Fault(w);
-            Step { reply, run }
+    match act(s, shape, first, next, t, vars, events) {
+        Done::Fault(w) => Moved::Fault(w),
+        Done::Events(after) => {
+            let i = chart as usize;
+            states[i] = target_of(s, shape, t);
+            ages[i] = 0;
+            Moved::Taken(t, after)
         }
-        Done::Events(events) => {
-            let target = target_of(s, shape, t);
-            let run = enter(run, chart, target, variables, events);
-            let reply = Reply::Taken(t);
-            Step { reply, run }
-        }
+    }
+}
+
+// In place: after a fault the variables are as the deeds before it left them.
+pub fn step_in_place(
+    s: &[u8],
+    shape: Shape,
+    rows: &[[u16; 16]; 128],
+    ends: &[u8; 128],
+    first: &[u16; 512],
+    next: &[u16; 512],
+    chart: u16,
+    states: &mut [u16; 8],
+    ages: &mut [u32; 8],
+    vars: &mut [i16; 64],
+    events: u32,
+) -> Moved
+    requires { ⌜ Known (now s) shape (now rows) (now first) (now next) × HasEnds (now rows) (now ends) × (chart < shape .charts) ⌝ }
+    ensures { λ r. ⌜ ((p c : ℕ) → movedOf r (now (states .exit)) (now (ages .exit)) (now (vars .exit)) events p c ≡ chartStep (readCharts (now (s .entry))) chart (runIn (now (states .entry)) (now (ages .entry)) (now (vars .entry)) events p c)) ⌝ }
+{
+    let i = chart as usize;
+    let state = states[i];
+    let age = ages[i];
+    match first_that(s, shape, rows, ends, vars, events, age, state) {
+        Choice::Chosen(t) => follow(s, shape, first, next, chart, t, states, ages, vars, events),
+        Choice::Nothing => Moved::Idle,
+        Choice::Failed(w) => Moved::Fault(w),
     }
 }
 
@@ -173,19 +204,35 @@ pub fn chart_step(
     ensures { λ r. ⌜ stepOf r ≡ chartStep (readCharts (now (s .entry))) chart (runOf run) ⌝ }
     ensures { λ r. ⌜ ((w : Reason) → r .reply ≡ Reply.Fault w → r .run ≡ run) ⌝ }
 {
-    let i = chart as usize;
-    let state = run.states[i];
-    let age = run.ages[i];
-    let variables = run.variables;
-    match first_that(s, shape, rows, &variables, run.events, age, state) {
-        Choice::Chosen(t) => follow(s, shape, first, next, chart, run, t),
-        Choice::Nothing => {
-            let reply = Reply::Idle;
-            Step { reply, run }
-        }
-        Choice::Failed(w) => {
-            let reply = Reply::Fault(w);
-            Step { reply, run }
-        }
+    let ends = [16u8; 128];
+    let mut states = run.states;
+    let mut ages = run.ages;
+    let mut variables = run.variables;
+    let events = run.events;
+    match step_in_place(
+        s,
+        shape,
+        rows,
+        &ends,
+        first,
+        next,
+        chart,
+        &mut states,
+        &mut ages,
+        &mut variables,
+        events,
+    ) {
+        Moved::Fault(w) => Step {
+            reply: Reply::Fault(w),
+            run,
+        },
+        Moved::Idle => Step {
+            reply: Reply::Idle,
+            run: placed(run, states, ages, variables, events),
+        },
+        Moved::Taken(t, after) => Step {
+            reply: Reply::Taken(t),
+            run: placed(run, states, ages, variables, after),
+        },
     }
 }

@@ -1,11 +1,14 @@
 // The tables that turns read, made once for a set.
+ghost use mathlib.Core.Path.{_≡_};
+ghost use Prim.Native.Nat.{ℕ, _≤_};
+ghost use lib.ListN.{replicate};
 ghost use Rattle.model.specs.ChartSet.{readCharts};
 ghost use Rattle.charts.specs.Accepted.{Accepted};
-ghost use Rattle.charts.specs.Tables.{HasRows, HasActions};
+ghost use Rattle.charts.specs.Tables.{HasRows, HasEnds, HasActions};
 use super::actions::key_of;
+use super::transitions::source_of;
 use chart_files::Shape;
 use chart_files::fields::priority_of;
-use chart_files::fields::source_of;
 
 // Of each key its first action, and of each action the next of its key; 65535 is none.
 pub struct Actions {
@@ -13,30 +16,44 @@ pub struct Actions {
     pub next: [u16; 512],
 }
 
-// Of each state its leaving transitions, by priority; 65535 is none.
+fn higher(a: u8, b: u8) -> u8
+    ensures { λ r. ⌜ (a ≤ r) × (b ≤ r) × ((m : ℕ) → a ≤ m → b ≤ m → r ≤ m) ⌝ }
+{
+    if a < b { b } else { a }
+}
+
+// Of each state its leaving transitions, by priority, in rows of none; 65535 is none. And the highest priority of each.
+pub fn fill_rows(s: &[u8], shape: Shape, rows: &mut [[u16; 16]; 128], ends: &mut [u8; 128])
+    requires { ⌜ Accepted (now s) shape × (now rows ≡ replicate 128 (replicate 16 65535)) × (now ends ≡ replicate 128 0) ⌝ }
+    ensures { λ _. ⌜ HasRows (readCharts (now (s .entry))) (now (rows .exit)) × HasEnds (now (rows .exit)) (now (ends .exit)) ⌝ }
+{
+    let mut t = shape.transitions;
+    while 0 < t {
+        t -= 1;
+        let source = source_of(s, shape, t) as usize;
+        let priority = priority_of(s, shape, t);
+        let place = (priority - 1) as usize;
+        rows[source][place] = t;
+        ends[source] = higher(ends[source], priority);
+    }
+}
+
 pub fn rows_of(s: &[u8], shape: Shape) -> [[u16; 16]; 128]
     requires { ⌜ Accepted (now s) shape ⌝ }
     ensures { λ r. ⌜ HasRows (readCharts (now (s .entry))) r ⌝ }
 {
     let empty = [65535u16; 16];
     let mut rows = [empty; 128];
-    let mut t = shape.transitions;
-    while 0 < t {
-        t -= 1;
-        let source = source_of(s, shape, t) as usize;
-        let place = (priority_of(s, shape, t) - 1) as usize;
-        rows[source][place] = t;
-    }
+    let mut ends = [0u8; 128];
+    fill_rows(s, shape, &mut rows, &mut ends);
     rows
 }
 
 // From the last action down, so that each finds the one behind it.
-pub fn actions_of(s: &[u8], shape: Shape) -> Actions
-    requires { ⌜ Accepted (now s) shape ⌝ }
-    ensures { λ r. ⌜ HasActions (now (s .entry)) shape (r .first) (r .next) ⌝ }
+pub fn fill_actions(s: &[u8], shape: Shape, first: &mut [u16; 512], next: &mut [u16; 512])
+    requires { ⌜ Accepted (now s) shape × (now first ≡ replicate 512 65535) × (now next ≡ replicate 512 65535) ⌝ }
+    ensures { λ _. ⌜ HasActions (now (s .entry)) shape (now (first .exit)) (now (next .exit)) ⌝ }
 {
-    let mut first = [65535u16; 512];
-    let mut next = [65535u16; 512];
     let mut a = shape.actions;
     while 0 < a {
         a -= 1;
@@ -45,5 +62,14 @@ pub fn actions_of(s: &[u8], shape: Shape) -> Actions
         next[i] = first[key];
         first[key] = a;
     }
+}
+
+pub fn actions_of(s: &[u8], shape: Shape) -> Actions
+    requires { ⌜ Accepted (now s) shape ⌝ }
+    ensures { λ r. ⌜ HasActions (now (s .entry)) shape (r .first) (r .next) ⌝ }
+{
+    let mut first = [65535u16; 512];
+    let mut next = [65535u16; 512];
+    fill_actions(s, shape, &mut first, &mut next);
     Actions { first, next }
 }

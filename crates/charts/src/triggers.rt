@@ -1,11 +1,12 @@
 // Whether a transition's trigger holds.
 ghost use mathlib.Core.Path.{_≡_};
-ghost use Prim.Native.Nat.{_<_};
+ghost use Prim.Native.Nat.{_+_, _*_, _<_};
+ghost use lib.ListN.{length};
 ghost use Rattle.model.specs.Charts.{ticks, everyHolds, triggered};
-ghost use Rattle.chart_files.specs.Parts.{triggerFor};
+ghost use Rattle.chart_files.specs.Places.{triggerIn};
 ghost use Rattle.charts.specs.Replies.{Holdable};
-use chart_files::fields::Trigger;
 use machines::deeds::present;
+use records::u32_within;
 
 // A tick is 100 milliseconds, to the nearest, halves up.
 pub fn ticks(ms: u32) -> u64
@@ -22,14 +23,16 @@ fn every_holds(d: u64, age: u32) -> bool
     (0 < age) & ((age as u64) % d == 0)
 }
 
-pub fn triggered(trigger: Trigger, age: u32, events: u32) -> bool
-    requires { ⌜ Holdable (triggerFor trigger) ⌝ }
-    ensures { λ r. ⌜ r ≡ triggered (triggerFor trigger) age events ⌝ }
+// Of the transition that is record n.
+pub fn triggered(s: &[u8], n: usize, age: u32, events: u32) -> bool
+    requires { ⌜ (16 * n + 15 < length (now s)) × Holdable (triggerIn (now s) n) ⌝ }
+    ensures { λ r. ⌜ r ≡ triggered (triggerIn (now (s .entry)) n) age events ⌝ }
 {
-    match trigger {
-        Trigger::Always => true,
-        Trigger::Event(e) => present(e, events),
-        Trigger::After(ms) => (age as u64) == ticks(ms),
-        Trigger::Every(ms) => every_holds(ticks(ms), age),
+    let at = 16 * n;
+    match s[at + 6] {
+        1 => present(s[at + 7], events),
+        2 => (age as u64) == ticks(u32_within(s, at + 8)),
+        3 => every_holds(ticks(u32_within(s, at + 8)), age),
+        _ => true,
     }
 }

@@ -6,9 +6,11 @@ ghost use Rattle.model.specs.Runs.{stepped, turn as model-turn, cycle as model-
 ghost use Rattle.model.specs.ChartSet.{readCharts};
 ghost use Rattle.model.specs.Charts.{charts as machine};
 ghost use Rattle.charts.specs.RunOf.{runOf};
-ghost use Rattle.charts.specs.TurnOf.{turnOf, endingOf, wentOn, calledOf, after, finish, Known, Ready};
+ghost use Rattle.charts.specs.TurnOf.{turnOf, calledOf, after, finish, Known, Ready};
+use super::cycles::cycle_in_place;
 use super::runs::Run;
 use super::runs::before_turn;
+use super::runs::between;
 use super::runs::give;
 use super::runs::moved;
 use super::runs::time_passed;
@@ -16,6 +18,7 @@ use super::steps::Reply;
 use super::steps::chart_step;
 use chart_files::Shape;
 use machines::checks::Before;
+use machines::deeds::Done;
 use machines::deeds::Reason;
 
 // Why no turn was taken: the file is refused, or the run or its events are.
@@ -152,19 +155,6 @@ pub fn turn(
     }
 }
 
-// How a turn within a cycle ends the cycle; done where it was taken.
-fn ending_of(answer: Answer) -> Ending
-    ensures { λ r. ⌜ endingOf r ≡ wentOn answer ⌝ }
-{
-    match answer {
-        Answer::Taken(_) => Ending::Done,
-        Answer::Idle => Ending::Done,
-        Answer::Time => Ending::Done,
-        Answer::Fault(w) => Ending::Fault(w),
-        Answer::Refused(w) => Ending::Refused(w),
-    }
-}
-
 // The turns from the present position up to time's. Where one faults the run is the one that was lent.
 fn cycle_taken(
     s: &[u8],
@@ -179,33 +169,32 @@ fn cycle_taken(
     requires { ⌜ Ready (shape .charts) (runOf run) ⌝ }
     ensures { λ r. ⌜ calledOf r ≡ settled (runOf lent) (finish (after (machine (readCharts (now (s .entry)))) (shape .charts + 2 - run .position) (runOf run))) ⌝ }
 {
-    let mut present = run;
-    while present.position <= (shape.charts as u32) {
-        let turned = chart_turn(s, shape, rows, first, next, lent, present);
-        let answer = turned.answer;
-        match ending_of(answer) {
-            Ending::Done => {
-                let after = turned.run;
-                present = after;
-            }
-            Ending::Fault(w) => {
-                return Called {
-                    answer: Ending::Fault(w),
-                    run: lent,
-                };
-            }
-            Ending::Refused(w) => {
-                return Called {
-                    answer: Ending::Refused(w),
-                    run: lent,
-                };
-            }
-        }
-    }
-    let run = time_passed(shape.charts, present);
-    Called {
-        answer: Ending::Done,
-        run,
+    let ends = [16u8; 128];
+    let mut states = run.states;
+    let mut ages = run.ages;
+    let mut variables = run.variables;
+    match cycle_in_place(
+        s,
+        shape,
+        rows,
+        &ends,
+        first,
+        next,
+        &mut states,
+        &mut ages,
+        &mut variables,
+        run.events,
+        run.position,
+        run.cycles,
+    ) {
+        Done::Fault(w) => Called {
+            answer: Ending::Fault(w),
+            run: lent,
+        },
+        Done::Events(_) => Called {
+            answer: Ending::Done,
+            run: between(states, ages, variables, run.cycles + 1),
+        },
     }
 }
 

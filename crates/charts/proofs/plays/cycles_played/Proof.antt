@@ -1,174 +1,118 @@
--- `plays::cycles_played` meets its contract. The invariant: so many cycles led to the present run, and they are no more than its count. Assumes nothing.
-use mathlib.Core.Path.{_≡_, refl, sym, ap, _∙_}
-use Prim.Native.Nat.{_+_, _-_, _≤_}
+-- `plays::cycles_played` meets its contract: the first cycle is told, whatever it comes to. Assumes nothing.
+use mathlib.Core.Path.{_≡_, sym, ap, _∙_}
+use Prim.Native.Nat.{_+_, _-_}
 use native.Mathlib.Omega.{arith}
 use borrow.Author.Needs.{needs}
 use denote.Ref.{now}
-use lib.ListN.{length, getD}
+use lib.ListN.{length, getD, drop, length-drop}
+use lib.Seq.{take-all}
 use Rattle.records.specs.Refusal.{val, _>>=_}
 use Rattle.model.specs.Outcome.{settled}
-use Rattle.model.specs.Runs.{cycle as model-cycle}
+use Rattle.model.specs.Runs.{cycle}
 use Rattle.model.specs.ChartSet.{readCharts}
 use Rattle.model.specs.Charts.{charts}
-use Rattle.charts.specs.RunOf.{runOf}
+use Rattle.model.proofs.Steady.{charts-cycle-possible}
 use Rattle.machines.specs.Worlds.{reasonOf}
-use Rattle.charts.specs.TurnOf.{refusalOf, endingOf}
+use Rattle.machines.specs.Playing.{played, stoppedAt}
 use Rattle.machines.proofs.Turning.{unsettled, unsettle}
-use Rattle.machines.specs.Playing.{stoppedAt}
-use Rattle.machines.proofs.Playing.{Went, went-none, went-more, went-stop, went-all, cycle-counts}
-use Rattle.charts.proofs.PlayLaws.{count-kept}
+use Rattle.machines.proofs.Playing.{went-none, went-more, went-stop, went-all}
+use Rattle.charts.specs.declared.plays.Cycles.the-variants.{Done}
+use Rattle.charts.specs.RunOf.{runOf}
+use Rattle.charts.specs.TurnOf.{refusalOf, endingOf}
+use Rattle.charts.proofs.PlayLaws.{was-possible, later-told}
 use Rattle.charts.proofs.plays.cycles_played.Statement.{statement}
 use Rattle.charts.proofs.plays.cycles_played.Tie as tie
 
-abbrev Inv-loop : tie.InvT-loop
-Inv-loop s shape rows first next run masks present₀ k₀ present k =
-    Went (charts (readCharts s)) masks (runOf run) k (runOf present) × (k ≤ present .cycles) × (k ≤ 1_000_000)
+returns : tie.Need-returns
+returns c =
+    let b = c .before .before .before in
+    let none-left = c .if1 .taken in
+    sym (ap (λ p. settled (runOf (b .args .run)) (stoppedAt (p .count) (p .run) (p .stop))) (went-all (charts (readCharts (now (b .args .s)))) (now (b .args .masks)) (runOf (b .args .run)) 0 (runOf (b .args .run)) (omega (arith, none-left)) (went-none (charts (readCharts (now (b .args .s)))) (now (b .args .masks)) (runOf (b .args .run)))))
 
-abbrev μ-loop : tie.MeasureT-loop
-μ-loop s shape rows first next run masks present₀ k₀ present k = length masks - k
+shared-slice-read-cycle : tie.Need-shared-slice-read-cycle
+shared-slice-read-cycle c = let some-left = c .before .if1 .left in omega (arith, some-left)
 
-loop-holds : tie.Need-loop-holds Inv-loop μ-loop
-loop-holds c =
-    let b = c .before .before .args in
-    (went-none (charts (readCharts (now (b .s)))) (now (b .masks)) (runOf (b .run)), omega arith, omega arith)
+cycle-requires : tie.Need-cycle-requires
+cycle-requires c κs = c .before .before .before .before .pre .0
 
-mul-cycle : tie.Need-mul-cycle Inv-loop μ-loop
-mul-cycle c = search needs
-
-shared-slice-read-cycle : tie.Need-shared-slice-read-cycle Inv-loop μ-loop
-shared-slice-read-cycle c = c .before .loop-test .taken
-
-cycle-requires : tie.Need-cycle-requires Inv-loop μ-loop
-cycle-requires c κs = c .before .before .before .before .before .pre
-
--- the cycle of the present run, from its answer
-cycling : (c : tie.After-cycle Inv-loop μ-loop) →
-    let b = c .before .before .before .before .before .before in
-    let l = c .before .before .before .loop in
-    model-cycle (charts (readCharts (now (b .args .s)))) (getD (now (b .args .masks)) (l .k) 0) (runOf (l .present))
-    ≡ (endingOf (c .cycle .result .answer) >>= λ x. val (x, runOf (c .cycle .result .run)))
+-- the first cycle, from its answer
+cycling : (c : tie.After-cycle) →
+    let b = c .before .before .before .before .before in
+    (cycle (charts (readCharts (now (b .args .s)))) (getD (now (b .args .masks)) 0 0) (runOf (b .args .run))) ≡ (endingOf (c .cycle .result .answer) >>= λ x. val (x, runOf (c .cycle .result .run)))
 cycling c =
-    let b = c .before .before .before .before .before .before in
-    let l = c .before .before .before .loop in
-    sym (unsettle (runOf (l .present)) (model-cycle (charts (readCharts (now (b .args .s)))) (getD (now (b .args .masks)) (l .k) 0) (runOf (l .present))))
-    ∙ ap unsettled (sym (c .cycle .ensures))
+    let b = c .before .before .before .before .before in
+    sym (unsettle (runOf (b .args .run)) (cycle (charts (readCharts (now (b .args .s)))) (getD (now (b .args .masks)) 0 0) (runOf (b .args .run)))) ∙ ap unsettled (sym (c .cycle .ensures))
 
-enum-told : tie.Need-enum-told Inv-loop μ-loop
+enum-told : tie.Need-enum-told
 enum-told c = search needs
 
--- the cycle was done
-went : (c : tie.After-enum-told Inv-loop μ-loop) →
-    let t = c .before .before in
-    let b = t .before .before .before .before .before .before in
-    let l = t .before .before .before .loop in
-    model-cycle (charts (readCharts (now (b .args .s)))) (getD (now (b .args .masks)) (l .k) 0) (runOf (l .present)) ≡ val (tt, runOf (t .cycle .result .run))
-went c =
-    let t = c .before .before in
-    cycling t ∙ ap (λ a. endingOf a >>= λ x. val (x, runOf (t .cycle .result .run))) (c .enum-told .given .1)
+went : (c : tie.After-enum-told) →
+    let b = c .before .before .before .before .before .before .before in
+    (cycle (charts (readCharts (now (b .args .s)))) (getD (now (b .args .masks)) 0 0) (runOf (b .args .run))) ≡ val (tt, runOf (c .before .before .cycle .result .run))
+went c = cycling (c .before .before) ∙ ap (λ a. endingOf a >>= λ x. val (x, runOf (c .before .before .cycle .result .run))) (c .enum-told .given .1)
 
-more : (c : tie.After-enum-told Inv-loop μ-loop) →
-    let t = c .before .before in
-    let l = t .before .before .before .loop in
-    (l .k + 1 ≤ t .cycle .result .run .cycles) × (l .k + 1 ≤ 1_000_000)
-more c =
-    let t = c .before .before in
-    let b = t .before .before .before .before .before .before in
-    let l = t .before .before .before .loop in
-    let n = cycle-counts (charts (readCharts (now (b .args .s)))) (count-kept (readCharts (now (b .args .s)))) (getD (now (b .args .masks)) (l .k) 0) (runOf (l .present)) (runOf (t .cycle .result .run)) (went c) in
-    (omega (arith, n .0, l .inv .1), omega (arith, n .1, l .inv .1))
+sub-played-on : tie.Need-sub-played-on
+sub-played-on c = let some-left = c .before .before .before .before .before .if1 .left in omega (arith, some-left)
 
-add-k : tie.Need-add-k Inv-loop μ-loop
-add-k c = let n = more (c .before) .1 in omega (arith, n)
+part-played-on-start : tie.Need-part-played-on-start
+part-played-on-start c = let some-left = c .before .before .before .before .before .if1 .left in omega (arith, some-left)
 
-loop-less : tie.Need-loop-less Inv-loop μ-loop
-loop-less c =
-    let l = c .before .before .before .before .before .before .loop in
-    let h = c .before .before .before .before .before .loop-test .taken in
-    omega (arith, h)
+part-played-on-end : tie.Need-part-played-on-end
+part-played-on-end c = let some-left = c .before .before .before .before .before .if1 .left in omega (arith, some-left)
 
-loop-again : tie.Need-loop-again Inv-loop μ-loop
-loop-again c =
-    let t = c .before .before .before in
-    let b = t .before .before .before .before .before .before in
-    let l = t .before .before .before .loop in
-    (went-more (charts (readCharts (now (b .args .s)))) (now (b .args .masks)) (runOf (b .args .run)) (l .k) (runOf (l .present)) (runOf (t .cycle .result .run)) (t .before .before .loop-test .taken) (l .inv .0) (went (c .before)), more (c .before) .0, more (c .before) .1)
+played-on-requires : tie.Need-played-on-requires
+played-on-requires c κs =
+    let b = c .before .before .before .before .before .before .before .before .before in
+    let w = went (c .before .before) in
+    let after = runOf (c .before .before .before .before .cycle .result .run) in
+    let l = charts-cycle-possible (now (b .args .s)) (b .pre .0 .accepted .unrefused) (getD (now (b .args .masks)) 0 0) (runOf (b .args .run)) after (was-possible (charts (readCharts (now (b .args .s)))) (runOf (b .args .run)) (getD (now (b .args .masks)) 0 0) after w) w in
+    (b .pre .0, b .pre .1, l .0, l .1)
 
-enum-known-answer : tie.Need-enum-known-answer Inv-loop μ-loop
+enum-known-answer : tie.Need-enum-known-answer
 enum-known-answer c = search needs
 
-cast-stopped : tie.Need-cast-stopped Inv-loop μ-loop
-cast-stopped c = let most = c .before .before .before .before .before .before .loop .inv .2 in omega (arith, most)
-
-stopped-requires : tie.Need-stopped-requires Inv-loop μ-loop
-stopped-requires c κs = search needs
-
-returns : tie.Need-returns Inv-loop μ-loop
-returns c =
-    let t = c .before .before .before .before in
-    let b = t .before .before .before .before .before .before in
-    let l = t .before .before .before .loop in
-    let given = c .before .before .answer .given in
-    let w = reasonOf (given .0 .0) in
-    let failed = cycling t ∙ ap (λ a. endingOf a >>= λ x. val (x, runOf (t .cycle .result .run))) (given .1) in
-    c .stopped .ensures w refl
-    ∙ sym
-    (ap (λ p. settled (runOf (b .args .run)) (stoppedAt (p .count) (p .run) (p .stop)))
-    (went-stop (charts (readCharts (now (b .args .s)))) (now (b .args .masks)) (runOf (b .args .run)) (l .k) (runOf (l .present)) w (t .before .before .loop-test .taken) (l .inv .0) failed))
-
-enum-known-answer-2 : tie.Need-enum-known-answer-2 Inv-loop μ-loop
+enum-known-answer-2 : tie.Need-enum-known-answer-2
 enum-known-answer-2 c = search needs
 
-cast-stopped-2 : tie.Need-cast-stopped-2 Inv-loop μ-loop
-cast-stopped-2 c = let most = c .before .before .before .before .before .before .loop .inv .2 in omega (arith, most)
-
-stopped-requires-2 : tie.Need-stopped-requires-2 Inv-loop μ-loop
-stopped-requires-2 c κs = search needs
-
-returns-2 : tie.Need-returns-2 Inv-loop μ-loop
+returns-2 : tie.Need-returns-2
 returns-2 c =
-    let t = c .before .before .before .before in
-    let b = t .before .before .before .before .before .before in
-    let l = t .before .before .before .loop in
-    let given = c .before .before .answer2 .given in
-    let w = refusalOf (given .0 .0) in
-    let failed = cycling t ∙ ap (λ a. endingOf a >>= λ x. val (x, runOf (t .cycle .result .run))) (given .1) in
-    c .stopped2 .ensures w refl
-    ∙ sym
-    (ap (λ p. settled (runOf (b .args .run)) (stoppedAt (p .count) (p .run) (p .stop)))
-    (went-stop (charts (readCharts (now (b .args .s)))) (now (b .args .masks)) (runOf (b .args .run)) (l .k) (runOf (l .present)) w (t .before .before .loop-test .taken) (l .inv .0) failed))
+    let b = c .before .before .before .before .before .before .before .before .before .before in
+    let some-left = c .before .before .before .before .before .before .before .if1 .left in
+    let after = runOf (c .before .before .before .before .before .cycle .result .run) in
+    let rest = take-all (length (now (b .args .masks)) - 1) (drop 1 (now (b .args .masks))) (omega (arith, length-drop 1 (now (b .args .masks)))) in
+    later-told (charts (readCharts (now (b .args .s)))) (now (b .args .masks)) (runOf (b .args .run)) after (runOf (b .args .run)) (went-more (charts (readCharts (now (b .args .s)))) (now (b .args .masks)) (runOf (b .args .run)) 0 (runOf (b .args .run)) after (omega (arith, some-left)) (went-none (charts (readCharts (now (b .args .s)))) (now (b .args .masks)) (runOf (b .args .run))) (went (c .before .before .before)))
+    (c .played-on .result) (c .played-on .ensures .0 ∙ ap (λ l. Done (1 + played (charts (readCharts (now (b .args .s)))) l after .count)) rest) (c .played-on .ensures .1 ∙ ap (λ l. played (charts (readCharts (now (b .args .s)))) l after .run) rest)
 
-cast-t23 : tie.Need-cast-t23 Inv-loop μ-loop
-cast-t23 c = let most = c .before .loop .inv .2 in omega (arith, most)
-
-returns-3 : tie.Need-returns-3 Inv-loop μ-loop
+returns-3 : tie.Need-returns-3
 returns-3 c =
-    let b = c .before .before .before .before in
-    let l = c .before .loop in
-    sym
-    (ap (λ p. settled (runOf (b .args .run)) (stoppedAt (p .count) (p .run) (p .stop)))
-    (went-all (charts (readCharts (now (b .args .s)))) (now (b .args .masks)) (runOf (b .args .run)) (l .k) (runOf (l .present)) (let h = c .loop-test .left in omega (arith, h)) (l .inv .0)))
+    let b = c .before .before .before .before .before .before .before .before in
+    let some-left = c .before .before .before .before .before .if1 .left in
+    let given = c .before .answer .given in
+    let failed = cycling (c .before .before .before) ∙ ap (λ a. endingOf a >>= λ x. val (x, runOf (c .before .before .before .cycle .result .run))) (given .1) in
+    sym (ap (λ p. settled (runOf (b .args .run)) (stoppedAt (p .count) (p .run) (p .stop))) (went-stop (charts (readCharts (now (b .args .s)))) (now (b .args .masks)) (runOf (b .args .run)) 0 (runOf (b .args .run)) (reasonOf (given .0 .0)) (omega (arith, some-left)) (went-none (charts (readCharts (now (b .args .s)))) (now (b .args .masks)) (runOf (b .args .run))) failed))
+
+returns-4 : tie.Need-returns-4
+returns-4 c =
+    let b = c .before .before .before .before .before .before .before .before in
+    let some-left = c .before .before .before .before .before .if1 .left in
+    let given = c .before .answer2 .given in
+    let failed = cycling (c .before .before .before) ∙ ap (λ a. endingOf a >>= λ x. val (x, runOf (c .before .before .before .cycle .result .run))) (given .1) in
+    sym (ap (λ p. settled (runOf (b .args .run)) (stoppedAt (p .count) (p .run) (p .stop))) (went-stop (charts (readCharts (now (b .args .s)))) (now (b .args .masks)) (runOf (b .args .run)) 0 (runOf (b .args .run)) (refusalOf (given .0 .0)) (omega (arith, some-left)) (went-none (charts (readCharts (now (b .args .s)))) (now (b .args .masks)) (runOf (b .args .run))) failed))
 
 pub cycles-played-spec : {M : Type 1} → statement M
 cycles-played-spec =
     tie.close
     (tie.spec
-    Inv-loop
-    μ-loop
-    loop-holds
-    mul-cycle
+    returns
     shared-slice-read-cycle
     cycle-requires
     enum-told
-    add-k
-    loop-less
-    loop-again
+    sub-played-on
+    part-played-on-start
+    part-played-on-end
+    played-on-requires
     enum-known-answer
-    cast-stopped
-    stopped-requires
-    returns
     enum-known-answer-2
-    cast-stopped-2
-    stopped-requires-2
     returns-2
-    cast-t23
-    returns-3)
+    returns-3
+    returns-4)

@@ -1,5 +1,5 @@
 -- `plays::play` meets its contract: a file that is not refused is one whose cycles can be played. Assumes nothing.
-use mathlib.Core.Path.{sym, ap, _∙_}
+use mathlib.Core.Path.{refl, sym, ap, _∙_}
 use denote.Ref.{now}
 use Rattle.records.specs.Refusal.{unless-refused}
 use Rattle.model.specs.Outcome.{settled}
@@ -31,16 +31,15 @@ accepted c =
     let k = c .before .before .before in
     accepted-of (now (k .before .before .before .args .s)) (k .check .result) (k .check .ensures) (c .before .shape .given .0 .0) (c .before .shape .given .1)
 
-rows-of-requires : tie.Need-rows-of-requires
-rows-of-requires c κs = accepted c
+fill-rows-requires : tie.Need-fill-rows-requires
+fill-rows-requires c κs = (accepted (c .before .before), refl, refl)
 
-actions-of-requires : tie.Need-actions-of-requires
-actions-of-requires c κs = accepted (c .before)
+fill-actions-requires : tie.Need-fill-actions-requires
+fill-actions-requires c κs = (accepted (c .before .before .before .before .before), refl, refl)
 
 cycles-played-requires : tie.Need-cycles-played-requires
 cycles-played-requires c κs =
-    let a = c .before .before .before .before .before in
-    record { accepted = accepted (a .before .before); has-rows = a .before .rows-of .ensures; has-actions = a .actions-of .ensures }
+    (record { accepted = accepted (c .before .before .before .before .before .before .before .before .before .before); has-rows = c .before .before .before .before .before .before .before .fill-rows .ensures .0; has-actions = c .before .before .before .before .fill-actions .ensures }, c .before .before .before .before .before .before .before .fill-rows .ensures .1)
 
 returns : tie.Need-returns
 returns c =
@@ -54,7 +53,7 @@ returns c =
 
 returns-2 : tie.Need-returns-2
 returns-2 c =
-    let t = c .before .before .before .before .before .before .before .before in
+    let t = c .before .before .before .before .before .before .before .before .before .before .before in
     let a = t .before .before .before .before .before .before .args in
     c .cycles-played .ensures
     ∙ sym (ap (λ o. settled (runOf (a .run)) (unless-refused o (playing (charts (readCharts (now (a .s)))) (now (a .masks)) (runOf (a .run))))) (accepted t .unrefused))
@@ -67,8 +66,8 @@ play-spec =
     enum-known-refusal
     unplayed-requires
     enum-known-shape
-    rows-of-requires
-    actions-of-requires
+    fill-rows-requires
+    fill-actions-requires
     cycles-played-requires
     returns
     returns-2)

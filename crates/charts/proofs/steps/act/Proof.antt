@@ -58,8 +58,8 @@ enum-known-w-2 c = search needs
 enum-known-crossed : tie.Need-enum-known-crossed
 enum-known-crossed c = search needs
 
-do-deeds-requires-3 : tie.Need-do-deeds-requires-3
-do-deeds-requires-3 c κs = (c .before .before .before .before .before .before .before .before .before .before .before .before .before .before .pre .0, c .before .before .before .before .before .before .before .before .before .before .before .before .before .before .pre .1, omega (arith, small (c .before .before .before .before .before .before .before .before .before .before .before)))
+chained-deeds-requires : tie.Need-chained-deeds-requires
+chained-deeds-requires c κs = (c .before .before .before .before .before .before .before .before .before .before .before .before .before .before .pre .0, c .before .before .before .before .before .before .before .before .before .before .before .before .before .before .pre .1, omega (arith, small (c .before .before .before .before .before .before .before .before .before .before .before)))
 
 returns : tie.Need-returns
 returns c = λ p q.
@@ -93,7 +93,7 @@ returns-3 c = λ p q.
     (ap (λ d. worldAfter d (f .last .1 .1 .1 .1 .1 .0) p q) (sym (c .before .before .before .before .before .before .before .before .left .given .1)) ∙ f .ensures p q)
     (worldIn (g .last .1 .1 .1 .1 .1 .0) (c .before .before .before .crossed .given .0 .0) p q)
     (ap (λ d. worldAfter d (g .last .1 .1 .1 .1 .1 .0) p q) (sym (c .before .before .before .crossed .given .1)) ∙ g .ensures p q)
-    (worldAfter (c .do-deeds3 .result) (c .do-deeds3 .last .1 .1 .1 .1 .1 .0) p q) (c .do-deeds3 .ensures p q)
+    (worldAfter (c .chained-deeds .result) (c .chained-deeds .last .1 .1 .1 .1 .1 .0) p q) (c .chained-deeds .ensures p q)
 
 pub act-spec : {M : Type 1} → statement M
 act-spec =
@@ -109,7 +109,7 @@ act-spec =
     do-deeds-requires-2
     enum-known-w-2
     enum-known-crossed
-    do-deeds-requires-3
+    chained-deeds-requires
     returns
     returns-2
     returns-3)

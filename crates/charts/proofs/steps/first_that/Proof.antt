@@ -1,8 +1,8 @@
--- `steps::first_that` meets its contract: none of the places before j holds. Assumes nothing.
+-- `steps::first_that` meets its contract: none of the places before j holds, and from the end on they name none. Assumes nothing.
 use mathlib.Core.Path.{_≡_, sym, ap, _∙_}
 use mathlib.Core.List.{[]}
 use mathlib.Core.Bool.{true}
-use Prim.Native.Nat.{ℕ, _+_, _-_, _<_}
+use Prim.Native.Nat.{ℕ, _+_, _-_, _≤_, _<_}
 use native.Mathlib.Omega.{arith}
 use borrow.Author.Needs.{needs}
 use denote.Ref.{now}
@@ -15,15 +15,15 @@ use Rattle.model.specs.Charts.{firstThat, transitionHolds}
 use Rattle.chart_files.proofs.Readings.{most-states}
 use Rattle.machines.specs.Worlds.{bareWorld}
 use Rattle.charts.specs.StepOf.{slotHolds}
-use Rattle.charts.proofs.StepLaws.{slot, Tried, tried-none, tried-more, tried-found, tried-fault, tried-all, holds-named, named-one, row-outside}
+use Rattle.charts.proofs.StepLaws.{slot, Tried, tried-none, tried-more, tried-found, tried-fault, tried-end, holds-named, named-one, row-outside}
 use Rattle.charts.proofs.steps.first_that.Statement.{statement}
 use Rattle.charts.proofs.steps.first_that.Tie as tie
 
 abbrev Inv-loop : tie.InvT-loop
-Inv-loop s shape rows vars events age state i j₀ j = Tried (readCharts s) state (transitionHolds (readCharts s) (bareWorld vars events) age) j
+Inv-loop s shape rows ends vars events age state i end j₀ j = Tried (readCharts s) state (transitionHolds (readCharts s) (bareWorld vars events) age) j
 
 abbrev μ-loop : tie.MeasureT-loop
-μ-loop s shape rows vars events age state i j₀ j = 16 - j
+μ-loop s shape rows ends vars events age state i end j₀ j = 16 - j
 
 returns : tie.Need-returns Inv-loop μ-loop
 unfolding firstThat
@@ -32,39 +32,51 @@ returns c =
     let x = a .args in
     (sym (ap (firstThat (transitionHolds (readCharts (now (x .s))) (bareWorld (now (x .vars)) (x .events)) (x .age))) (row-outside (now (x .s)) (x .shape) (a .pre .0) (x .state) (c .if1 .taken))), tt)
 
+small-state : (c : tie.Else1 Inv-loop μ-loop) → c .before .before .before .args .state < 128
+small-state c =
+    let a = c .before .before .before in
+    omega (arith, c .if1 .left, most-states (now (a .args .s)) (a .args .shape) (a .pre .0 .shape))
+
+small-end : (c : tie.Else1 Inv-loop μ-loop) → getD (now (c .before .before .before .args .ends)) (c .before .before .before .args .state) 0 ≤ 16
+small-end c = c .before .before .before .pre .2 (c .before .before .before .args .state) (small-state c) .0
+
+element-copy-out-end : tie.Need-element-copy-out-end Inv-loop μ-loop
+element-copy-out-end c = small-state c
+
+cast-end : tie.Need-cast-end Inv-loop μ-loop
+cast-end c = omega (arith, small-end (c .before))
+
 loop-holds : tie.Need-loop-holds Inv-loop μ-loop
 loop-holds c =
-    let a = c .before .before .before in
+    let a = c .before .before .before .before in
     let x = a .args in
-    tried-none (now (x .s)) (x .shape) (a .pre .0) (x .state) (transitionHolds (readCharts (now (x .s))) (bareWorld (now (x .vars)) (x .events)) (x .age)) (c .if1 .left)
+    tried-none (now (x .s)) (x .shape) (a .pre .0) (x .state) (transitionHolds (readCharts (now (x .s))) (bareWorld (now (x .vars)) (x .events)) (x .age)) (c .before .if1 .left)
 
-known-state : (c : tie.In-loop Inv-loop μ-loop) → c .before .before .before .before .before .args .state < 128
-known-state c =
-    let a = c .before .before .before .before .before in
-    omega (arith, c .before .before .if1 .left, most-states (now (a .args .s)) (a .args .shape) (a .pre .0 .shape))
+in-row : (c : tie.In-loop Inv-loop μ-loop) → c .before .loop .j < 16
+in-row c = omega (arith, c .loop-test .taken, small-end (c .before .before .before))
 
 -- the place that is read
 abbrev t-of : (c : tie.After-t Inv-loop μ-loop) → ℕ
-t-of c = getD (getD (now (c .before .before .before .before .before .before .args .rows)) (c .before .before .before .before .before .before .args .state) []) (c .before .before .loop .j) 0
+t-of c = getD (getD (now (c .before .before .before .before .before .before .before .args .rows)) (c .before .before .before .before .before .before .before .args .state) []) (c .before .before .loop .j) 0
 
-slot-here : (c : tie.After-t Inv-loop μ-loop) → t-of c ≡ slot (readCharts (now (c .before .before .before .before .before .before .args .s))) (c .before .before .before .before .before .before .args .state) (c .before .before .loop .j + 1)
-slot-here c = c .before .before .before .before .before .before .pre .1 (c .before .before .before .before .before .before .args .state) (c .before .before .loop .j) (known-state (c .before)) (c .before .loop-test .taken)
+slot-here : (c : tie.After-t Inv-loop μ-loop) → t-of c ≡ slot (readCharts (now (c .before .before .before .before .before .before .before .args .s))) (c .before .before .before .before .before .before .before .args .state) (c .before .before .loop .j + 1)
+slot-here c = c .before .before .before .before .before .before .before .pre .1 (c .before .before .before .before .before .before .before .args .state) (c .before .before .loop .j) (small-state (c .before .before .before .before)) (in-row (c .before))
 
 mul-t : tie.Need-mul-t Inv-loop μ-loop
-mul-t c = omega (arith, known-state c)
+mul-t c = omega (arith, small-state (c .before .before .before))
 
 mul-t-2 : tie.Need-mul-t-2 Inv-loop μ-loop
-mul-t-2 c = omega arith
+mul-t-2 c = omega (arith, in-row c)
 
 index-1-t : tie.Need-index-1-t Inv-loop μ-loop
-index-1-t c = known-state c
+index-1-t c = small-state (c .before .before .before)
 
 index-2-t : tie.Need-index-2-t Inv-loop μ-loop
-index-2-t c = omega arith
+index-2-t c = in-row c
 
 slot-holds-requires : tie.Need-slot-holds-requires Inv-loop μ-loop
 slot-holds-requires c κs =
-    let a = c .before .before .before .before .before .before in
+    let a = c .before .before .before .before .before .before .before in
     let x = a .args in
     (a .pre .0, λ n. named-one (now (x .s)) (x .shape) (a .pre .0) (x .state) (c .before .before .loop .j + 1) (t-of c) (slot-here c) n)
 
@@ -76,11 +88,11 @@ reason-for-requires c κs = tt
 
 returns-2 : tie.Need-returns-2 Inv-loop μ-loop
 returns-2 c =
-    let a = c .before .before .before .before .before .before .before .before .before .before .before in
+    let a = c .before .before .before .before .before .before .before .before .before .before .before .before in
     let x = a .args in
     let l = c .before .before .before .before .before .before .before .loop in (
       ap fault (c .reason-for .ensures)
-          ∙ tried-fault (readCharts (now (x .s))) (x .state) (transitionHolds (readCharts (now (x .s))) (bareWorld (now (x .vars)) (x .events)) (x .age)) (l .j) (t-of (c .before .before .before .before .before)) (l .inv) (c .before .before .before .before .before .before .loop-test .taken) (slot-here (c .before .before .before .before .before)) (expressions-answers.reasonOf (c .before .before .w .given .0 .0))
+          ∙ tried-fault (readCharts (now (x .s))) (x .state) (transitionHolds (readCharts (now (x .s))) (bareWorld (now (x .vars)) (x .events)) (x .age)) (l .j) (t-of (c .before .before .before .before .before)) (l .inv) (in-row (c .before .before .before .before .before .before)) (slot-here (c .before .before .before .before .before)) (expressions-answers.reasonOf (c .before .before .w .given .0 .0))
           (ap truthOf (sym (c .before .before .w .given .1)) ∙ c .before .before .before .before .slot-holds .ensures),
       tt,
     )
@@ -90,11 +102,11 @@ enum-known-holding c = search needs
 
 returns-3 : tie.Need-returns-3 Inv-loop μ-loop
 returns-3 c =
-    let a = c .before .before .before .before .before .before .before .before .before .before .before in
+    let a = c .before .before .before .before .before .before .before .before .before .before .before .before in
     let x = a .args in
     let l = c .before .before .before .before .before .before .before .loop in
     let e : val true ≡ slotHolds (transitionHolds (readCharts (now (x .s))) (bareWorld (now (x .vars)) (x .events)) (x .age)) (t-of (c .before .before .before .before .before)) = ap val (sym (c .if2 .taken)) ∙ ap truthOf (sym (c .before .before .holding .given .1)) ∙ c .before .before .before .before .slot-holds .ensures in (
-      tried-found (readCharts (now (x .s))) (x .state) (transitionHolds (readCharts (now (x .s))) (bareWorld (now (x .vars)) (x .events)) (x .age)) (l .j) (t-of (c .before .before .before .before .before)) (l .inv) (c .before .before .before .before .before .before .loop-test .taken) (slot-here (c .before .before .before .before .before)) e,
+      tried-found (readCharts (now (x .s))) (x .state) (transitionHolds (readCharts (now (x .s))) (bareWorld (now (x .vars)) (x .events)) (x .age)) (l .j) (t-of (c .before .before .before .before .before)) (l .inv) (in-row (c .before .before .before .before .before .before)) (slot-here (c .before .before .before .before .before)) e,
       named-one (now (x .s)) (x .shape) (a .pre .0) (x .state) (l .j + 1) (t-of (c .before .before .before .before .before)) (slot-here (c .before .before .before .before .before)) (holds-named (transitionHolds (readCharts (now (x .s))) (bareWorld (now (x .vars)) (x .events)) (x .age)) (t-of (c .before .before .before .before .before)) e),
     )
 
@@ -102,20 +114,26 @@ add-j : tie.Need-add-j Inv-loop μ-loop
 add-j c = omega (arith, c .before .before .before .before .before .before .before .loop .inv .0)
 
 loop-less : tie.Need-loop-less Inv-loop μ-loop
-loop-less c = omega (arith, c .before .before .before .before .before .before .loop-test .taken)
+loop-less c = omega (arith, in-row (c .before .before .before .before .before .before))
 
 loop-again : tie.Need-loop-again Inv-loop μ-loop
 loop-again c =
-    let a = c .before .before .before .before .before .before .before .before .before .before .before in
-    let x = a .args in
+    let x = c .before .before .before .before .before .before .before .before .before .before .before .before .args in
     let l = c .before .before .before .before .before .before .before .loop in
-    tried-more (readCharts (now (x .s))) (x .state) (transitionHolds (readCharts (now (x .s))) (bareWorld (now (x .vars)) (x .events)) (x .age)) (l .j) (t-of (c .before .before .before .before .before)) (l .inv) (c .before .before .before .before .before .before .loop-test .taken) (slot-here (c .before .before .before .before .before))
+    tried-more (readCharts (now (x .s))) (x .state) (transitionHolds (readCharts (now (x .s))) (bareWorld (now (x .vars)) (x .events)) (x .age)) (l .j) (t-of (c .before .before .before .before .before)) (l .inv) (in-row (c .before .before .before .before .before .before)) (slot-here (c .before .before .before .before .before))
     (ap val (sym (c .if2 .left)) ∙ ap truthOf (sym (c .before .before .holding .given .1)) ∙ c .before .before .before .before .slot-holds .ensures)
 
 returns-4 : tie.Need-returns-4 Inv-loop μ-loop
 returns-4 c =
-    let x = c .before .before .before .before .before .args in
-    (tried-all (readCharts (now (x .s))) (x .state) (transitionHolds (readCharts (now (x .s))) (bareWorld (now (x .vars)) (x .events)) (x .age)) (c .before .loop .j) (c .before .loop .inv) (c .loop-test .left), tt)
+    let a = c .before .before .before .before .before .before in
+    let x = a .args in
+    let l = c .before .loop in
+    let h = small-state (c .before .before .before) in
+    let past = c .loop-test .left in (
+      tried-end (readCharts (now (x .s))) (x .state) (transitionHolds (readCharts (now (x .s))) (bareWorld (now (x .vars)) (x .events)) (x .age)) (16 - l .j) (l .j) (omega (arith, l .inv .0)) (l .inv)
+          (λ i le lt. sym (a .pre .1 (x .state) i h lt) ∙ a .pre .2 (x .state) h .1 i (omega (arith, past)) lt),
+      tt,
+    )
 
 pub first-that-spec : {M : Type 1} → statement M
 first-that-spec =
@@ -124,6 +142,8 @@ first-that-spec =
     Inv-loop
     μ-loop
     returns
+    element-copy-out-end
+    cast-end
     loop-holds
     mul-t
     mul-t-2

@@ -1,67 +1,116 @@
--- `triggers::triggered` meets its contract, arm by arm. Assumes nothing.
+-- `triggers::triggered` meets its contract, arm by arm: each is the table's entry of its code, and the last what no entry has. Assumes nothing.
 use mathlib.Core.Path.{sym, ap, _∙_, subst}
+use Prim.Native.Nat.{_+_, _*_}
+use borrow.Author.Tests.{ne-eqb}
+use denote.Ref.{now}
 use lib.Dec.{eqb}
-use Rattle.model.specs.Charts.{everyHolds, triggered}
-use Rattle.chart_files.specs.Parts.{triggerFor}
+use Rattle.records.specs.Lists.{caseOf}
+use Rattle.records.specs.Bytes.{byte, four}
+use Rattle.model.specs.Charts.{ticks, everyHolds, triggered}
+use Rattle.chart_files.specs.Places.{triggerBy}
 use Rattle.charts.specs.Replies.{Holdable}
 use borrow.Author.Needs.{needs}
 use Rattle.charts.proofs.triggers.triggered.Statement.{statement}
 use Rattle.charts.proofs.triggers.triggered.Tie as tie
 
-enum-told : tie.Need-enum-told
-enum-told c = search needs
+mul-at : tie.Need-mul-at
+mul-at c = search needs
 
-enum-known-trigger : tie.Need-enum-known-trigger
-enum-known-trigger c = search needs
+add-match : tie.Need-add-match
+add-match c = search needs
+
+shared-slice-read-match : tie.Need-shared-slice-read-match
+shared-slice-read-match c = search needs
+
+add-present : tie.Need-add-present
+add-present c = search needs
+
+shared-slice-read-present : tie.Need-shared-slice-read-present
+shared-slice-read-present c = search needs
 
 present-requires : tie.Need-present-requires
-present-requires c κs = subst (λ t. Holdable (triggerFor t)) (c .before .trigger .given .1) (c .before .before .before .pre)
+unfolding caseOf
+present-requires c κs =
+    let a = c .before .before .before .before in
+    let s = now (a .args .s) in
+    let n = 16 * a .args .n in
+    subst (λ k. Holdable (triggerBy k (byte s (n + 7)) (four s (n + 8)))) (c .before .match .keys1) (a .pre .1)
 
-enum-known-trigger-2 : tie.Need-enum-known-trigger-2
-enum-known-trigger-2 c = search needs
+add-u32-within : tie.Need-add-u32-within
+add-u32-within c = search needs
+
+u32-within-requires : tie.Need-u32-within-requires
+u32-within-requires c κs = search needs
 
 ticks-requires : tie.Need-ticks-requires
 ticks-requires c κs = search needs
 
-enum-known-trigger-3 : tie.Need-enum-known-trigger-3
-enum-known-trigger-3 c = search needs
+add-u32-within-2 : tie.Need-add-u32-within-2
+add-u32-within-2 c = search needs
+
+u32-within-requires-2 : tie.Need-u32-within-requires-2
+u32-within-requires-2 c κs = search needs
 
 ticks-requires-2 : tie.Need-ticks-requires-2
 ticks-requires-2 c κs = search needs
 
 every-holds-requires : tie.Need-every-holds-requires
-every-holds-requires c κs = rw (c .ticks2 .ensures) (subst (λ t. Holdable (triggerFor t)) (c .before .before .trigger3 .given .1) (c .before .before .before .before .pre))
+unfolding caseOf
+every-holds-requires c κs =
+    let a = c .before .before .before .before .before in
+    let s = now (a .args .s) in
+    let n = 16 * a .args .n in
+    rw (c .ticks2 .ensures, c .before .u32-within2 .ensures) (subst (λ k. Holdable (triggerBy k (byte s (n + 7)) (four s (n + 8)))) (c .before .before .match .keys3) (a .pre .1))
 
 returns : tie.Need-returns
-returns c = search needs
+unfolding caseOf
+returns c =
+    let a = c .before .before .before .before .before .args in
+    let s = now (a .s) in
+    let n = 16 * a .n in
+    c .present .ensures ∙ ap (λ k. triggered (triggerBy k (byte s (n + 7)) (four s (n + 8))) (a .age) (a .events)) (sym (c .before .before .match .keys1))
 
 returns-2 : tie.Need-returns-2
+unfolding caseOf
 returns-2 c =
-    let a = c .before .before .before .before .args in
-    c .present .ensures ∙ ap (λ t. triggered (triggerFor t) (a .age) (a .events)) (sym (c .before .before .trigger .given .1))
+    let a = c .before .before .before .before .before .args in
+    let s = now (a .s) in
+    let n = 16 * a .n in
+    ap (eqb (a .age)) (c .ticks .ensures ∙ ap ticks (c .before .u32-within .ensures))
+    ∙ ap (λ k. triggered (triggerBy k (byte s (n + 7)) (four s (n + 8))) (a .age) (a .events)) (sym (c .before .before .match .keys2))
 
 returns-3 : tie.Need-returns-3
+unfolding caseOf
 returns-3 c =
-    let a = c .before .before .before .before .args in
-    ap (eqb (a .age)) (c .ticks .ensures) ∙ ap (λ t. triggered (triggerFor t) (a .age) (a .events)) (sym (c .before .before .trigger2 .given .1))
+    let a = c .before .before .before .before .before .before .args in
+    let s = now (a .s) in
+    let n = 16 * a .n in
+    c .every-holds .ensures
+    ∙ ap (λ d. everyHolds d (a .age)) (c .before .ticks2 .ensures ∙ ap ticks (c .before .before .u32-within2 .ensures))
+    ∙ ap (λ k. triggered (triggerBy k (byte s (n + 7)) (four s (n + 8))) (a .age) (a .events)) (sym (c .before .before .before .match .keys3))
 
 returns-4 : tie.Need-returns-4
+unfolding caseOf
 returns-4 c =
-    let a = c .before .before .before .before .before .args in
-    c .every-holds .ensures
-    ∙ ap (λ d. everyHolds d (a .age)) (c .before .ticks2 .ensures)
-    ∙ ap (λ t. triggered (triggerFor t) (a .age) (a .events)) (sym (c .before .before .before .trigger3 .given .1))
+    let a = c .before .before .before .args in
+    let x = byte (now (a .s)) (16 * a .n + 6) in
+    sym (rw (ne-eqb x 1 (c .match .rest .0 .0 .1), ne-eqb x 2 (c .match .rest .0 .1), ne-eqb x 3 (c .match .rest .1)))
 
 pub triggered-spec : {M : Type 1} → statement M
 triggered-spec =
     tie.close
     (tie.spec
-    enum-told
-    enum-known-trigger
+    mul-at
+    add-match
+    shared-slice-read-match
+    add-present
+    shared-slice-read-present
     present-requires
-    enum-known-trigger-2
+    add-u32-within
+    u32-within-requires
     ticks-requires
-    enum-known-trigger-3
+    add-u32-within-2
+    u32-within-requires-2
     ticks-requires-2
     every-holds-requires
     returns
