@@ -2,10 +2,10 @@
 use mathlib.Core.Path.{_≡_, refl, sym, ap, _∙_}
 use mathlib.Core.Bool.{Bool, true, false, cond}
 use mathlib.Core.List.{List}
-use Prim.Native.Nat.{ℕ, _+_, _≤_, _<_}
+use Prim.Native.Nat.{ℕ, _+_, _≤_, _<_, min}
 use native.Mathlib.Omega.{arith}
-use borrow.Author.Tests.{leb-true, ltb-true}
-use lib.Dec.{leb, ltb}
+use borrow.Author.Tests.{leb-true, ltb-true, ne-eqb}
+use lib.Dec.{leb, ltb, eqb}
 use lib.ListN.{getD}
 use Rattle.records.specs.Lists.{all, upto, mapFrom}
 use Rattle.model.specs.Runs.{Run, timersPossible}
@@ -20,7 +20,7 @@ use Rattle.automata_files.proofs.Sound.{ticks-known}
 use Rattle.machines.proofs.FileLaws.{all-alike}
 use Rattle.machines.proofs.Possible.{all-upto}
 use Rattle.automata.specs.Accepted.{Accepted}
-use Rattle.automata.specs.RunOf.{topAt, grownAt, Low}
+use Rattle.automata.specs.RunOf.{topAt, grownAt, Low, turnFor, capFor, grownTo}
 
 module _ (s : List ℕ) (sh : Shape) (is : IsShape s sh) (r : Run) where
   abbrev inside : ℕ → Bool
@@ -53,3 +53,8 @@ low-of s sh ok r e k h =
     let t : top (clockAt s sh k .timing) (clockAt s sh k .ticks) ≤ 36_001 = highest (clockAt s sh k .timing) (clockAt s sh k .ticks) (ticks-known s sh (ok .shape) (ok .unrefused) k h .1) in
     let l : getD (r .timers) k 0 ≤ topAt s sh k = leb-true (getD (r .timers) k 0) (topAt s sh k) (all-upto (λ j. leb (getD (r .timers) j 0) (topAt s sh j)) (sh .clocks) k (sym (clocks-are s sh (ok .shape) r) ∙ e) h) in
     omega arith
+
+-- the two limits say how a clock grows
+pub limit : (t : Timing) (d x : ℕ) → d ≤ 36_000 → x ≤ 36_001 → grownTo (turnFor t d) (capFor t d) x ≡ grown t d x
+limit after d x h l = ap (λ b. cond b 1 (min (x + 1) (d + 1))) (ne-eqb x 65535 (λ e. absurd (omega arith)))
+limit every d x h l = ap (λ y. cond (eqb x d) 1 y) (let z : min (x + 1) 65535 ≡ x + 1 = omega arith in z)

@@ -1,9 +1,10 @@
 -- What an automaton's turn keeps: the position and the count, and no clock grows. Assumes nothing.
+use mathlib.Core.Path.{_≡_, refl, _∙_}
 use mathlib.Core.List.{List, [], _∷_}
 use Prim.Native.Nat.{ℕ, _≤_}
 use native.Mathlib.Nat.{le-refl}
 use native.Mathlib.Omega.{arith}
-use lib.ListN.{getD, set}
+use lib.ListN.{length, getD, set, length-set}
 use Rattle.records.specs.Refusal.{Out, val, fault, _>>=_}
 use Rattle.model.specs.Owned.{of}
 use Rattle.model.specs.Runs.{World, Run, Answer, deeds, taken}
@@ -16,6 +17,11 @@ reset-kept : (ks clocks : List ℕ) (c : ℕ) → getD (reset ks clocks) c 0 ≤
 unfolding reset
 reset-kept [] clocks c = le-refl (getD clocks c 0)
 reset-kept (k ∷ ks) clocks c = omega (arith, reset-kept ks (set clocks k 0) c, set-zero clocks k c)
+
+pub length-reset : (ks clocks : List ℕ) → length (reset ks clocks) ≡ length clocks
+unfolding reset
+length-reset [] clocks = refl
+length-reset (k ∷ ks) clocks = length-reset ks (set clocks k 0) ∙ length-set clocks k 0
 
 module _ (au : Automata) where
   pub step-kept : (a : ℕ) (r : Run) → KeptRun r (edgeStep au a r)

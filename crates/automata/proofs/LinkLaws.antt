@@ -6,12 +6,12 @@ use mathlib.Core.List.{List}
 use Prim.Native.Nat.{ℕ, _+_, _-_, _≤_, _<_}
 use native.Mathlib.Omega.{arith}
 use lib.Dec.{eqb}
-use lib.ListN.{length, getD, set, replicate, length-set, getD-replicate}
+use lib.ListN.{length, getD, set, replicate, length-set, length-replicate, getD-replicate}
 use lib.Seq.{getD-set-same, getD-set-other}
 use borrow.Author.Tests.{eqb-true, eqb-false}
 use Rattle.machines.specs.Chains.{earliest}
 use Rattle.machines.proofs.Earliest.{earliest-one, earliest-none}
-use Rattle.automata.specs.Index.{ownerIn, owned, Linked, Apart, Linkable, Links}
+use Rattle.automata.specs.Index.{ownerIn, owned, Linked, Vacant, Blank, Apart, Linkable, Links}
 use Rattle.automata.specs.declared.index.Span.{Span}
 
 module _ (s : List ℕ) (start end base owners : ℕ) (first₀ next₀ : List ℕ) where
@@ -78,16 +78,12 @@ module _ (s : List ℕ) (start end base owners : ℕ) (first₀ next₀ : List �
 
 -- ---- one kind after the other
 
--- from a key on nothing is named
-abbrev pub Vacant : ℕ → List ℕ → Type 0
-Vacant k first = (j : ℕ) → k ≤ j → j < 1280 → getD first j 0 ≡ 65535
+pub blank : Blank (replicate {A = ℕ} 1280 65535)
+blank = record { keys = length-replicate {A = ℕ} 1280 65535; vacant = λ j a b. getD-replicate {A = ℕ} 1280 j 65535 0 b }
 
-pub vacant-all : Vacant 0 (replicate {A = ℕ} 1280 65535)
-vacant-all j a b = getD-replicate {A = ℕ} 1280 j 65535 0 b
-
-pub linkable : (s : List ℕ) (sp : Span) (first : List ℕ) → sp .start ≤ sp .end → sp .end ≤ 14536 → sp .base + sp .owners ≤ 1280 →
-    ((n : ℕ) → sp .start ≤ n → n < sp .end → ownerIn s n < sp .owners) → Vacant (sp .base) first → Linkable s sp first
-linkable s sp first a b c own v = record { ordered = a; space = b; room = c; own = own; empty = λ o h. v (sp .base + o) (omega arith) (omega arith) }
+pub linkable : (s : List ℕ) (sp : Span) (first next : List ℕ) → length first ≡ 1280 → sp .start ≤ sp .end → sp .end ≤ 14536 → sp .end ≤ length next → sp .base + sp .owners ≤ 1280 →
+    ((n : ℕ) → sp .start ≤ n → n < sp .end → ownerIn s n < sp .owners) → Vacant (sp .base) first → Linkable s sp first next
+linkable s sp first next k a b l c own v = record { keys = k; ordered = a; space = (b, l); room = c; own = own; empty = λ o h. v (sp .base + o) (omega arith) (omega arith) }
 
 module _ {s : List ℕ} {sp : Span} {first next first′ next′ : List ℕ} (links : Links s sp first next first′ next′) where
   -- a kind that stands before stays linked

@@ -5,6 +5,7 @@ use mathlib.Core.List.{List, [], _∷_, map}
 use Prim.Native.Nat.{ℕ, _+_, _-_, _≤_, _<_}
 use native.Mathlib.Omega.{arith}
 use lib.Dec.{eqb}
+use lib.ListN.{length, replicate, length-replicate}
 use borrow.Author.Tests.{ne-eqb}
 use Rattle.records.specs.Lists.{keep, from, upto}
 use Rattle.model.specs.Owned.{of}
@@ -15,10 +16,10 @@ use Rattle.automata_files.specs.declared.Shape.{Shape}
 use Rattle.automata_files.specs.Shape.{IsShape}
 use Rattle.automata_files.specs.Places.{firstEdge, firstLiteral, firstClock, firstUpdate, firstReset, edgeIn, literalIn, updateIn, resetIn, literalAt, updateAt, resetAt}
 use Rattle.automata_files.specs.Known.{CauseKnown, DeedKnown}
-use Rattle.automata_files.proofs.Readings.{most-automata, most-locations, most-edges, most-literals, most-clocks, most-variables, most-nodes, most-updates, most-resets, length-edges, literals-are, updates-are, resets-are, edge-is}
+use Rattle.automata_files.proofs.Readings.{inside, most-automata, most-locations, most-edges, most-literals, most-clocks, most-variables, most-nodes, most-updates, most-resets, length-edges, literals-are, updates-are, resets-are, edge-is}
 use Rattle.automata_files.proofs.Sound.{source-known, literal-edge-known, literal-cause-known, update-edge-known, update-deed-known, reset-edge-known, reset-clock-known}
-use Rattle.automata.specs.Accepted.{Accepted}
-use Rattle.automata.specs.Index.{ownerIn, owned, FewRecords}
+use Rattle.automata.specs.Accepted.{Accepted, InFile}
+use Rattle.automata.specs.Index.{ownerIn, owned, FewRecords, RoomFor}
 use Rattle.automata.proofs.Joined.{of-owner, of-source}
 
 abbrev pub ownEdge : List ℕ → ℕ → ℕ → Bool
@@ -28,6 +29,17 @@ module _ (s : List ℕ) (sh : Shape) (is : IsShape s sh) where
   pub few-records : FewRecords sh
   few-records =
       omega (arith, most-automata s sh is, most-locations s sh is, most-edges s sh is, most-literals s sh is, most-clocks s sh is, most-variables s sh is, most-nodes s sh is, most-updates s sh is, most-resets s sh is)
+
+  -- its records lie in the file
+  pub in-file : (n : ℕ) → n < firstReset sh + sh .resets → InFile s n
+  in-file n h = omega (arith, h, inside s sh is)
+
+  -- an index that is long enough: 512 places for a short file, and what any table needs
+  pub room-short : length s ≤ 8192 → RoomFor sh (replicate {A = ℕ} 512 65535)
+  room-short h = omega (arith, h, inside s sh is, length-replicate {A = ℕ} 512 65535)
+
+  pub room-long : RoomFor sh (replicate {A = ℕ} 14536 65535)
+  room-long = omega (arith, few-records, length-replicate {A = ℕ} 14536 65535)
 
   -- ---- what an edge has, record by record
 

@@ -1,10 +1,10 @@
 -- Turns of automata: what the laws of turns ask of a machine. Assumes nothing.
-use mathlib.Core.Path.{_≡_}
+use mathlib.Core.Path.{_≡_, ap, _∙_}
 use mathlib.Core.List.{List}
 use Prim.Native.Nat.{ℕ, _+_, _-_, _≤_, _<_}
 use native.Mathlib.Omega.{arith}
-use Rattle.records.specs.Refusal.{val}
-use Rattle.model.specs.Runs.{Run, Answer, checked, give, stepped}
+use Rattle.records.specs.Refusal.{val, _>>=_}
+use Rattle.model.specs.Runs.{Run, Answer, checked, give, moved, stepped}
 use Rattle.model.specs.AutomataTable.{readAutomata}
 use Rattle.model.specs.Automata.{edgeStep, automata}
 use Rattle.automata_files.specs.declared.Shape.{Shape}
@@ -26,5 +26,8 @@ module _ (s : List ℕ) (sh : Shape) (ok : Accepted s sh) where
       T.ready-next (automata (readAutomata s)) (sh .automata) (length-initial s sh (ok .shape)) (lowAt sh) (λ cycles k x y h f l. omega (arith, h, f l)) r y
       (step-kept (readAutomata s) (r .world .position - 1) r)
 
-  pub automaton-place : (r : Run) (a : Answer) (q : Run) → edgeStep (readAutomata s) (r .world .position - 1) r ≡ val (a, q) → q .world .position ≡ r .world .position
-  automaton-place r = T.part-place (automata (readAutomata s)) r (step-kept (readAutomata s) (r .world .position - 1) r)
+  -- the turn of automaton a, which is at its position
+  pub part-stepped : (a : ℕ) (r : Run) → r .world .position ≡ a + 1 → a < sh .automata → stepped (automata (readAutomata s)) r ≡ (edgeStep (readAutomata s) a r >>= λ x. val (x .0, moved (x .1)))
+  part-stepped a r e h =
+      let z : r .world .position - 1 ≡ a = omega arith in
+      T.at-part (automata (readAutomata s)) (sh .automata) (length-initial s sh (ok .shape)) r (omega arith) ∙ ap (λ k. edgeStep (readAutomata s) k r >>= λ x. val (x .0, moved (x .1))) z

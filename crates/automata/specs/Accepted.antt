@@ -2,7 +2,8 @@
 use mathlib.Core.Path.{_≡_}
 use mathlib.Core.Option.{none}
 use mathlib.Core.List.{List}
-use Prim.Native.Nat.{ℕ}
+use Prim.Native.Nat.{ℕ, _+_, _*_, _≤_}
+use lib.ListN.{length}
 use Rattle.model.specs.AutomataFile.{automataRefusal}
 use Rattle.automata_files.specs.declared.Shape.{Shape}
 use Rattle.automata_files.specs.Shape.{IsShape}
@@ -10,3 +11,7 @@ use Rattle.automata_files.specs.Shape.{IsShape}
 pub record Accepted (s : List ℕ) (sh : Shape) : Type 0 where
   pub shape : IsShape s sh
   pub unrefused : automataRefusal s ≡ none
+
+-- record n lies in the file
+abbrev pub InFile : List ℕ → ℕ → Type 0
+InFile s n = 16 * n + 16 ≤ length s

@@ -5,7 +5,7 @@ use mathlib.Core.Bool.{Bool}
 use mathlib.Core.List.{List}
 use Prim.Native.Nat.{ℕ, _+_, _*_, _-_, _≤_, _<_}
 use lib.Dec.{eqb}
-use lib.ListN.{getD}
+use lib.ListN.{length, getD}
 use Rattle.records.specs.Bytes.{two}
 use Rattle.machines.specs.Chains.{earliest}
 use Rattle.automata_files.specs.declared.Shape.{Shape}
@@ -31,21 +31,36 @@ pub record HasIndex (s : List ℕ) (sh : Shape) (first next : List ℕ) : Type 0
   pub literals : Linked s (firstLiteral sh) (firstClock sh) 128 384 first next
   pub updates : Linked s (firstUpdate sh) (firstReset sh) 512 384 first next
   pub resets : Linked s (firstReset sh) (firstReset sh + sh .resets) 896 384 first next
+  pub places : firstReset sh + sh .resets ≤ length next
 
 -- ---- while it is built
 
--- no more records than the index has room for
+-- no more records than the longest table has
 abbrev pub FewRecords : Shape → Type 0
 FewRecords sh = firstReset sh + sh .resets ≤ 14536
+
+-- a place for each record
+abbrev pub RoomFor : Shape → List ℕ → Type 0
+RoomFor sh next = firstReset sh + sh .resets ≤ length next
+
+-- from a key on nothing is named
+abbrev pub Vacant : ℕ → List ℕ → Type 0
+Vacant k first = (j : ℕ) → k ≤ j → j < 1280 → getD first j 0 ≡ 65535
+
+-- a key for each owner, and nothing named
+pub record Blank (first : List ℕ) : Type 0 where
+  pub keys : length first ≡ 1280
+  pub vacant : Vacant 0 first
 
 -- outside some places
 abbrev pub Apart : ℕ → ℕ → ℕ → Type 0
 Apart lo hi k = (k < lo) ⊎ (hi ≤ k)
 
 -- a kind that can be linked: its records and keys have room, its records' owners have keys, and nothing is named there yet
-pub record Linkable (s : List ℕ) (sp : Span) (first : List ℕ) : Type 0 where
+pub record Linkable (s : List ℕ) (sp : Span) (first next : List ℕ) : Type 0 where
+  pub keys : length first ≡ 1280
   pub ordered : sp .start ≤ sp .end
-  pub space : sp .end ≤ 14536
+  pub space : (sp .end ≤ 14536) × (sp .end ≤ length next)
   pub room : sp .base + sp .owners ≤ 1280
   pub own : (n : ℕ) → sp .start ≤ n → n < sp .end → ownerIn s n < sp .owners
   pub empty : (o : ℕ) → o < sp .owners → getD first (sp .base + o) 0 ≡ 65535
@@ -55,3 +70,5 @@ pub record Links (s : List ℕ) (sp : Span) (first₀ next₀ first next : List 
   pub linked : Linked s (sp .start) (sp .end) (sp .base) (sp .owners) first next
   pub other-firsts : (k : ℕ) → Apart (sp .base) (sp .base + sp .owners) k → getD first k 0 ≡ getD first₀ k 0
   pub other-nexts : (n : ℕ) → Apart (sp .start) (sp .end) n → getD next n 0 ≡ getD next₀ n 0
+  pub keys : length first ≡ length first₀
+  pub places : length next ≡ length next₀

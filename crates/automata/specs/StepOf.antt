@@ -15,10 +15,9 @@ use Rattle.automata.specs.declared.edges.Counted as declared-counted
 use Rattle.automata.specs.declared.edges.Choice as declared-choice
 use Rattle.automata.specs.declared.steps.Reason.{Reason}
 use Rattle.automata.specs.declared.steps.Reason.the-variants.{Range, Divisor, Bounds, NoneOpen, ManyOpen}
-use Rattle.automata.specs.declared.steps.Reply.{Reply}
-use Rattle.automata.specs.declared.steps.Reply.the-variants.{Taken, Fault}
-use Rattle.automata.specs.declared.steps.Step.{Step}
-use Rattle.automata.specs.RunOf.{runOf}
+use Rattle.automata.specs.declared.steps.Went.{Went}
+use Rattle.automata.specs.declared.steps.Went.the-variants.{Taken, Fault}
+use Rattle.automata.specs.RunOf.{runIn}
 
 abbrev pub reasonOf : Reason → Refusal
 reasonOf Range = out-of-range
@@ -31,7 +30,7 @@ reasonOf ManyOpen = many-open
 
 -- clocks, variables and events, which is all that a literal looks at
 abbrev pub bareRun : List ℕ → List ℤ → ℕ → Run
-bareRun clocks vars events = record { at = []; timers = clocks; world = record { vars = vars; events = events; position = 0; cycles = 0 } }
+bareRun clocks vars events = runIn [] clocks vars events 0 0
 
 abbrev pub edgeOpen : Automata → Run → ℕ → Out Bool
 edgeOpen au r e = reads (literalHolds au r) (of e (au .literals))
@@ -83,9 +82,7 @@ takeEdge au automaton r e =
     deeds (au .nodes) (au .variables) (of e (au .updates)) (r .world)
     >>= λ w. val (taken e, entered r automaton (edge au e .target) (reset (of e (au .resets)) (r .timers)) w)
 
-abbrev pub replyOf : Reply → Out Answer
-replyOf (Taken e) = val (taken e)
-replyOf (Fault w) = fault (reasonOf w)
-
-abbrev pub stepOf : Step → Out (Answer × Run)
-stepOf x = replyOf (x .reply) >>= λ a. val (a, runOf (x .run))
+-- the turn by what is in the places after it; it leaves position and count as they are
+abbrev pub wentOf : Went → List ℕ → List ℕ → List ℤ → ℕ → ℕ → Out (Answer × Run)
+wentOf (Taken e events) at clocks vars position cycles = val (taken e, runIn at clocks vars events position cycles)
+wentOf (Fault w) at clocks vars position cycles = fault (reasonOf w)

@@ -1,7 +1,9 @@
 -- What turns and cycles answer, as outcomes of the model's calls. Assumes nothing: these are definitions.
 use mathlib.Core.List.{List}
+use mathlib.Core.Path.{_≡_}
 use Prim.Native.Nat.{ℕ, _≤_, _<_}
-use Rattle.records.specs.Refusal.{Refusal as Number, bad-table, impossible-run, misplaced-events, cycles-done, Out, val, fault, _>>=_}
+use lib.ListN.{length}
+use Rattle.records.specs.Refusal.{Refusal as Number, bad-table, impossible-run, misplaced-events, cycles-done, Out, val, fault}
 use Rattle.model.specs.Outcome.{Outcome}
 use Rattle.model.specs.Runs as M
 use Rattle.machines.specs.Turns as R
@@ -13,10 +15,11 @@ use Rattle.automata.specs.declared.turns.Answer.the-variants.{Taken, Tim
 use Rattle.automata.specs.declared.turns.Turned.{Turned}
 use Rattle.automata.specs.declared.turns.Ending as declared-ending
 use Rattle.automata.specs.declared.turns.Called.{Called}
+use Rattle.automata.specs.declared.turns.Gone as declared-gone
 use Rattle.automata.specs.Accepted.{Accepted}
 use Rattle.automata.specs.Index.{HasIndex}
 use Rattle.automata.specs.StepOf.{reasonOf}
-use Rattle.automata.specs.RunOf.{runOf}
+use Rattle.automata.specs.RunOf.{Low, runOf}
 
 abbrev pub refusalOf : Refusal → Number
 refusalOf File = bad-table
@@ -39,10 +42,6 @@ endingOf declared-ending.the-variants.Done = val tt
 endingOf (declared-ending.the-variants.Fault w) = fault (reasonOf w)
 endingOf (declared-ending.the-variants.Refused w) = fault (refusalOf w)
 
--- of a turn only whether it was taken
-abbrev pub wentOn : Answer → Out (Unit {0})
-wentOn a = answerOf a >>= λ _. val tt
-
 abbrev pub calledOf : Called → Outcome (Unit {0}) M.Run
 calledOf t = record { answer = endingOf (t .answer); lent = runOf (t .run) }
 
@@ -58,3 +57,20 @@ lowAt sh cycles k x = k < sh .clocks → x ≤ 36_001
 -- A run in the midst of a cycle: its position is one of the automata's or time's, and time can pass.
 abbrev pub Ready : Shape → M.Run → Type 0
 Ready sh r = R.Ready (sh .automata) (lowAt sh) r
+
+-- ---- turns in place, by the run in the places after them
+
+-- the automata's turns, after which time passes
+abbrev pub goneOf : M.Machine → declared-gone.Gone → M.Run → Out M.Run
+goneOf m declared-gone.the-variants.All r = val (M.timePassed m r)
+goneOf m (declared-gone.the-variants.Fault w) r = fault (reasonOf w)
+
+-- of a cycle's clocks before time passes: as many as before, and there is room to grow
+abbrev pub GoneLow : ℕ → List ℕ → declared-gone.Gone → List ℕ → Type 0
+GoneLow count clocks₀ declared-gone.the-variants.All clocks = (length clocks ≡ length clocks₀) × Low count clocks
+GoneLow count clocks₀ (declared-gone.the-variants.Fault w) clocks = Unit
+
+-- a whole cycle
+abbrev pub cycledOf : declared-gone.Gone → M.Run → Out M.Run
+cycledOf declared-gone.the-variants.All r = val r
+cycledOf (declared-gone.the-variants.Fault w) r = fault (reasonOf w)

@@ -1,6 +1,12 @@
 // The calls on any file, which each of them checks.
 ghost use mathlib.Core.Path.{_≡_};
+ghost use Rattle.model.specs.Outcome.{settled};
+ghost use Rattle.model.specs.Runs.{turn as model-turn, cycle as model-cycle};
+ghost use Rattle.model.specs.AutomataTable.{readAutomata};
+ghost use Rattle.model.specs.Automata.{automata as machine};
 ghost use Rattle.model.specs.Calls.{automataTables, startCall, turnCall, cycleCall};
+ghost use Rattle.automata.specs.Accepted.{Accepted};
+ghost use Rattle.automata.specs.Index.{RoomFor};
 ghost use Rattle.automata.specs.RunOf.{runOf};
 ghost use Rattle.automata.specs.TurnOf.{turnOf, calledOf};
 use super::index::index_of;
@@ -10,11 +16,12 @@ use super::turns::Called;
 use super::turns::Ending;
 use super::turns::Refusal;
 use super::turns::Turned;
-use super::turns::cycle;
-use super::turns::turn;
+use super::turns::cycle_of;
+use super::turns::turn_of;
 use super::turns::undone;
 use super::turns::unready;
 use automata_files::Checked;
+use automata_files::Shape;
 use automata_files::check;
 
 // A lent run becomes a fresh one.
@@ -33,18 +40,43 @@ pub fn call_start(s: &[u8], run: Run) -> Called
     }
 }
 
+// A turn with the index in what is lent, which names nothing yet.
+fn turn_indexed(s: &[u8], shape: Shape, next: &mut [u16], run: Run, events: u32) -> Turned
+    requires { ⌜ Accepted (now s) shape ⌝ }
+    requires { ⌜ RoomFor shape (now next) ⌝ }
+    ensures { λ r. ⌜ turnOf r ≡ settled (runOf run) (model-turn (machine (readAutomata (now (s .entry)))) events (runOf run)) ⌝ }
+{
+    let mut first = [65535u16; 1280];
+    index_of(s, shape, &mut first, next);
+    turn_of(s, shape, &first, next, run, events)
+}
+
 pub fn call_turn(s: &[u8], run: Run, events: u32) -> Turned
     ensures { λ r. ⌜ turnOf r ≡ turnCall automataTables (now (s .entry)) events (runOf run) ⌝ }
 {
     match check(s) {
         Checked::Refused => unready(run, Refusal::File),
         Checked::Accepted(shape) => {
-            let index = index_of(s, shape);
-            let first = index.first;
-            let next = index.next;
-            turn(s, shape, &first, &next, run, events)
+            if s.len() <= 8192 {
+                let mut next = [65535u16; 512];
+                turn_indexed(s, shape, &mut next, run, events)
+            } else {
+                let mut next = [65535u16; 14536];
+                turn_indexed(s, shape, &mut next, run, events)
+            }
         }
     }
+}
+
+// A cycle with the index in what is lent, which names nothing yet.
+fn cycle_indexed(s: &[u8], shape: Shape, next: &mut [u16], run: Run, events: u32) -> Called
+    requires { ⌜ Accepted (now s) shape ⌝ }
+    requires { ⌜ RoomFor shape (now next) ⌝ }
+    ensures { λ r. ⌜ calledOf r ≡ settled (runOf run) (model-cycle (machine (readAutomata (now (s .entry)))) events (runOf run)) ⌝ }
+{
+    let mut first = [65535u16; 1280];
+    index_of(s, shape, &mut first, next);
+    cycle_of(s, shape, &first, next, run, events)
 }
 
 pub fn call_cycle(s: &[u8], run: Run, events: u32) -> Called
@@ -53,10 +85,13 @@ pub fn call_cycle(s: &[u8], run: Run, events: u32) -> Called
     match check(s) {
         Checked::Refused => undone(run, Refusal::File),
         Checked::Accepted(shape) => {
-            let index = index_of(s, shape);
-            let first = index.first;
-            let next = index.next;
-            cycle(s, shape, &first, &next, run, events)
+            if s.len() <= 8192 {
+                let mut next = [65535u16; 512];
+                cycle_indexed(s, shape, &mut next, run, events)
+            } else {
+                let mut next = [65535u16; 14536];
+                cycle_indexed(s, shape, &mut next, run, events)
+            }
         }
     }
 }

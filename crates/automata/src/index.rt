@@ -1,17 +1,10 @@
 // The index that turns read, made once for a table: an edge's literals, updates and resets, and a location's edges, are found without a search.
 ghost use mathlib.Core.Path.{_≡_};
-ghost use Prim.Native.Nat.{_+_, _<_};
 ghost use Rattle.automata_files.specs.Places.{firstEdge, firstLiteral, firstUpdate, firstReset};
 ghost use Rattle.automata.specs.Accepted.{Accepted};
-ghost use Rattle.automata.specs.Index.{ownerIn, HasIndex, FewRecords, Linkable, Links};
+ghost use Rattle.automata.specs.Index.{ownerIn, HasIndex, FewRecords, RoomFor, Blank, Linkable, Links};
 use automata_files::Shape;
 use records::u16_at;
-
-// Of each key its first record, and of each record the next of its key; 65535 is none.
-pub struct Index {
-    pub first: [u16; 1280],
-    pub next: [u16; 14536],
-}
 
 // Where a kind stands: its records from `start` up to `end`, and its owners' keys, so many from `base` on.
 pub struct Span {
@@ -58,12 +51,10 @@ fn owner_of(s: &[u8], n: u16) -> u16
 }
 
 // From the last record down, so that each finds the one behind it.
-fn link(s: &[u8], span: Span, index: Index) -> Index
-    requires { ⌜ Linkable (now s) span (index .first) ⌝ }
-    ensures { λ r. ⌜ Links (now (s .entry)) span (index .first) (index .next) (r .first) (r .next) ⌝ }
+fn link(s: &[u8], span: Span, first: &mut [u16; 1280], next: &mut [u16])
+    requires { ⌜ Linkable (now s) span (now first) (now next) ⌝ }
+    ensures { λ _. ⌜ Links (now (s .entry)) span (now (first .entry)) (now (next .entry)) (now (first .exit)) (now (next .exit)) ⌝ }
 {
-    let mut first = index.first;
-    let mut next = index.next;
     let mut n = span.end;
     while span.start < n {
         n -= 1;
@@ -72,21 +63,20 @@ fn link(s: &[u8], span: Span, index: Index) -> Index
         next[i] = first[key];
         first[key] = n;
     }
-    Index { first, next }
 }
 
-pub fn index_of(s: &[u8], shape: Shape) -> Index
+// Of each key its first record, and of each record the next of its key; 65535 is none. What is lent names none.
+pub fn index_of(s: &[u8], shape: Shape, first: &mut [u16; 1280], next: &mut [u16])
     requires { ⌜ Accepted (now s) shape ⌝ }
-    ensures { λ r. ⌜ HasIndex (now (s .entry)) shape (r .first) (r .next) ⌝ }
+    requires { ⌜ Blank (now first) ⌝ }
+    requires { ⌜ RoomFor shape (now next) ⌝ }
+    ensures { λ _. ⌜ HasIndex (now (s .entry)) shape (now (first .exit)) (now (next .exit)) ⌝ }
 {
-    let first = [65535u16; 1280];
-    let next = [65535u16; 14536];
-    let empty = Index { first, next };
     let edge = first_edge(shape);
     let literal = first_literal(shape);
     let update = first_update(shape);
     let reset = first_reset(shape);
-    let edges = link(
+    link(
         s,
         Span {
             start: edge,
@@ -94,9 +84,10 @@ pub fn index_of(s: &[u8], shape: Shape) -> Index
             base: 0,
             owners: 128,
         },
-        empty,
+        first,
+        next,
     );
-    let literals = link(
+    link(
         s,
         Span {
             start: literal,
@@ -104,9 +95,10 @@ pub fn index_of(s: &[u8], shape: Shape) -> Index
             base: 128,
             owners: 384,
         },
-        edges,
+        first,
+        next,
     );
-    let updates = link(
+    link(
         s,
         Span {
             start: update,
@@ -114,7 +106,8 @@ pub fn index_of(s: &[u8], shape: Shape) -> Index
             base: 512,
             owners: 384,
         },
-        literals,
+        first,
+        next,
     );
     link(
         s,
@@ -124,6 +117,7 @@ pub fn index_of(s: &[u8], shape: Shape) -> Index
             base: 896,
             owners: 384,
         },
-        updates,
-    )
+        first,
+        next,
+    );
 }

@@ -1,6 +1,7 @@
 // Automata at work: runs, and the turns and cycles that they take by their open edges.
 pub mod calls;
 pub mod edges;
+pub mod fields;
 pub mod index;
 pub mod lent;
 pub mod literals;

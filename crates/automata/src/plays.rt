@@ -1,20 +1,24 @@
 // Many cycles of automata, the file checked once.
 ghost use mathlib.Core.Path.{_≡_};
-ghost use Rattle.records.specs.Refusal.{Refusal as Number, fault};
 ghost use Rattle.model.specs.Outcome.{settled};
 ghost use Rattle.model.specs.AutomataTable.{readAutomata};
 ghost use Rattle.model.specs.Automata.{automata as machine};
 ghost use Rattle.model.specs.Calls.{automataTables};
-ghost use Rattle.machines.specs.Playing.{stoppedAt, playing, playCall};
-ghost use Rattle.automata.specs.RunOf.{runOf};
+ghost use Rattle.machines.specs.Playing.{played, playing, playCall};
+ghost use Rattle.automata.specs.Accepted.{Accepted};
+ghost use Rattle.automata.specs.Index.{RoomFor};
+ghost use Rattle.automata.specs.RunOf.{runIn, runOf};
 ghost use Rattle.automata.specs.TurnOf.{Known};
-ghost use Rattle.automata.specs.PlayedOf.{cyclesOf, playedOf};
+ghost use Rattle.automata.specs.PlayedOf.{Rested, RestOf, playedOf};
 use super::index::index_of;
 use super::runs::Run;
+use super::runs::limits_of;
 use super::steps::Reason;
 use super::turns::Ending;
+use super::turns::Gone;
 use super::turns::Refusal;
-use super::turns::cycle;
+use super::turns::cycle_in_place;
+use super::turns::cycle_of;
 use automata_files::Checked;
 use automata_files::Shape;
 use automata_files::check;
@@ -40,54 +44,133 @@ fn unplayed(run: Run, refusal: Refusal) -> Played
     }
 }
 
-// A cycle was not done: that is told only of the first.
-fn stopped(lent: Run, run: Run, count: u32, answer: Cycles) -> Played
-    ensures { λ r. ⌜ ((w : Number) → cyclesOf answer ≡ fault w → playedOf r ≡ settled (runOf lent) (stoppedAt count (runOf run) (fault w))) ⌝ }
-{
-    if count == 0 {
-        return Played { answer, run: lent };
-    }
-    Played {
-        answer: Cycles::Done(count),
-        run,
-    }
+// Cycles from position 1, which are told of by their number, and the run after them.
+pub struct Rest {
+    pub count: u32,
+    pub run: Run,
 }
 
-// Cycles of an accepted table, one for each mask, until one is refused or faults.
+fn rest_at(
+    locations: [u16; 8],
+    clocks: [u16; 256],
+    variables: [i16; 64],
+    cycles: u32,
+    count: u32,
+) -> Rest
+    ensures { λ r. ⌜ (r .count ≡ count) × (runOf (r .run) ≡ runIn locations clocks variables 0 1 cycles) ⌝ }
+{
+    let run = Run {
+        locations,
+        clocks,
+        variables,
+        events: 0,
+        position: 1,
+        cycles,
+    };
+    Rest { count, run }
+}
+
+// Cycles in place, one for each mask, until one faults or 1,000,000 are done. A cycle that is done leaves a possible run, so that only the count is asked.
+fn rest_played(
+    s: &[u8],
+    shape: Shape,
+    first: &[u16; 1280],
+    next: &[u16],
+    run: Run,
+    masks: &[u32],
+) -> Rest
+    requires { ⌜ Known (now s) shape (now first) (now next) ⌝ }
+    requires { ⌜ Rested (machine (readAutomata (now s))) (runOf run) ⌝ }
+    ensures { λ r. ⌜ RestOf (played (machine (readAutomata (now (s .entry)))) (now (masks .entry)) (runOf run)) (r .count) (runOf (r .run)) ⌝ }
+{
+    let mut turn = [65535u16; 256];
+    let mut cap = [65535u16; 256];
+    limits_of(s, shape, &mut turn, &mut cap);
+    let mut locations = run.locations;
+    let mut clocks = run.clocks;
+    let mut variables = run.variables;
+    let mut cycles = run.cycles;
+    let mut k: usize = 0;
+    while k < masks.len() {
+        if cycles == 1000000 {
+            return rest_at(locations, clocks, variables, cycles, k as u32);
+        }
+        match cycle_in_place(
+            s,
+            shape,
+            first,
+            next,
+            &turn,
+            &cap,
+            &mut locations,
+            &mut clocks,
+            &mut variables,
+            masks[k],
+            1,
+            cycles,
+        ) {
+            Gone::Fault(_) => {
+                return rest_at(locations, clocks, variables, cycles, k as u32);
+            }
+            Gone::All => {
+                cycles += 1;
+                k += 1;
+            }
+        }
+    }
+    rest_at(locations, clocks, variables, cycles, k as u32)
+}
+
+// Cycles of an accepted table, one for each mask, until one is refused or faults. That is told only of the first.
 pub fn cycles_played(
     s: &[u8],
     shape: Shape,
     first: &[u16; 1280],
-    next: &[u16; 14536],
+    next: &[u16],
     run: Run,
     masks: &[u32],
 ) -> Played
     requires { ⌜ Known (now s) shape (now first) (now next) ⌝ }
     ensures { λ r. ⌜ playedOf r ≡ settled (runOf run) (playing (machine (readAutomata (now (s .entry)))) (now (masks .entry)) (runOf run)) ⌝ }
 {
-    let mut present = run;
-    let mut k: usize = 0;
-    while k < masks.len() {
-        let called = cycle(s, shape, first, next, present, masks[k]);
-        let answer = called.answer;
-        match answer {
-            Ending::Done => {
-                let after = called.run;
-                present = after;
-                k += 1;
-            }
-            Ending::Fault(w) => {
-                return stopped(run, present, k as u32, Cycles::Fault(w));
-            }
-            Ending::Refused(w) => {
-                return stopped(run, present, k as u32, Cycles::Refused(w));
+    if masks.len() == 0 {
+        return Played {
+            answer: Cycles::Done(0),
+            run,
+        };
+    }
+    let called = cycle_of(s, shape, first, next, run, masks[0]);
+    let after = called.run;
+    let answer = called.answer;
+    match answer {
+        Ending::Done => {
+            let rest = rest_played(s, shape, first, next, after, &masks[1..]);
+            let last = rest.run;
+            Played {
+                answer: Cycles::Done(rest.count + 1),
+                run: last,
             }
         }
+        Ending::Fault(w) => Played {
+            answer: Cycles::Fault(w),
+            run,
+        },
+        Ending::Refused(w) => Played {
+            answer: Cycles::Refused(w),
+            run,
+        },
     }
-    Played {
-        answer: Cycles::Done(k as u32),
-        run: present,
-    }
+}
+
+// The same, with the index in what is lent, which names nothing yet.
+fn play_indexed(s: &[u8], shape: Shape, next: &mut [u16], run: Run, masks: &[u32]) -> Played
+    requires { ⌜ Accepted (now s) shape ⌝ }
+    requires { ⌜ RoomFor shape (now next) ⌝ }
+    ensures { λ r. ⌜ playedOf r ≡ settled (runOf run) (playing (machine (readAutomata (now (s .entry)))) (now (masks .entry)) (runOf run)) ⌝ }
+{
+    let mut first = [65535u16; 1280];
+    index_of(s, shape, &mut first, next);
+    cycles_played(s, shape, &first, next, run, masks)
 }
 
 // The file checked once, then many cycles.
@@ -97,10 +180,13 @@ pub fn play(s: &[u8], run: Run, masks: &[u32]) -> Played
     match check(s) {
         Checked::Refused => unplayed(run, Refusal::File),
         Checked::Accepted(shape) => {
-            let index = index_of(s, shape);
-            let first = index.first;
-            let next = index.next;
-            cycles_played(s, shape, &first, &next, run, masks)
+            if s.len() <= 8192 {
+                let mut next = [65535u16; 512];
+                play_indexed(s, shape, &mut next, run, masks)
+            } else {
+                let mut next = [65535u16; 14536];
+                play_indexed(s, shape, &mut next, run, masks)
+            }
         }
     }
 }

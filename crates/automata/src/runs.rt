@@ -2,9 +2,9 @@
 ghost use mathlib.Core.Path.{_≡_};
 ghost use Prim.Native.Nat.{ℕ, _≤_, _<_};
 ghost use lib.Dec.{leb};
-ghost use lib.ListN.{getD};
+ghost use lib.ListN.{length, getD};
 ghost use Rattle.records.specs.Lists.{all, upto, mapFrom};
-ghost use Rattle.model.specs.Runs.{start as started, possible, checked, give as given, moved as movedOn, timePassed};
+ghost use Rattle.model.specs.Runs.{start as started, possible, checked, give as given, timePassed};
 ghost use Rattle.model.specs.AutomataTable.{readAutomata};
 ghost use Rattle.model.specs.Automata.{automata as machine, top, grown};
 ghost use Rattle.automata_files.specs.Shape.{IsShape};
@@ -12,7 +12,7 @@ ghost use Rattle.automata_files.specs.Places.{clockAt};
 ghost use Rattle.automata_files.specs.Parts.{timingFor};
 ghost use Rattle.machines.specs.Checks.{zeros, beforeOf};
 ghost use Rattle.automata.specs.Accepted.{Accepted};
-ghost use Rattle.automata.specs.RunOf.{runOf, topAt, grownAt, Low};
+ghost use Rattle.automata.specs.RunOf.{runOf, topAt, grownAt, Low, turnFor, capFor, grownTo, HasLimits};
 use super::values::values_of;
 use automata_files::Shape;
 use automata_files::fields::Timing;
@@ -141,39 +141,73 @@ pub fn give(mut run: Run, events: u32) -> Run
     run
 }
 
-pub fn moved(mut run: Run) -> Run
-    requires { ⌜ run .position < 4294967295 ⌝ }
-    ensures { λ r. ⌜ runOf r ≡ movedOn (runOf run) ⌝ }
-{
-    run.position += 1;
-    run
-}
-
-// An after-clock grows by 1 up to its top; an every-clock at its ticks goes to 1, else it grows by 1.
-fn grown(timing: Timing, ticks: u16, x: u16) -> u16
-    requires { ⌜ ticks ≤ 36000 ⌝ }
-    requires { ⌜ x ≤ 36001 ⌝ }
-    ensures { λ r. ⌜ r ≡ grown (timingFor timing) ticks x ⌝ }
+// Where a clock goes back to 1: an every-clock at its ticks, an after-clock nowhere, as none comes to 65535.
+fn turn_for(timing: Timing, ticks: u16) -> u16
+    ensures { λ r. ⌜ r ≡ turnFor (timingFor timing) ticks ⌝ }
 {
     match timing {
-        Timing::After => { if x < ticks { x + 1 } else { ticks + 1 } }
-        Timing::Every => { if x == ticks { 1 } else { x + 1 } }
+        Timing::After => 65535,
+        Timing::Every => ticks,
     }
 }
 
-fn later(s: &[u8], shape: Shape, clocks: [u16; 256]) -> [u16; 256]
-    requires { ⌜ Accepted (now s) shape ⌝ }
-    requires { ⌜ Low (shape .clocks) clocks ⌝ }
-    ensures { λ r. ⌜ r ≡ mapFrom 0 (grownAt (now (s .entry)) shape) clocks ⌝ }
+// The most that a clock grows to: an after-clock's top.
+fn cap_for(timing: Timing, ticks: u16) -> u16
+    requires { ⌜ ticks ≤ 36000 ⌝ }
+    ensures { λ r. ⌜ r ≡ capFor (timingFor timing) ticks ⌝ }
 {
-    let mut next = clocks;
+    match timing {
+        Timing::After => ticks + 1,
+        Timing::Every => 65535,
+    }
+}
+
+// Of each clock where it turns and where it stops, read once for many cycles.
+pub fn limits_of(s: &[u8], shape: Shape, turn: &mut [u16; 256], cap: &mut [u16; 256])
+    requires { ⌜ Accepted (now s) shape ⌝ }
+    requires { ⌜ (length (now turn) ≡ 256) × (length (now cap) ≡ 256) ⌝ }
+    ensures { λ _. ⌜ HasLimits (now (s .entry)) shape (now (turn .exit)) (now (cap .exit)) ⌝ }
+{
     let mut k: u16 = 0;
     while k < shape.clocks {
         let i = k as usize;
-        next[i] = grown(timing_of(s, shape, k), ticks_of(s, shape, k), clocks[i]);
+        turn[i] = turn_for(timing_of(s, shape, k), ticks_of(s, shape, k));
+        cap[i] = cap_for(timing_of(s, shape, k), ticks_of(s, shape, k));
         k += 1;
     }
-    next
+}
+
+fn grown_to(turn: u16, cap: u16, x: u16) -> u16
+    requires { ⌜ x ≤ 36001 ⌝ }
+    ensures { λ r. ⌜ r ≡ grownTo turn cap x ⌝ }
+{
+    if x == turn {
+        return 1;
+    }
+    if x < cap { x + 1 } else { cap }
+}
+
+fn clock_grown(s: &[u8], shape: Shape, turn: &[u16; 256], cap: &[u16; 256], k: u16, x: u16) -> u16
+    requires { ⌜ Accepted (now s) shape × HasLimits (now s) shape (now turn) (now cap) × (k < shape .clocks) × (x ≤ 36001) ⌝ }
+    ensures { λ r. ⌜ r ≡ grown (clockAt (now (s .entry)) shape k .timing) (clockAt (now (s .entry)) shape k .ticks) x ⌝ }
+{
+    let i = k as usize;
+    grown_to(turn[i], cap[i], x)
+}
+
+// Each clock in use grows.
+pub fn grow(s: &[u8], shape: Shape, turn: &[u16; 256], cap: &[u16; 256], clocks: &mut [u16; 256])
+    requires { ⌜ Accepted (now s) shape × HasLimits (now s) shape (now turn) (now cap) ⌝ }
+    requires { ⌜ length (now clocks) ≡ 256 ⌝ }
+    requires { ⌜ Low (shape .clocks) (now clocks) ⌝ }
+    ensures { λ _. ⌜ now (clocks .exit) ≡ mapFrom 0 (grownAt (now (s .entry)) shape) (now (clocks .entry)) ⌝ }
+{
+    let mut k: u16 = 0;
+    while k < shape.clocks {
+        let i = k as usize;
+        clocks[i] = clock_grown(s, shape, turn, cap, k, clocks[i]);
+        k += 1;
+    }
 }
 
 // Position n + 1 empties the events, lets each clock grow, and adds 1 to the count of cycles.
@@ -183,9 +217,12 @@ pub fn time_passed(s: &[u8], shape: Shape, mut run: Run) -> Run
     requires { ⌜ Low (shape .clocks) (run .clocks) ⌝ }
     ensures { λ r. ⌜ runOf r ≡ timePassed (machine (readAutomata (now (s .entry)))) (runOf run) ⌝ }
 {
-    let clocks = run.clocks;
-    let next = later(s, shape, clocks);
-    run.clocks = next;
+    let mut turn = [65535u16; 256];
+    let mut cap = [65535u16; 256];
+    limits_of(s, shape, &mut turn, &mut cap);
+    let mut clocks = run.clocks;
+    grow(s, shape, &turn, &cap, &mut clocks);
+    run.clocks = clocks;
     run.events = 0;
     run.position = 1;
     run.cycles += 1;

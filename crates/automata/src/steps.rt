@@ -1,28 +1,25 @@
 // An automaton's turn: the one open edge is taken.
 ghost use mathlib.Core.Path.{_≡_};
-ghost use Prim.Native.Nat.{ℕ, _<_};
+ghost use Prim.Native.Nat.{ℕ, _+_, _≤_, _<_};
+ghost use lib.ListN.{length};
 ghost use Rattle.model.specs.Owned.{of};
 ghost use Rattle.model.specs.Runs.{deed, deeds};
 ghost use Rattle.model.specs.AutomataTable.{readAutomata};
 ghost use Rattle.model.specs.Automata.{reset, edgeStep};
-ghost use Rattle.automata_files.specs.Places.{updateAt};
+ghost use Rattle.automata_files.specs.Places.{firstUpdate, firstReset, updateIn, resetIn};
 ghost use Rattle.machines.specs.Worlds as worlds;
 ghost use Rattle.machines.specs.Worlds.{worldIn, worldAfter};
 ghost use Rattle.automata.specs.Accepted.{Accepted};
 ghost use Rattle.automata.specs.Index.{HasIndex};
-ghost use Rattle.automata.specs.RunOf.{runOf};
-ghost use Rattle.automata.specs.StepOf.{reasonOf, entered, takeEdge, stepOf};
+ghost use Rattle.automata.specs.RunOf.{runIn};
+ghost use Rattle.automata.specs.StepOf.{reasonOf, takeEdge, wentOf};
 use super::edges::Choice;
 use super::edges::open_edge;
-use super::index::first_reset;
-use super::index::first_update;
-use super::runs::Run;
+use super::fields::byte_of;
+use super::fields::two_of;
 use super::values::values_of;
 use automata_files::Shape;
-use automata_files::fields::deed_of;
-use automata_files::fields::reset_clock;
 use automata_files::fields::target_of;
-use chart_files::fields::Deed;
 use machines::deeds::Done;
 use machines::deeds::assign;
 use machines::deeds::raised;
@@ -36,14 +33,10 @@ pub enum Reason {
     ManyOpen,
 }
 
-pub enum Reply {
-    Taken(u16),
+// The edge taken and the events after it, or why none is taken.
+pub enum Went {
+    Taken(u16, u32),
     Fault(Reason),
-}
-
-pub struct Step {
-    pub reply: Reply,
-    pub run: Run,
 }
 
 fn update_fault(w: machines::deeds::Reason) -> Reason
@@ -56,14 +49,17 @@ fn update_fault(w: machines::deeds::Reason) -> Reason
     }
 }
 
-fn do_update(s: &[u8], shape: Shape, u: u16, vars: &mut [i16; 64], events: u32) -> Done
-    requires { ⌜ Accepted (now s) shape × (u < shape .updates) ⌝ }
-    ensures { λ r. ⌜ ((p c : ℕ) → worldAfter r (now (vars .exit)) p c ≡ deed (readAutomata (now (s .entry)) .nodes) (readAutomata (now (s .entry)) .variables) (updateAt (now (s .entry)) shape u .1) (worldIn (now (vars .entry)) events p c)) ⌝ }
+// The update is that of record n: an event is raised, or a node assigned.
+fn do_update(s: &[u8], shape: Shape, n: u16, vars: &mut [i16; 64], events: u32) -> Done
+    requires { ⌜ Accepted (now s) shape × (firstUpdate shape ≤ n) × (n < firstReset shape) ⌝ }
+    ensures { λ r. ⌜ ((p c : ℕ) → worldAfter r (now (vars .exit)) p c ≡ deed (readAutomata (now (s .entry)) .nodes) (readAutomata (now (s .entry)) .variables) (updateIn (now (s .entry)) n .1) (worldIn (now (vars .entry)) events p c)) ⌝ }
 {
-    match deed_of(s, shape, u) {
-        Deed::Assign(v, n) => assign(s, values_of(shape), v, n, vars, events),
-        Deed::Raise(e) => Done::Events(raised(e, events)),
+    let code = byte_of(s, n, 1);
+    let x = byte_of(s, n, 4);
+    if code == 2 {
+        return Done::Events(raised(x, events));
     }
+    assign(s, values_of(shape), x, two_of(s, n, 6), vars, events)
 }
 
 // An edge's updates, in file order, each seeing the last.
@@ -71,7 +67,7 @@ fn do_updates(
     s: &[u8],
     shape: Shape,
     first: &[u16; 1280],
-    next: &[u16; 14536],
+    next: &[u16],
     e: u16,
     vars: &mut [i16; 64],
     events: u32,
@@ -79,11 +75,10 @@ fn do_updates(
     requires { ⌜ Accepted (now s) shape × HasIndex (now s) shape (now first) (now next) × (e < shape .edges) ⌝ }
     ensures { λ r. ⌜ ((p c : ℕ) → worldAfter r (now (vars .exit)) p c ≡ deeds (readAutomata (now (s .entry)) .nodes) (readAutomata (now (s .entry)) .variables) (of e (readAutomata (now (s .entry)) .updates)) (worldIn (now (vars .entry)) events p c)) ⌝ }
 {
-    let start = first_update(shape);
     let mut raised = events;
     let mut n = first[(512 + e) as usize];
     while n != 65535 {
-        match do_update(s, shape, n - start, vars, raised) {
+        match do_update(s, shape, n, vars, raised) {
             Done::Fault(w) => return Done::Fault(w),
             Done::Events(x) => {
                 raised = x;
@@ -94,49 +89,30 @@ fn do_updates(
     Done::Events(raised)
 }
 
+// The clock that record n resets.
+fn clock_of(s: &[u8], shape: Shape, n: u16) -> u16
+    requires { ⌜ Accepted (now s) shape × (firstReset shape ≤ n) × (n < firstReset shape + shape .resets) ⌝ }
+    ensures { λ r. ⌜ (r ≡ resetIn (now (s .entry)) n .1) × (r < shape .clocks) ⌝ }
+{
+    two_of(s, n, 4)
+}
+
 fn reset_clocks(
     s: &[u8],
     shape: Shape,
     first: &[u16; 1280],
-    next: &[u16; 14536],
+    next: &[u16],
     e: u16,
-    clocks: [u16; 256],
-) -> [u16; 256]
+    clocks: &mut [u16; 256],
+)
     requires { ⌜ Accepted (now s) shape × HasIndex (now s) shape (now first) (now next) × (e < shape .edges) ⌝ }
-    ensures { λ r. ⌜ r ≡ reset (of e (readAutomata (now (s .entry)) .resets)) clocks ⌝ }
+    ensures { λ _. ⌜ now (clocks .exit) ≡ reset (of e (readAutomata (now (s .entry)) .resets)) (now (clocks .entry)) ⌝ }
 {
-    let start = first_reset(shape);
-    let mut left = clocks;
     let mut n = first[(896 + e) as usize];
     while n != 65535 {
-        let k = reset_clock(s, shape, n - start) as usize;
-        left[k] = 0;
+        let k = clock_of(s, shape, n) as usize;
+        clocks[k] = 0;
         n = next[n as usize];
-    }
-    left
-}
-
-fn enter(
-    run: Run,
-    automaton: u16,
-    target: u16,
-    clocks: [u16; 256],
-    variables: [i16; 64],
-    events: u32,
-) -> Run
-    requires { ⌜ automaton < 8 ⌝ }
-    ensures { λ r. ⌜ runOf r ≡ entered (runOf run) automaton target clocks (worldIn variables events (run .position) (run .cycles)) ⌝ }
-{
-    let mut locations = run.locations;
-    let i = automaton as usize;
-    locations[i] = target;
-    Run {
-        locations,
-        clocks,
-        variables,
-        events,
-        position: run.position,
-        cycles: run.cycles,
     }
 }
 
@@ -145,66 +121,72 @@ fn take_edge(
     s: &[u8],
     shape: Shape,
     first: &[u16; 1280],
-    next: &[u16; 14536],
+    next: &[u16],
     automaton: u16,
-    run: Run,
+    locations: &mut [u16; 8],
+    clocks: &mut [u16; 256],
+    vars: &mut [i16; 64],
+    events: u32,
     e: u16,
-) -> Step
+) -> Went
     requires { ⌜ Accepted (now s) shape × HasIndex (now s) shape (now first) (now next) × (automaton < 8) × (e < shape .edges) ⌝ }
-    ensures { λ r. ⌜ stepOf r ≡ takeEdge (readAutomata (now (s .entry))) automaton (runOf run) e ⌝ }
-    ensures { λ r. ⌜ ((w : Reason) → r .reply ≡ Reply.Fault w → r .run ≡ run) ⌝ }
+    ensures { λ r. ⌜ ((p c : ℕ) → wentOf r (now (locations .exit)) (now (clocks .exit)) (now (vars .exit)) p c ≡ takeEdge (readAutomata (now (s .entry))) automaton (runIn (now (locations .entry)) (now (clocks .entry)) (now (vars .entry)) events p c) e) ⌝ }
+    ensures { λ _. ⌜ length (now (clocks .exit)) ≡ length (now (clocks .entry)) ⌝ }
 {
-    let mut variables = run.variables;
-    match do_updates(s, shape, first, next, e, &mut variables, run.events) {
-        Done::Fault(w) => {
-            let reply = Reply::Fault(update_fault(w));
-            Step { reply, run }
-        }
-        Done::Events(events) => {
-            let clocks = run.clocks;
-            let clocks = reset_clocks(s, shape, first, next, e, clocks);
-            let target = target_of(s, shape, e);
-            let run = enter(run, automaton, target, clocks, variables, events);
-            let reply = Reply::Taken(e);
-            Step { reply, run }
+    match do_updates(s, shape, first, next, e, vars, events) {
+        Done::Fault(w) => Went::Fault(update_fault(w)),
+        Done::Events(raised) => {
+            reset_clocks(s, shape, first, next, e, clocks);
+            let i = automaton as usize;
+            locations[i] = target_of(s, shape, e);
+            Went::Taken(e, raised)
         }
     }
 }
 
-// The run after a fault is the run given.
+// In place. After a fault the variables are of no use.
 pub fn edge_step(
     s: &[u8],
     shape: Shape,
     first: &[u16; 1280],
-    next: &[u16; 14536],
+    next: &[u16],
     automaton: u16,
-    run: Run,
-) -> Step
+    locations: &mut [u16; 8],
+    clocks: &mut [u16; 256],
+    vars: &mut [i16; 64],
+    events: u32,
+) -> Went
     requires { ⌜ Accepted (now s) shape ⌝ }
     requires { ⌜ HasIndex (now s) shape (now first) (now next) ⌝ }
     requires { ⌜ automaton < shape .automata ⌝ }
-    ensures { λ r. ⌜ stepOf r ≡ edgeStep (readAutomata (now (s .entry))) automaton (runOf run) ⌝ }
-    ensures { λ r. ⌜ ((w : Reason) → r .reply ≡ Reply.Fault w → r .run ≡ run) ⌝ }
+    ensures { λ r. ⌜ ((p c : ℕ) → wentOf r (now (locations .exit)) (now (clocks .exit)) (now (vars .exit)) p c ≡ edgeStep (readAutomata (now (s .entry))) automaton (runIn (now (locations .entry)) (now (clocks .entry)) (now (vars .entry)) events p c)) ⌝ }
+    ensures { λ _. ⌜ length (now (clocks .exit)) ≡ length (now (clocks .entry)) ⌝ }
 {
     let i = automaton as usize;
-    let location = run.locations[i];
-    let clocks = run.clocks;
-    let variables = run.variables;
+    let location = locations[i];
     match open_edge(
         s,
         shape,
         first,
         next,
-        &clocks,
-        &variables,
-        run.events,
+        clocks,
+        vars,
+        events,
         automaton,
         location,
     ) {
-        Choice::Chosen(e) => take_edge(s, shape, first, next, automaton, run, e),
-        Choice::Failed(w) => {
-            let reply = Reply::Fault(w);
-            Step { reply, run }
-        }
+        Choice::Chosen(e) => take_edge(
+            s,
+            shape,
+            first,
+            next,
+            automaton,
+            locations,
+            clocks,
+            vars,
+            events,
+            e,
+        ),
+        Choice::Failed(w) => Went::Fault(w),
     }
 }

@@ -32,13 +32,13 @@ passed : (c : tie.Start) (b : Bool) → eqb (edgeAt (now (c .args .s)) (c .args 
 passed c b d es = ap (λ t. oneOpen (reading c) (c .args .tally) (cond t (c .args .e ∷ es) es)) (sym d)
 
 own : (c : tie.Else1) →
-    let x = c .before .before .before .args in
+    let x = c .before .before .before .before .args in
     eqb (edgeAt (now (x .s)) (x .shape) (x .e) .automaton) (x .automaton) ≡ true
-own c = ap (λ k. eqb k (c .before .before .before .args .automaton)) (sym (c .before .automaton-of .ensures)) ∙ eq-eqb _ (c .before .before .before .args .automaton) (c .if1 .left)
+own c = ap (λ k. eqb k (c .before .before .before .before .args .automaton)) (sym (c .before .automaton-of .ensures)) ∙ eq-eqb _ (c .before .before .before .before .args .automaton) (c .if1 .left)
 
 returns : tie.Need-returns
 returns c =
-    let a = c .before .before .before in
+    let a = c .before .before .before .before in
     (λ es. passed a false (ap (λ k. eqb k (a .args .automaton)) (sym (c .before .automaton-of .ensures)) ∙ ne-eqb _ (a .args .automaton) (c .if1 .taken)) es, a .pre .3)
 
 edge-open-requires : tie.Need-edge-open-requires
@@ -59,7 +59,7 @@ with-open-requires c κs = search needs
 returns-2 : tie.Need-returns-2
 returns-2 c =
     let i = c .before .before .before .before .before in
-    let a = i .before .before .before in
+    let a = i .before .before .before .before in
     let w = reasonOf (c .before .before .w .given .0 .0) in (
       λ es.
           ap fault (c .read-fault .ensures)
@@ -71,7 +71,7 @@ returns-2 c =
 returns-3 : tie.Need-returns-3
 returns-3 c =
     let i = c .before .before .before .before .before .before in
-    let a = i .before .before .before in (
+    let a = i .before .before .before .before in (
       λ es.
           open-more (reading a) (a .args .e) (a .args .tally) (c .with-open .result) (c .with-open .ensures .0)
           (ap val (sym (c .before .if2 .taken)) ∙ ap truthOf (sym (c .before .before .before .open .given .1)) ∙ c .before .before .before .before .before .edge-open .ensures) es
@@ -82,7 +82,7 @@ returns-3 c =
 returns-4 : tie.Need-returns-4
 returns-4 c =
     let i = c .before .before .before .before .before in
-    let a = i .before .before .before in (
+    let a = i .before .before .before .before in (
       λ es.
           open-not (reading a) (a .args .e) (a .args .tally)
           (ap val (sym (c .if2 .left)) ∙ ap truthOf (sym (c .before .before .open .given .1)) ∙ c .before .before .before .before .edge-open .ensures) es

@@ -5,6 +5,7 @@ use Prim.Native.Nat.{_-_, _≤_, _<_}
 use borrow.Author.Needs.{needs}
 use native.Mathlib.Omega.{arith}
 use denote.Ref.{now}
+use lib.ListN.{length}
 use Rattle.expressions.specs.Answers.{reasonOf, truthOf}
 use Rattle.records.specs.Refusal.{val, fault}
 use Rattle.model.specs.AutomataTable.{readAutomata}
@@ -33,31 +34,31 @@ small : (c : tie.Start Inv-loop μ-loop) → firstClock (c .args .shape) ≤ 145
 small c = let f = few-records (now (c .args .s)) (c .args .shape) (c .pre .0 .shape) in omega arith
 
 add-n : tie.Need-add-n Inv-loop μ-loop
-add-n c = omega (arith, few-edges (c .before))
+add-n c = omega (arith, few-edges (c .before .before))
 
 cast-n : tie.Need-cast-n Inv-loop μ-loop
-cast-n c = omega (arith, few-edges (c .before))
+cast-n c = omega (arith, few-edges (c .before .before))
 
 mul-n : tie.Need-mul-n Inv-loop μ-loop
-mul-n c = omega (arith, few-edges (c .before))
+mul-n c = omega (arith, few-edges (c .before .before))
 
 element-copy-out-n : tie.Need-element-copy-out-n Inv-loop μ-loop
-element-copy-out-n c = omega (arith, few-edges (c .before))
+element-copy-out-n c = omega (arith, few-edges (c .before .before))
 
 loop-holds : tie.Need-loop-holds Inv-loop μ-loop
 loop-holds c =
-    let a = c .before .before in
+    let a = c .before .before .before in
     let x = a .args in
     walk-start (a .pre .1 .literals) (small a) tt _ refl (few-edges a)
     (ap (reads (literalHolds (readAutomata (now (x .s))) (bareRun (now (x .clocks)) (now (x .vars)) (x .events)))) (literals-of (now (x .s)) (x .shape) (a .pre .0 .shape) (x .e)))
 
 place : (c : tie.In-loop Inv-loop μ-loop) →
-    let x = c .before .before .before .before .args in
+    let x = c .before .before .before .before .before .args in
     (firstLiteral (x .shape) ≤ c .before .loop .n) × (c .before .loop .n < firstClock (x .shape)) × (ownerIn (now (x .s)) (c .before .loop .n) ≡ x .e)
-place c = let a = c .before .before .before .before in walk-at (a .pre .1 .literals) (small a) (c .before .loop .inv) (c .loop-test .taken)
+place c = let a = c .before .before .before .before .before in walk-at (a .pre .1 .literals) (small a) (c .before .loop .inv) (c .loop-test .taken)
 
 literal-holds-requires : tie.Need-literal-holds-requires Inv-loop μ-loop
-literal-holds-requires c κs = (c .before .before .before .before .pre .0, place c .0, place c .1)
+literal-holds-requires c κs = (c .before .before .before .before .before .pre .0, place c .0, place c .1)
 
 enum-known-w : tie.Need-enum-known-w Inv-loop μ-loop
 enum-known-w c = search needs
@@ -65,7 +66,7 @@ enum-known-w c = search needs
 returns : tie.Need-returns Inv-loop μ-loop
 returns c =
     let i = c .before .before .before .before in
-    let a = i .before .before .before .before in
+    let a = i .before .before .before .before .before in
     let x = a .args in
     let r = bareRun (now (x .clocks)) (now (x .vars)) (x .events) in
     sym
@@ -77,7 +78,10 @@ enum-known-holding : tie.Need-enum-known-holding Inv-loop μ-loop
 enum-known-holding c = search needs
 
 inside : (c : tie.Then1 Inv-loop μ-loop) → c .before .before .before .before .before .before .loop .n < 14536
-inside c = let i = c .before .before .before .before .before in omega (arith, place i, small (i .before .before .before .before))
+inside c = let i = c .before .before .before .before .before in omega (arith, place i, small (i .before .before .before .before .before))
+
+in-index : (c : tie.Then1 Inv-loop μ-loop) → c .before .before .before .before .before .before .loop .n < length (now (c .before .before .before .before .before .before .before .before .before .before .args .next))
+in-index c = let i = c .before .before .before .before .before in omega (arith, place i, i .before .before .before .before .before .pre .1 .places)
 
 cast-n-2 : tie.Need-cast-n-2 Inv-loop μ-loop
 cast-n-2 c = omega (arith, inside c)
@@ -85,19 +89,19 @@ cast-n-2 c = omega (arith, inside c)
 mul-n-2 : tie.Need-mul-n-2 Inv-loop μ-loop
 mul-n-2 c = omega (arith, inside c)
 
-element-copy-out-n-2 : tie.Need-element-copy-out-n-2 Inv-loop μ-loop
-element-copy-out-n-2 c = inside c
+shared-slice-read-n : tie.Need-shared-slice-read-n Inv-loop μ-loop
+shared-slice-read-n c = in-index (c .before)
 
 loop-less : tie.Need-loop-less Inv-loop μ-loop
 loop-less c =
     let i = c .before .before .before .before .before .before in
-    let a = i .before .before .before .before in
+    let a = i .before .before .before .before .before in
     omega (arith, walk-rises (a .pre .1 .literals) (small a) (i .before .loop .inv) (i .loop-test .taken))
 
 loop-again : tie.Need-loop-again Inv-loop μ-loop
 loop-again c =
     let i = c .before .before .before .before .before .before in
-    let a = i .before .before .before .before in
+    let a = i .before .before .before .before .before in
     let x = a .args in
     let r = bareRun (now (x .clocks)) (now (x .vars)) (x .events) in
     walk-more (a .pre .1 .literals) (small a) (i .before .loop .inv) (i .loop-test .taken) tt
@@ -107,7 +111,7 @@ loop-again c =
 returns-2 : tie.Need-returns-2 Inv-loop μ-loop
 returns-2 c =
     let i = c .before .before .before .before .before in
-    let a = i .before .before .before .before in
+    let a = i .before .before .before .before .before in
     let x = a .args in
     let r = bareRun (now (x .clocks)) (now (x .vars)) (x .events) in
     sym
@@ -117,7 +121,7 @@ returns-2 c =
 
 returns-3 : tie.Need-returns-3 Inv-loop μ-loop
 returns-3 c =
-    let x = c .before .before .before .before .args in
+    let x = c .before .before .before .before .before .args in
     sym
     (walk-done (c .before .loop .inv) (c .loop-test .left)
     ∙ read-none (literalHolds (readAutomata (now (x .s))) (bareRun (now (x .clocks)) (now (x .vars)) (x .events))) (λ m. literalIn (now (x .s)) m .1))
@@ -139,7 +143,7 @@ edge-open-spec =
     enum-known-holding
     cast-n-2
     mul-n-2
-    element-copy-out-n-2
+    shared-slice-read-n
     loop-less
     loop-again
     returns-2

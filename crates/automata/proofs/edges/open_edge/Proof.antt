@@ -8,7 +8,7 @@ use native.Mathlib.Omega.{arith}
 use borrow.Author.Needs.{needs}
 use denote.Ref.{now}
 use lib.Dec.{eqb}
-use lib.ListN.{getD}
+use lib.ListN.{length, getD}
 use Rattle.records.specs.Lists.{keep}
 use Rattle.records.specs.Refusal.{Out, fault, _>>=_}
 use Rattle.model.specs.AutomataTable.{readAutomata}
@@ -38,20 +38,20 @@ reading c = edgeOpen (readAutomata (now (c .args .s))) (bareRun (now (c .args .c
 small : (c : tie.Start Inv-loop μ-loop) → firstLiteral (c .args .shape) ≤ 14536
 small c = let f = few-records (now (c .args .s)) (c .args .shape) (c .pre .0 .shape) in omega arith
 
-few-locations : (c : tie.Else1 Inv-loop μ-loop) → c .before .before .before .args .location < 128
+few-locations : (c : tie.Else1 Inv-loop μ-loop) → c .before .before .before .before .args .location < 128
 few-locations c =
-    let a = c .before .before .before in
+    let a = c .before .before .before .before in
     omega (arith, c .if1 .left, most-locations (now (a .args .s)) (a .args .shape) (a .pre .0 .shape))
 
 returns : tie.Need-returns Inv-loop μ-loop
 unfolding opens
 returns c =
-    let a = c .before .before .before in
+    let a = c .before .before .before .before in
     let x = a .args in
     (sym (ap (λ es. opens (reading a) es >>= theOne) (leaving-none (now (x .s)) (x .shape) (a .pre .0) (x .automaton) (x .location) (c .if1 .taken))), tt)
 
 first-edge-requires : tie.Need-first-edge-requires Inv-loop μ-loop
-first-edge-requires c κs = let a = c .before .before .before in few-records (now (a .args .s)) (a .args .shape) (a .pre .0 .shape)
+first-edge-requires c κs = let a = c .before .before .before .before in few-records (now (a .args .s)) (a .args .shape) (a .pre .0 .shape)
 
 mul-n : tie.Need-mul-n Inv-loop μ-loop
 mul-n c = omega (arith, few-locations (c .before))
@@ -61,7 +61,7 @@ element-copy-out-n c = omega (arith, few-locations (c .before))
 
 loop-holds : tie.Need-loop-holds Inv-loop μ-loop
 loop-holds c =
-    let a = c .before .before .before .before .before in
+    let a = c .before .before .before .before .before .before in
     let x = a .args in (
       tt,
       walk-start (a .pre .1 .edges) (small a) Nothing _ (ap (λ k. getD (now (x .first)) k 0) (sym (zero-add (x .location)))) (few-locations (c .before .before))
@@ -69,26 +69,26 @@ loop-holds c =
     )
 
 place : (c : tie.In-loop Inv-loop μ-loop) →
-    let x = c .before .before .before .before .before .before .before .args in
+    let x = c .before .before .before .before .before .before .before .before .args in
     (firstEdge (x .shape) ≤ c .before .loop .n) × (c .before .loop .n < firstLiteral (x .shape)) × (ownerIn (now (x .s)) (c .before .loop .n) ≡ x .location)
-place c = let a = c .before .before .before .before .before .before .before in walk-at (a .pre .1 .edges) (small a) (c .before .loop .inv .1) (c .loop-test .taken)
+place c = let a = c .before .before .before .before .before .before .before .before in walk-at (a .pre .1 .edges) (small a) (c .before .loop .inv .1) (c .loop-test .taken)
 
 sub-count-edge : tie.Need-sub-count-edge Inv-loop μ-loop
 sub-count-edge c = omega (arith, place c, c .before .before .before .first-edge .ensures)
 
 count-edge-requires : tie.Need-count-edge-requires Inv-loop μ-loop
 count-edge-requires c κs =
-    let a = c .before .before .before .before .before .before .before in
+    let a = c .before .before .before .before .before .before .before .before in
     (a .pre .0, a .pre .1, omega (arith, place c, c .before .before .before .first-edge .ensures), c .before .loop .inv .0)
 
 -- the edge is that of record n
 counted-here : (c : tie.After-count-edge Inv-loop μ-loop) (rest : List ℕ) →
-    let a = c .before .before .before .before .before .before .before .before in
+    let a = c .before .before .before .before .before .before .before .before .before in
     let l = c .before .before .loop in
     countOn (reading a) (firstEdge (a .args .shape)) (ownEdge (now (a .args .s)) (a .args .automaton)) (l .n ∷ rest) (l .tally)
     ≡ countedOf (reading a) (c .count-edge .result) (map (λ n. n - firstEdge (a .args .shape)) (keep (ownEdge (now (a .args .s)) (a .args .automaton)) rest))
 counted-here c rest =
-    let a = c .before .before .before .before .before .before .before .before in
+    let a = c .before .before .before .before .before .before .before .before .before in
     let x = a .args in
     let l = c .before .before .loop in
     let e : firstEdge (x .shape) + (l .n - firstEdge (x .shape)) ≡ l .n = omega (arith, place (c .before)) in
@@ -106,7 +106,7 @@ returns-2 : tie.Need-returns-2 Inv-loop μ-loop
 returns-2 c =
     let j = c .before .before .before in
     let i = j .before in
-    let a = i .before .before .before .before .before .before .before in (
+    let a = i .before .before .before .before .before .before .before .before in (
       sym
           (walk-ends (a .pre .1 .edges) (small a) (i .before .loop .inv .1) (i .loop-test .taken) (fault (reasonOf (c .before .w .given .0 .0)))
           (λ rest. counted-here j rest ∙ ap (λ k. countedOf (reading a) k (map (λ n. n - firstEdge (a .args .shape)) (keep (ownEdge (now (a .args .s)) (a .args .automaton)) rest))) (c .before .w .given .1))),
@@ -117,7 +117,10 @@ enum-known-t : tie.Need-enum-known-t Inv-loop μ-loop
 enum-known-t c = search needs
 
 inside : (c : tie.After-known-told2 Inv-loop μ-loop) → c .before .before .before .before .before .loop .n < 14536
-inside c = let i = c .before .before .before .before in omega (arith, place i, small (i .before .before .before .before .before .before .before))
+inside c = let i = c .before .before .before .before in omega (arith, place i, small (i .before .before .before .before .before .before .before .before))
+
+in-index : (c : tie.After-known-told2 Inv-loop μ-loop) → c .before .before .before .before .before .loop .n < length (now (c .before .before .before .before .before .before .before .before .before .before .before .before .args .next))
+in-index c = let i = c .before .before .before .before in omega (arith, place i, i .before .before .before .before .before .before .before .before .pre .1 .places)
 
 cast-n : tie.Need-cast-n Inv-loop μ-loop
 cast-n c = omega (arith, inside c)
@@ -125,20 +128,20 @@ cast-n c = omega (arith, inside c)
 mul-n-2 : tie.Need-mul-n-2 Inv-loop μ-loop
 mul-n-2 c = omega (arith, inside c)
 
-element-copy-out-n-2 : tie.Need-element-copy-out-n-2 Inv-loop μ-loop
-element-copy-out-n-2 c = inside c
+shared-slice-read-n : tie.Need-shared-slice-read-n Inv-loop μ-loop
+shared-slice-read-n c = in-index (c .before)
 
 loop-less : tie.Need-loop-less Inv-loop μ-loop
 loop-less c =
     let i = c .before .before .before .before .before in
-    let a = i .before .before .before .before .before .before .before in
+    let a = i .before .before .before .before .before .before .before .before in
     omega (arith, walk-rises (a .pre .1 .edges) (small a) (i .before .loop .inv .1) (i .loop-test .taken))
 
 loop-again : tie.Need-loop-again Inv-loop μ-loop
 loop-again c =
     let j = c .before .before .before .before in
     let i = j .before in
-    let a = i .before .before .before .before .before .before .before in (
+    let a = i .before .before .before .before .before .before .before .before in (
       subst (CountedIn (a .args .shape .edges)) (c .before .before .t .given .1) (j .count-edge .ensures .1),
       walk-more (a .pre .1 .edges) (small a) (i .before .loop .inv .1) (i .loop-test .taken) (c .before .before .t .given .0 .0)
           (λ rest. counted-here j rest ∙ ap (λ k. countedOf (reading a) k (map (λ n. n - firstEdge (a .args .shape)) (keep (ownEdge (now (a .args .s)) (a .args .automaton)) rest))) (c .before .before .t .given .1)),
@@ -150,7 +153,7 @@ choice-for-requires c κs = search needs
 returns-3 : tie.Need-returns-3 Inv-loop μ-loop
 returns-3 c =
     let l = c .before .before .loop in
-    let a = c .before .before .before .before .before .before .before .before in (
+    let a = c .before .before .before .before .before .before .before .before .before in (
       c .choice-for .ensures .0
           ∙ sym (walk-done (l .inv .1) (c .before .loop-test .left) ∙ count-none (reading a) (firstEdge (a .args .shape)) (ownEdge (now (a .args .s)) (a .args .automaton)) (l .tally)),
       c .choice-for .ensures .1 (a .args .shape .edges) (l .inv .0),
@@ -174,7 +177,7 @@ open-edge-spec =
     enum-known-t
     cast-n
     mul-n-2
-    element-copy-out-n-2
+    shared-slice-read-n
     loop-less
     loop-again
     choice-for-requires

@@ -1,5 +1,5 @@
 -- `index::index_of` meets its contract: the kinds are linked one after the other. Assumes nothing.
-use mathlib.Core.Path.{_≡_}
+use mathlib.Core.Path.{_≡_, _∙_}
 use Prim.Native.Nat.{_+_}
 use native.Mathlib.Omega.{arith}
 use denote.Ref.{now}
@@ -7,103 +7,112 @@ use Rattle.automata_files.specs.Places.{firstEdge, firstLiteral, firstClock, fi
 use Rattle.automata_files.proofs.Readings.{most-locations, most-edges}
 use Rattle.automata.specs.Index.{FewRecords}
 use Rattle.automata.proofs.TableLaws.{few-records, source-in, literal-in, update-in, reset-in}
-use Rattle.automata.proofs.LinkLaws.{Vacant, vacant-all, linkable, linked-before, vacant-behind, relinked}
+use Rattle.automata.proofs.LinkLaws.{linkable, linked-before, vacant-behind, relinked}
 use borrow.Author.Needs.{needs}
 use Rattle.automata.proofs.index.index_of.Statement.{statement}
 use Rattle.automata.proofs.index.index_of.Tie as tie
 
 few : (c : tie.Start) → FewRecords (c .args .shape)
-few c = few-records (now (c .args .s)) (c .args .shape) (c .pre .shape)
+few c = few-records (now (c .args .s)) (c .args .shape) (c .pre .0 .shape)
 
 first-edge-requires : tie.Need-first-edge-requires
-first-edge-requires c κs = few (c .before)
+first-edge-requires c κs = few (c .before .before)
 
 first-literal-requires : tie.Need-first-literal-requires
-first-literal-requires c κs = few (c .before .before)
+first-literal-requires c κs = few (c .before .before .before)
 
 first-update-requires : tie.Need-first-update-requires
-first-update-requires c κs = few (c .before .before .before)
+first-update-requires c κs = few (c .before .before .before .before)
 
 first-reset-requires : tie.Need-first-reset-requires
-first-reset-requires c κs = few (c .before .before .before .before)
+first-reset-requires c κs = few (c .before .before .before .before .before)
 
 link-requires : tie.Need-link-requires
 link-requires c κs =
-    let a = c .before .before .before .before .before in
+    let a = c .before .before .before .before .before .before .before .before in
     let x = a .args in
     let f = few a in
-    let m = most-locations (now (x .s)) (x .shape) (a .pre .shape) in
-    let d = c .before .before .before .first-edge .ensures in
-    let e = c .before .before .first-literal .ensures in
-    linkable (now (x .s)) _ _ (omega arith) (omega arith) (omega arith)
-    (λ n h l. omega (arith, source-in (now (x .s)) (x .shape) (a .pre) n (omega arith) (omega arith)))
-    vacant-all
+    let m = most-locations (now (x .s)) (x .shape) (a .pre .0 .shape) in
+    let d = c .before .before .before .before .before .first-edge .ensures in
+    let e = c .before .before .before .before .first-literal .ensures in
+    let p = a .pre .1 .1 in
+    linkable (now (x .s)) _ _ _ (a .pre .1 .0 .keys) (omega arith) (omega arith) (omega arith) (omega arith)
+    (λ n h l. omega (arith, source-in (now (x .s)) (x .shape) (a .pre .0) n (omega arith) (omega arith)))
+    (a .pre .1 .0 .vacant)
 
 add-t14 : tie.Need-add-t14
 add-t14 c = search needs
 
-vacant-1 : (c : tie.After-link) → Vacant 128 (c .link .result .first)
-vacant-1 c = vacant-behind (c .link .ensures) vacant-all
-
 link-requires-2 : tie.Need-link-requires-2
 link-requires-2 c κs =
-    let a = c .before .before .before .before .before .before .before in
+    let a = c .before .before .before .before .before .before .before .before .before .before .before .before .before .before in
     let x = a .args in
     let f = few a in
-    let m = most-edges (now (x .s)) (x .shape) (a .pre .shape) in
-    let d = c .before .before .before .before .first-literal .ensures in
-    linkable (now (x .s)) _ _ (omega arith) (omega arith) (omega arith)
-    (λ n h l. omega (arith, literal-in (now (x .s)) (x .shape) (a .pre) n (omega arith) (omega arith)))
-    (vacant-1 (c .before))
-
-vacant-2 : (c : tie.After-link2) → Vacant 512 (c .link2 .result .first)
-vacant-2 c = vacant-behind (c .link2 .ensures) (vacant-1 (c .before .before))
+    let m = most-edges (now (x .s)) (x .shape) (a .pre .0 .shape) in
+    let d = c .before .before .before .before .before .before .before .before .before .before .first-literal .ensures in
+    let p = a .pre .1 .1 in
+    let l1 = c .before .before .before .before .before .link .ensures in
+    linkable (now (x .s)) _ _ _ (l1 .keys ∙ a .pre .1 .0 .keys) (omega arith) (omega arith) (omega (arith, l1 .places)) (omega arith)
+    (λ n h l. omega (arith, literal-in (now (x .s)) (x .shape) (a .pre .0) n (omega arith) (omega arith)))
+    (vacant-behind l1 (a .pre .1 .0 .vacant))
 
 link-requires-3 : tie.Need-link-requires-3
 link-requires-3 c κs =
-    let a = c .before .before .before .before .before .before .before .before in
+    let a = c .before .before .before .before .before .before .before .before .before .before .before .before .before .before .before .before .before .before .before in
     let x = a .args in
     let f = few a in
-    let m = most-edges (now (x .s)) (x .shape) (a .pre .shape) in
-    let d = c .before .before .before .before .first-update .ensures in
-    let e = c .before .before .before .first-reset .ensures in
-    linkable (now (x .s)) _ _ (omega arith) (omega arith) (omega arith)
-    (λ n h l. omega (arith, update-in (now (x .s)) (x .shape) (a .pre) n (omega arith) (omega arith)))
-    (vacant-2 c)
+    let m = most-edges (now (x .s)) (x .shape) (a .pre .0 .shape) in
+    let d = c .before .before .before .before .before .before .before .before .before .before .before .before .before .before .first-update .ensures in
+    let e = c .before .before .before .before .before .before .before .before .before .before .before .before .before .first-reset .ensures in
+    let p = a .pre .1 .1 in
+    let l1 = c .before .before .before .before .before .before .before .before .before .before .link .ensures in
+    let l2 = c .before .before .before .before .link2 .ensures in
+    linkable (now (x .s)) _ _ _ (l2 .keys ∙ l1 .keys ∙ a .pre .1 .0 .keys) (omega arith) (omega arith) (omega (arith, l1 .places, l2 .places)) (omega arith)
+    (λ n h l. omega (arith, update-in (now (x .s)) (x .shape) (a .pre .0) n (omega arith) (omega arith)))
+    (vacant-behind l2 (vacant-behind l1 (a .pre .1 .0 .vacant)))
 
 add-t14-2 : tie.Need-add-t14-2
 add-t14-2 c =
-    let f = few (c .before .before .before .before .before .before .before .before .before .before) in
-    omega (arith, c .before .before .before .before .before .first-reset .ensures)
+    let f = few (c .before .before .before .before .before .before .before .before .before .before .before .before .before .before .before .before .before .before .before .before .before .before .before) in
+    omega (arith, c .before .before .before .before .before .before .before .before .before .before .before .before .before .before .before .before .before .first-reset .ensures)
 
 link-requires-4 : tie.Need-link-requires-4
 link-requires-4 c κs =
-    let a = c .before .before .before .before .before .before .before .before .before .before in
+    let a = c .before .before .before .before .before .before .before .before .before .before .before .before .before .before .before .before .before .before .before .before .before .before .before .before .before in
     let x = a .args in
     let f = few a in
-    let m = most-edges (now (x .s)) (x .shape) (a .pre .shape) in
-    let d = c .before .before .before .before .before .first-reset .ensures in
-    linkable (now (x .s)) _ _ (omega arith) (omega arith) (omega arith)
-    (λ n h l. omega (arith, reset-in (now (x .s)) (x .shape) (a .pre) n (omega arith) (omega arith)))
-    (vacant-behind (c .before .link3 .ensures) (vacant-2 (c .before .before)))
+    let m = most-edges (now (x .s)) (x .shape) (a .pre .0 .shape) in
+    let d = c .before .before .before .before .before .before .before .before .before .before .before .before .before .before .before .before .before .before .before .first-reset .ensures in
+    let p = a .pre .1 .1 in
+    let l1 = c .before .before .before .before .before .before .before .before .before .before .before .before .before .before .before .before .link .ensures in
+    let l2 = c .before .before .before .before .before .before .before .before .before .before .link2 .ensures in
+    let l3 = c .before .before .before .before .before .link3 .ensures in
+    linkable (now (x .s)) _ _ _ (l3 .keys ∙ l2 .keys ∙ l1 .keys ∙ a .pre .1 .0 .keys) (omega arith) (omega arith) (omega (arith, l1 .places, l2 .places, l3 .places)) (omega arith)
+    (λ n h l. omega (arith, reset-in (now (x .s)) (x .shape) (a .pre .0) n (omega arith) (omega arith)))
+    (vacant-behind l3 (vacant-behind l2 (vacant-behind l1 (a .pre .1 .0 .vacant))))
+
+same-length : tie.Need-same-length
+same-length c = search needs
 
 returns : tie.Need-returns
 returns c =
-    let sh = c .before .before .before .before .before .before .before .before .before .before .before .args .shape in
-    let l1 = c .before .before .before .before .before .link .ensures in
-    let l2 = c .before .before .before .link2 .ensures in
-    let l3 = c .before .before .link3 .ensures in
-    let l4 = c .link4 .ensures in
-    let e : c .before .before .before .before .before .before .before .before .before .first-edge .result ≡ firstEdge sh = c .before .before .before .before .before .before .before .before .before .first-edge .ensures in
-    let l : c .before .before .before .before .before .before .before .before .first-literal .result ≡ firstLiteral sh = c .before .before .before .before .before .before .before .before .first-literal .ensures in
-    let u : c .before .before .before .before .before .before .before .first-update .result ≡ firstUpdate sh = c .before .before .before .before .before .before .before .first-update .ensures in
-    let r : c .before .before .before .before .before .before .first-reset .result ≡ firstReset sh = c .before .before .before .before .before .before .first-reset .ensures in
+    let a = c .before .before .before .before .before .before .before .before .before .before .before .before .before .before .before .before .before .before .before .before .before .before .before .before .before .before .before .before in
+    let sh = a .args .shape in
+    let l1 = c .before .before .before .before .before .before .before .before .before .before .before .before .before .before .before .before .before .before .before .link .ensures in
+    let l2 = c .before .before .before .before .before .before .before .before .before .before .before .before .before .link2 .ensures in
+    let l3 = c .before .before .before .before .before .before .before .before .link3 .ensures in
+    let l4 = c .before .before .link4 .ensures in
+    let e : c .before .before .before .before .before .before .before .before .before .before .before .before .before .before .before .before .before .before .before .before .before .before .before .before .before .first-edge .result ≡ firstEdge sh = c .before .before .before .before .before .before .before .before .before .before .before .before .before .before .before .before .before .before .before .before .before .before .before .before .before .first-edge .ensures in
+    let l : c .before .before .before .before .before .before .before .before .before .before .before .before .before .before .before .before .before .before .before .before .before .before .before .before .first-literal .result ≡ firstLiteral sh = c .before .before .before .before .before .before .before .before .before .before .before .before .before .before .before .before .before .before .before .before .before .before .before .before .first-literal .ensures in
+    let u : c .before .before .before .before .before .before .before .before .before .before .before .before .before .before .before .before .before .before .before .before .before .before .before .first-update .result ≡ firstUpdate sh = c .before .before .before .before .before .before .before .before .before .before .before .before .before .before .before .before .before .before .before .before .before .before .before .first-update .ensures in
+    let r : c .before .before .before .before .before .before .before .before .before .before .before .before .before .before .before .before .before .before .before .before .before .before .first-reset .result ≡ firstReset sh = c .before .before .before .before .before .before .before .before .before .before .before .before .before .before .before .before .before .before .before .before .before .before .first-reset .ensures in
     record {
       edges = relinked (firstEdge sh) (firstLiteral sh)
           (linked-before l4 (linked-before l3 (linked-before l2 (l1 .linked) (omega arith) (omega arith)) (omega arith) (omega arith)) (omega arith) (omega arith)) e l;
       literals = relinked (firstLiteral sh) (firstClock sh) (linked-before l4 (linked-before l3 (l2 .linked) (omega arith) (omega arith)) (omega arith) (omega arith)) l (omega arith);
       updates = relinked (firstUpdate sh) (firstReset sh) (linked-before l4 (l3 .linked) (omega arith) (omega arith)) u r;
       resets = relinked (firstReset sh) (firstReset sh + sh .resets) (l4 .linked) r (omega arith);
+      places = omega (arith, a .pre .1 .1, l1 .places, l2 .places, l3 .places, l4 .places);
     }
 
 pub index-of-spec : {M : Type 1} → statement M
@@ -120,4 +129,5 @@ index-of-spec =
     link-requires-3
     add-t14-2
     link-requires-4
+    same-length
     returns)

@@ -1,174 +1,141 @@
--- `plays::cycles_played` meets its contract. The invariant: so many cycles led to the present run, and they are no more than its count. Assumes nothing.
-use mathlib.Core.Path.{_≡_, refl, sym, ap, _∙_}
-use Prim.Native.Nat.{_+_, _-_, _≤_}
+-- `plays::cycles_played` meets its contract: the first cycle is checked, and leaves a run from which the rest are played. Assumes nothing.
+use mathlib.Core.Path.{_≡_, sym, ap, _∙_}
+use Prim.Native.Nat.{_+_, _-_, _<_}
 use native.Mathlib.Omega.{arith}
 use borrow.Author.Needs.{needs}
 use denote.Ref.{now}
-use lib.ListN.{length, getD}
+use lib.ListN.{length, getD, drop, length-drop}
+use lib.Seq.{take-all}
 use Rattle.records.specs.Refusal.{val, _>>=_}
 use Rattle.model.specs.Outcome.{settled}
-use Rattle.model.specs.Runs.{cycle as model-cycle}
+use Rattle.model.specs.Runs.{cycle}
 use Rattle.model.specs.AutomataTable.{readAutomata}
 use Rattle.model.specs.Automata.{automata}
+use Rattle.machines.specs.Playing.{played, stoppedAt}
+use Rattle.machines.proofs.Turning.{unsettled, unsettle}
+use Rattle.machines.proofs.Playing.{went-none, went-more, went-stop, went-all}
 use Rattle.automata.specs.RunOf.{runOf}
 use Rattle.automata.specs.StepOf.{reasonOf}
 use Rattle.automata.specs.TurnOf.{refusalOf, endingOf}
-use Rattle.machines.proofs.Turning.{unsettled, unsettle}
-use Rattle.machines.specs.Playing.{stoppedAt}
-use Rattle.machines.proofs.Playing.{Went, went-none, went-more, went-stop, went-all, cycle-counts}
-use Rattle.automata.proofs.PlayLaws.{count-kept}
+use Rattle.automata.proofs.PlayLaws.{rested-next, told-later}
 use Rattle.automata.proofs.plays.cycles_played.Statement.{statement}
 use Rattle.automata.proofs.plays.cycles_played.Tie as tie
 
-abbrev Inv-loop : tie.InvT-loop
-Inv-loop s shape first next run masks present₀ k₀ present k =
-    Went (automata (readAutomata s)) masks (runOf run) k (runOf present) × (k ≤ present .cycles) × (k ≤ 1_000_000)
+returns : tie.Need-returns
+returns c =
+    let x = c .before .before .before .before .args in
+    let m = automata (readAutomata (now (x .s))) in
+    sym
+    (ap (λ p. settled (runOf (x .run)) (stoppedAt (p .count) (p .run) (p .stop)))
+    (went-all m (now (x .masks)) (runOf (x .run)) 0 (runOf (x .run)) (let h = c .if1 .taken in omega (arith, h)) (went-none m (now (x .masks)) (runOf (x .run)))))
 
-abbrev μ-loop : tie.MeasureT-loop
-μ-loop s shape first next run masks present₀ k₀ present k = length masks - k
+-- there is a first mask
+some-mask : (c : tie.Else1) → 0 < length (now (c .before .before .before .before .args .masks))
+some-mask c = let h = c .if1 .left in omega (arith, h)
 
-loop-holds : tie.Need-loop-holds Inv-loop μ-loop
-loop-holds c =
-    let b = c .before .before .args in
-    (went-none (automata (readAutomata (now (b .s)))) (now (b .masks)) (runOf (b .run)), omega arith, omega arith)
+shared-slice-read-cycle-of : tie.Need-shared-slice-read-cycle-of
+shared-slice-read-cycle-of c = some-mask (c .before)
 
-mul-cycle : tie.Need-mul-cycle Inv-loop μ-loop
-mul-cycle c = search needs
+cycle-of-requires : tie.Need-cycle-of-requires
+cycle-of-requires c κs = c .before .before .before .before .before .pre
 
-shared-slice-read-cycle : tie.Need-shared-slice-read-cycle Inv-loop μ-loop
-shared-slice-read-cycle c = c .before .loop-test .taken
-
-cycle-requires : tie.Need-cycle-requires Inv-loop μ-loop
-cycle-requires c κs = c .before .before .before .before .before .pre
-
--- the cycle of the present run, from its answer
-cycling : (c : tie.After-cycle Inv-loop μ-loop) →
-    let b = c .before .before .before .before .before .before in
-    let l = c .before .before .before .loop in
-    model-cycle (automata (readAutomata (now (b .args .s)))) (getD (now (b .args .masks)) (l .k) 0) (runOf (l .present))
-    ≡ (endingOf (c .cycle .result .answer) >>= λ x. val (x, runOf (c .cycle .result .run)))
+-- the first cycle, from its answer
+cycling : (c : tie.After-cycle-of) →
+    let x = c .before .before .before .before .before .before .args in
+    cycle (automata (readAutomata (now (x .s)))) (getD (now (x .masks)) 0 0) (runOf (x .run))
+    ≡ (endingOf (c .cycle-of .result .answer) >>= λ y. val (y, runOf (c .cycle-of .result .run)))
 cycling c =
-    let b = c .before .before .before .before .before .before in
-    let l = c .before .before .before .loop in
-    sym (unsettle (runOf (l .present)) (model-cycle (automata (readAutomata (now (b .args .s)))) (getD (now (b .args .masks)) (l .k) 0) (runOf (l .present))))
-    ∙ ap unsettled (sym (c .cycle .ensures))
+    let x = c .before .before .before .before .before .before .args in
+    sym (unsettle (runOf (x .run)) (cycle (automata (readAutomata (now (x .s)))) (getD (now (x .masks)) 0 0) (runOf (x .run)))) ∙ ap unsettled (sym (c .cycle-of .ensures))
 
-enum-told : tie.Need-enum-told Inv-loop μ-loop
+enum-told : tie.Need-enum-told
 enum-told c = search needs
 
--- the cycle was done
-went : (c : tie.After-enum-told Inv-loop μ-loop) →
-    let t = c .before .before in
-    let b = t .before .before .before .before .before .before in
-    let l = t .before .before .before .loop in
-    model-cycle (automata (readAutomata (now (b .args .s)))) (getD (now (b .args .masks)) (l .k) 0) (runOf (l .present)) ≡ val (tt, runOf (t .cycle .result .run))
-went c =
-    let t = c .before .before in
-    cycling t ∙ ap (λ a. endingOf a >>= λ x. val (x, runOf (t .cycle .result .run))) (c .enum-told .given .1)
-
-more : (c : tie.After-enum-told Inv-loop μ-loop) →
-    let t = c .before .before in
-    let l = t .before .before .before .loop in
-    (l .k + 1 ≤ t .cycle .result .run .cycles) × (l .k + 1 ≤ 1_000_000)
-more c =
-    let t = c .before .before in
-    let b = t .before .before .before .before .before .before in
-    let l = t .before .before .before .loop in
-    let n = cycle-counts (automata (readAutomata (now (b .args .s)))) (count-kept (readAutomata (now (b .args .s)))) (getD (now (b .args .masks)) (l .k) 0) (runOf (l .present)) (runOf (t .cycle .result .run)) (went c) in
-    (omega (arith, n .0, l .inv .1), omega (arith, n .1, l .inv .1))
-
-add-k : tie.Need-add-k Inv-loop μ-loop
-add-k c = let n = more (c .before) .1 in omega (arith, n)
-
-loop-less : tie.Need-loop-less Inv-loop μ-loop
-loop-less c =
-    let l = c .before .before .before .before .before .before .loop in
-    let h = c .before .before .before .before .before .loop-test .taken in
-    omega (arith, h)
-
-loop-again : tie.Need-loop-again Inv-loop μ-loop
-loop-again c =
+-- it was done
+done : (c : tie.After-enum-told) →
+    let x = c .before .before .before .before .before .before .before .before .before .args in
+    cycle (automata (readAutomata (now (x .s)))) (getD (now (x .masks)) 0 0) (runOf (x .run)) ≡ val (tt, runOf (c .before .before .before .cycle-of .result .run))
+done c =
     let t = c .before .before .before in
-    let b = t .before .before .before .before .before .before in
-    let l = t .before .before .before .loop in
-    (went-more (automata (readAutomata (now (b .args .s)))) (now (b .args .masks)) (runOf (b .args .run)) (l .k) (runOf (l .present)) (runOf (t .cycle .result .run)) (t .before .before .loop-test .taken) (l .inv .0) (went (c .before)), more (c .before) .0, more (c .before) .1)
+    cycling t ∙ ap (λ a. endingOf a >>= λ y. val (y, runOf (t .cycle-of .result .run))) (c .enum-told .given .1)
 
-enum-known-answer : tie.Need-enum-known-answer Inv-loop μ-loop
+sub-rest-played : tie.Need-sub-rest-played
+sub-rest-played c = omega (arith, some-mask (c .before .before .before .before .before))
+
+part-rest-played-start : tie.Need-part-rest-played-start
+part-rest-played-start c = omega (arith, some-mask (c .before .before .before .before .before))
+
+part-rest-played-end : tie.Need-part-rest-played-end
+part-rest-played-end c = omega arith
+
+rest-played-requires : tie.Need-rest-played-requires
+rest-played-requires c κs =
+    let b = c .before .before .before .before .before .before .before .before .before .before in
+    (b .pre, rested-next (now (b .args .s)) (b .args .shape) (b .pre .accepted) (getD (now (b .args .masks)) 0 0) (runOf (b .args .run)) (runOf (c .before .before .before .before .cycle-of .result .run)) (done (c .before)) .0)
+
+add-t24 : tie.Need-add-t24
+add-t24 c = omega (arith, c .before .before .rest-played .ensures .few)
+
+enum-known-answer : tie.Need-enum-known-answer
 enum-known-answer c = search needs
 
-cast-stopped : tie.Need-cast-stopped Inv-loop μ-loop
-cast-stopped c = let most = c .before .before .before .before .before .before .loop .inv .2 in omega (arith, most)
-
-stopped-requires : tie.Need-stopped-requires Inv-loop μ-loop
-stopped-requires c κs = search needs
-
-returns : tie.Need-returns Inv-loop μ-loop
-returns c =
-    let t = c .before .before .before .before in
-    let b = t .before .before .before .before .before .before in
-    let l = t .before .before .before .loop in
-    let given = c .before .before .answer .given in
-    let w = reasonOf (given .0 .0) in
-    let failed = cycling t ∙ ap (λ a. endingOf a >>= λ x. val (x, runOf (t .cycle .result .run))) (given .1) in
-    c .stopped .ensures w refl
-    ∙ sym
-    (ap (λ p. settled (runOf (b .args .run)) (stoppedAt (p .count) (p .run) (p .stop)))
-    (went-stop (automata (readAutomata (now (b .args .s)))) (now (b .args .masks)) (runOf (b .args .run)) (l .k) (runOf (l .present)) w (t .before .before .loop-test .taken) (l .inv .0) failed))
-
-enum-known-answer-2 : tie.Need-enum-known-answer-2 Inv-loop μ-loop
+enum-known-answer-2 : tie.Need-enum-known-answer-2
 enum-known-answer-2 c = search needs
 
-cast-stopped-2 : tie.Need-cast-stopped-2 Inv-loop μ-loop
-cast-stopped-2 c = let most = c .before .before .before .before .before .before .loop .inv .2 in omega (arith, most)
-
-stopped-requires-2 : tie.Need-stopped-requires-2 Inv-loop μ-loop
-stopped-requires-2 c κs = search needs
-
-returns-2 : tie.Need-returns-2 Inv-loop μ-loop
+returns-2 : tie.Need-returns-2
 returns-2 c =
-    let t = c .before .before .before .before in
-    let b = t .before .before .before .before .before .before in
-    let l = t .before .before .before .loop in
-    let given = c .before .before .answer2 .given in
-    let w = refusalOf (given .0 .0) in
-    let failed = cycling t ∙ ap (λ a. endingOf a >>= λ x. val (x, runOf (t .cycle .result .run))) (given .1) in
-    c .stopped2 .ensures w refl
+    let x = c .before .before .before .before .before .before .before .before .before .before .before .before .before .args in
+    let m = automata (readAutomata (now (x .s))) in
+    let masks = now (x .masks) in
+    let q = runOf (c .before .before .before .before .before .before .before .cycle-of .result .run) in
+    let y = c .before .before .rest-played in
+    let rest = take-all (length masks - 1) (drop 1 masks) (omega (arith, length-drop 1 masks)) in
+    let p = played m (drop 1 masks) q in
+    let number : y .result .count ≡ p .count = y .ensures .number ∙ ap (λ l. played m l q .count) rest in
+    let run : runOf (y .result .run) ≡ p .run = y .ensures .run ∙ ap (λ l. played m l q .run) rest in
+    ap (λ r. record { answer = val (y .result .count + 1); lent = r }) run
+    ∙ ap (settled (runOf (x .run))) (told-later (p .count) (y .result .count + 1) (p .run) (p .stop) (ap (λ n. n + 1) number))
     ∙ sym
-    (ap (λ p. settled (runOf (b .args .run)) (stoppedAt (p .count) (p .run) (p .stop)))
-    (went-stop (automata (readAutomata (now (b .args .s)))) (now (b .args .masks)) (runOf (b .args .run)) (l .k) (runOf (l .present)) w (t .before .before .loop-test .taken) (l .inv .0) failed))
+    (ap (λ p. settled (runOf (x .run)) (stoppedAt (p .count) (p .run) (p .stop)))
+    (went-more m masks (runOf (x .run)) 0 (runOf (x .run)) q (some-mask (c .before .before .before .before .before .before .before .before .before)) (went-none m masks (runOf (x .run))) (done (c .before .before .before .before))))
 
-cast-t22 : tie.Need-cast-t22 Inv-loop μ-loop
-cast-t22 c = let most = c .before .loop .inv .2 in omega (arith, most)
-
-returns-3 : tie.Need-returns-3 Inv-loop μ-loop
+returns-3 : tie.Need-returns-3
 returns-3 c =
-    let b = c .before .before .before .before in
-    let l = c .before .loop in
+    let x = c .before .before .before .before .before .before .before .before .before .before .args in
+    let m = automata (readAutomata (now (x .s))) in
+    let t = c .before .before .before .before in
+    let g = c .before .answer .given in
     sym
-    (ap (λ p. settled (runOf (b .args .run)) (stoppedAt (p .count) (p .run) (p .stop)))
-    (went-all (automata (readAutomata (now (b .args .s)))) (now (b .args .masks)) (runOf (b .args .run)) (l .k) (runOf (l .present)) (let h = c .loop-test .left in omega (arith, h)) (l .inv .0)))
+    (ap (λ p. settled (runOf (x .run)) (stoppedAt (p .count) (p .run) (p .stop)))
+    (went-stop m (now (x .masks)) (runOf (x .run)) 0 (runOf (x .run)) (reasonOf (g .0 .0)) (some-mask (c .before .before .before .before .before .before)) (went-none m (now (x .masks)) (runOf (x .run)))
+    (cycling t ∙ ap (λ a. endingOf a >>= λ y. val (y, runOf (t .cycle-of .result .run))) (g .1))))
+
+returns-4 : tie.Need-returns-4
+returns-4 c =
+    let x = c .before .before .before .before .before .before .before .before .before .before .args in
+    let m = automata (readAutomata (now (x .s))) in
+    let t = c .before .before .before .before in
+    let g = c .before .answer2 .given in
+    sym
+    (ap (λ p. settled (runOf (x .run)) (stoppedAt (p .count) (p .run) (p .stop)))
+    (went-stop m (now (x .masks)) (runOf (x .run)) 0 (runOf (x .run)) (refusalOf (g .0 .0)) (some-mask (c .before .before .before .before .before .before)) (went-none m (now (x .masks)) (runOf (x .run)))
+    (cycling t ∙ ap (λ a. endingOf a >>= λ y. val (y, runOf (t .cycle-of .result .run))) (g .1))))
 
 pub cycles-played-spec : {M : Type 1} → statement M
 cycles-played-spec =
     tie.close
     (tie.spec
-    Inv-loop
-    μ-loop
-    loop-holds
-    mul-cycle
-    shared-slice-read-cycle
-    cycle-requires
-    enum-told
-    add-k
-    loop-less
-    loop-again
-    enum-known-answer
-    cast-stopped
-    stopped-requires
     returns
+    shared-slice-read-cycle-of
+    cycle-of-requires
+    enum-told
+    sub-rest-played
+    part-rest-played-start
+    part-rest-played-end
+    rest-played-requires
+    add-t24
+    enum-known-answer
     enum-known-answer-2
-    cast-stopped-2
-    stopped-requires-2
     returns-2
-    cast-t22
-    returns-3)
+    returns-3
+    returns-4)

@@ -7,6 +7,7 @@ use Rattle.model.specs.AutomataTable.{readAutomata}
 use Rattle.model.specs.Automata.{automata}
 use Rattle.automata.specs.Accepted.{Accepted}
 use Rattle.automata.specs.RunOf.{runOf}
+use Rattle.automata.proofs.TableLaws.{room-short, room-long}
 use Rattle.automata.proofs.Checking.{accepted-of, refused-of}
 use Rattle.machines.specs.Playing.{playing}
 use Rattle.automata.specs.PlayedOf.{cyclesOf}
@@ -31,13 +32,17 @@ accepted c =
     let k = c .before .before .before in
     accepted-of (now (k .before .before .before .args .s)) (k .check .result) (k .check .ensures) (c .before .shape .given .0 .0) (c .before .shape .given .1)
 
-index-of-requires : tie.Need-index-of-requires
-index-of-requires c κs = accepted c
+slice-aggregate-play-indexed : tie.Need-slice-aggregate-play-indexed
+slice-aggregate-play-indexed c = search needs
 
-cycles-played-requires : tie.Need-cycles-played-requires
-cycles-played-requires c κs =
-    let a = c .before .before .before .before in
-    record { accepted = accepted (a .before); has-index = a .index-of .ensures }
+play-indexed-requires : tie.Need-play-indexed-requires
+play-indexed-requires c κs = let ok = accepted (c .before .before) in (ok, room-short _ _ (ok .shape) (c .before .if1 .taken))
+
+slice-aggregate-play-indexed-2 : tie.Need-slice-aggregate-play-indexed-2
+slice-aggregate-play-indexed-2 c = search needs
+
+play-indexed-requires-2 : tie.Need-play-indexed-requires-2
+play-indexed-requires-2 c κs = let ok = accepted (c .before .before) in (ok, room-long _ _ (ok .shape))
 
 returns : tie.Need-returns
 returns c =
@@ -51,9 +56,16 @@ returns c =
 
 returns-2 : tie.Need-returns-2
 returns-2 c =
-    let t = c .before .before .before .before .before .before in
+    let t = c .before .before .before .before in
     let a = t .before .before .before .before .before .before .args in
-    c .cycles-played .ensures
+    c .before .play-indexed .ensures
+    ∙ sym (ap (λ o. settled (runOf (a .run)) (unless-refused o (playing (automata (readAutomata (now (a .s)))) (now (a .masks)) (runOf (a .run))))) (accepted t .unrefused))
+
+returns-3 : tie.Need-returns-3
+returns-3 c =
+    let t = c .before .before .before .before in
+    let a = t .before .before .before .before .before .before .args in
+    c .before .play-indexed2 .ensures
     ∙ sym (ap (λ o. settled (runOf (a .run)) (unless-refused o (playing (automata (readAutomata (now (a .s)))) (now (a .masks)) (runOf (a .run))))) (accepted t .unrefused))
 
 pub play-spec : {M : Type 1} → statement M
@@ -64,7 +76,10 @@ play-spec =
     enum-told
     unplayed-requires
     enum-known-shape
-    index-of-requires
-    cycles-played-requires
+    slice-aggregate-play-indexed
+    play-indexed-requires
+    slice-aggregate-play-indexed-2
+    play-indexed-requires-2
     returns
-    returns-2)
+    returns-2
+    returns-3)

@@ -1,38 +1,36 @@
 -- `steps::do_updates` meets its contract: what is left is to be done from record n on. Assumes nothing.
 use mathlib.Core.Path.{_≡_, refl, sym, ap, _∙_}
-use Prim.Native.Nat.{ℕ, _-_, _≤_, _<_}
+use Prim.Native.Nat.{_-_, _≤_, _<_}
 use native.Mathlib.Omega.{arith}
 use borrow.Author.Needs.{needs}
 use denote.Ref.{now}
+use lib.ListN.{length}
 use Rattle.records.specs.Refusal.{fault}
 use Rattle.model.specs.Owned.{of}
-use Rattle.model.specs.Runs.{deed, deeds}
+use Rattle.model.specs.Runs.{deeds}
 use Rattle.model.specs.AutomataTable.{readAutomata}
-use Rattle.automata_files.specs.Places.{firstUpdate, firstReset, updateIn, updateAt}
+use Rattle.automata_files.specs.Places.{firstUpdate, firstReset, updateIn}
 use Rattle.automata_files.proofs.Readings.{most-edges}
 use Rattle.machines.specs.Worlds.{reasonOf, worldIn, worldAfter}
 use Rattle.automata.specs.Index.{ownerIn}
 use Rattle.automata.proofs.Chained.{Walk, walk-start, walk-at, walk-rises, walk-more, walk-ends, walk-done}
-use Rattle.automata.proofs.TableLaws.{few-records, updates-of, update-at}
+use Rattle.automata.proofs.TableLaws.{few-records, updates-of}
 use Rattle.automata.proofs.StepLaws.{doOn, do-fault, do-more, do-none}
 use Rattle.automata.proofs.steps.do_updates.Statement.{statement}
 use Rattle.automata.proofs.steps.do_updates.Tie as tie
 
 abbrev Inv-loop : tie.InvT-loop
-Inv-loop s shape first next e vars₀ events start raised₀ n₀ vars raised n =
+Inv-loop s shape first next e vars₀ events raised₀ n₀ vars raised n =
     Walk (doOn (readAutomata s .nodes) (readAutomata s .variables) (λ m. updateIn s m .1)) (λ q c. deeds (readAutomata s .nodes) (readAutomata s .variables) (of e (readAutomata s .updates)) (worldIn vars₀ events q c)) s (firstUpdate shape) (firstReset shape) e (worldIn vars raised) n
 
 abbrev μ-loop : tie.MeasureT-loop
-μ-loop s shape first next e vars₀ events start raised₀ n₀ vars raised n = 65536 - n
+μ-loop s shape first next e vars₀ events raised₀ n₀ vars raised n = 65536 - n
 
 few-edges : (c : tie.Start Inv-loop μ-loop) → c .args .e < 384
 few-edges c = omega (arith, c .pre .2, most-edges (now (c .args .s)) (c .args .shape) (c .pre .0 .shape))
 
 small : (c : tie.Start Inv-loop μ-loop) → firstReset (c .args .shape) ≤ 14536
 small c = let f = few-records (now (c .args .s)) (c .args .shape) (c .pre .0 .shape) in omega arith
-
-first-update-requires : tie.Need-first-update-requires Inv-loop μ-loop
-first-update-requires c κs = few-records (now (c .before .args .s)) (c .before .args .shape) (c .before .pre .0 .shape)
 
 add-n : tie.Need-add-n Inv-loop μ-loop
 add-n c = omega (arith, few-edges (c .before .before))
@@ -58,30 +56,8 @@ place : (c : tie.In-loop Inv-loop μ-loop) →
     (firstUpdate (x .shape) ≤ c .before .loop .n) × (c .before .loop .n < firstReset (x .shape)) × (ownerIn (now (x .s)) (c .before .loop .n) ≡ x .e)
 place c = let a = c .before .before .before .before .before in walk-at (a .pre .1 .updates) (small a) (c .before .loop .inv) (c .loop-test .taken)
 
-sub-do-update : tie.Need-sub-do-update Inv-loop μ-loop
-sub-do-update c = omega (arith, place c, c .before .before .before .first-update .ensures)
-
 do-update-requires : tie.Need-do-update-requires Inv-loop μ-loop
-do-update-requires c κs =
-    let i = c .before in
-    (i .before .before .before .before .before .pre .0, omega (arith, place i, i .before .before .before .first-update .ensures))
-
--- the deed is that of record n
-done-here : (c : tie.After-do-update Inv-loop μ-loop) (p q : ℕ) →
-    let i = c .before .before in
-    let s = now (i .before .before .before .before .before .args .s) in
-    let l = i .before .loop in
-    worldAfter (c .do-update .result) (c .do-update .last .1 .1 .1 .0) p q ≡ deed (readAutomata s .nodes) (readAutomata s .variables) (updateIn s (l .n) .1) (worldIn (l .vars) (l .raised) p q)
-done-here c p q =
-    let i = c .before .before in
-    let a = i .before .before .before .before .before in
-    let x = a .args in
-    let s = now (x .s) in
-    let l = i .before .loop in
-    c .do-update .ensures p q
-    ∙ ap (λ d. deed (readAutomata s .nodes) (readAutomata s .variables) d (worldIn (l .vars) (l .raised) p q))
-    (ap (λ k. updateAt s (x .shape) (l .n - k) .1) (i .before .before .before .first-update .ensures)
-    ∙ ap (λ u. u .1) (update-at s (x .shape) (a .pre .0) (l .n) (place i .0) (place i .1)))
+do-update-requires c κs = let p = place (c .before) in (c .before .before .before .before .before .before .pre .0, p .0, p .1)
 
 enum-known-w : tie.Need-enum-known-w Inv-loop μ-loop
 enum-known-w c = search needs
@@ -98,7 +74,7 @@ returns c = λ p q.
     (sym
     (walk-ends (a .pre .1 .updates) (small a) (l .inv) (i .loop-test .taken) (λ y z. fault w)
     (do-fault (readAutomata (now (x .s)) .nodes) (readAutomata (now (x .s)) .variables) (λ m. updateIn (now (x .s)) m .1) (l .n) (worldIn (l .vars) (l .raised)) w
-    (λ y z. ap (λ d. worldAfter d (j .do-update .last .1 .1 .1 .0) y z) (sym (c .before .w .given .1)) ∙ done-here j y z))))
+    (λ y z. ap (λ d. worldAfter d (j .do-update .last .1 .1 .1 .0) y z) (sym (c .before .w .given .1)) ∙ j .do-update .ensures y z))))
 
 enum-known-x : tie.Need-enum-known-x Inv-loop μ-loop
 enum-known-x c = search needs
@@ -106,14 +82,17 @@ enum-known-x c = search needs
 inside : (c : tie.After-known-told2 Inv-loop μ-loop) → c .before .before .before .before .before .before .loop .n < 14536
 inside c = let i = c .before .before .before .before .before in omega (arith, place i, small (i .before .before .before .before .before))
 
+in-index : (c : tie.After-known-told2 Inv-loop μ-loop) → c .before .before .before .before .before .before .loop .n < length (now (c .before .before .before .before .before .before .before .before .before .before .args .next))
+in-index c = let i = c .before .before .before .before .before in omega (arith, place i, i .before .before .before .before .before .pre .1 .places)
+
 cast-n-2 : tie.Need-cast-n-2 Inv-loop μ-loop
 cast-n-2 c = omega (arith, inside c)
 
 mul-n-2 : tie.Need-mul-n-2 Inv-loop μ-loop
 mul-n-2 c = omega (arith, inside c)
 
-element-copy-out-n-2 : tie.Need-element-copy-out-n-2 Inv-loop μ-loop
-element-copy-out-n-2 c = inside c
+shared-slice-read-n : tie.Need-shared-slice-read-n Inv-loop μ-loop
+shared-slice-read-n c = in-index (c .before)
 
 loop-less : tie.Need-loop-less Inv-loop μ-loop
 loop-less c =
@@ -130,7 +109,7 @@ loop-again c =
     let l = i .before .loop in
     walk-more (a .pre .1 .updates) (small a) (l .inv) (i .loop-test .taken) (worldIn (j .do-update .last .1 .1 .1 .0) (c .before .before .x .given .0 .0))
     (do-more (readAutomata (now (x .s)) .nodes) (readAutomata (now (x .s)) .variables) (λ m. updateIn (now (x .s)) m .1) (l .n) (worldIn (l .vars) (l .raised)) (worldIn (j .do-update .last .1 .1 .1 .0) (c .before .before .x .given .0 .0))
-    (λ y z. ap (λ d. worldAfter d (j .do-update .last .1 .1 .1 .0) y z) (sym (c .before .before .x .given .1)) ∙ done-here j y z))
+    (λ y z. ap (λ d. worldAfter d (j .do-update .last .1 .1 .1 .0) y z) (sym (c .before .before .x .given .1)) ∙ j .do-update .ensures y z))
 
 returns-2 : tie.Need-returns-2 Inv-loop μ-loop
 returns-2 c = λ p q.
@@ -145,20 +124,18 @@ do-updates-spec =
     (tie.spec
     Inv-loop
     μ-loop
-    first-update-requires
     add-n
     cast-n
     mul-n
     element-copy-out-n
     loop-holds
-    sub-do-update
     do-update-requires
     enum-known-w
     returns
     enum-known-x
     cast-n-2
     mul-n-2
-    element-copy-out-n-2
+    shared-slice-read-n
     loop-less
     loop-again
     returns-2)

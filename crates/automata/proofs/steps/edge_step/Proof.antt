@@ -6,7 +6,7 @@ use borrow.Author.Needs.{needs}
 use denote.Ref.{now}
 use Rattle.model.specs.AutomataTable.{readAutomata}
 use Rattle.automata_files.proofs.Readings.{most-automata}
-use Rattle.automata.specs.RunOf.{runOf}
+use Rattle.automata.specs.RunOf.{runIn}
 use Rattle.automata.specs.StepOf.{reasonOf, choiceOf, ChoiceIn}
 use Rattle.automata.proofs.StepLaws.{step-fault, step-takes}
 use Rattle.automata.proofs.steps.edge_step.Statement.{statement}
@@ -19,7 +19,7 @@ mul-location : tie.Need-mul-location
 mul-location c = search needs
 
 element-copy-out-location : tie.Need-element-copy-out-location
-element-copy-out-location c = few-automata (c .before)
+element-copy-out-location c = few-automata (c .before .before)
 
 open-edge-requires : tie.Need-open-edge-requires
 open-edge-requires c κs = search needs
@@ -29,27 +29,31 @@ enum-known-e c = search needs
 
 take-edge-requires : tie.Need-take-edge-requires
 take-edge-requires c κs =
-    let a = c .before .before .before .before .before .before .before .before .before .before in
-    (a .pre .0, a .pre .1 .0, few-automata a, subst (ChoiceIn (a .args .shape .edges)) (c .before .e .given .1) (c .before .before .before .open-edge .ensures .1))
+    let a = c .before .before .before .before .before .before .before .before .before .before .before .before in
+    (a .pre .0, a .pre .1 .0, few-automata a, subst (ChoiceIn (a .args .shape .edges)) (c .before .before .before .before .e .given .1) (c .before .before .before .before .before .before .open-edge .ensures .1))
 
 enum-known-w : tie.Need-enum-known-w
 enum-known-w c = search needs
 
 returns : tie.Need-returns
 returns c =
-    let x = c .before .before .before .before .before .before .before .before .before .before .before .args in (
-      c .take-edge .ensures .0
-          ∙ step-takes (readAutomata (now (x .s))) (x .automaton) (runOf (x .t6)) (c .before .before .e .given .0 .0)
-          (ap choiceOf (sym (c .before .before .e .given .1)) ∙ c .before .before .before .before .open-edge .ensures .0),
+    let x = c .before .before .before .before .before .before .before .before .before .before .before .before .before .args in
+    let e = c .before .before .before .before .before .e .given in (
+      λ p q.
+          c .take-edge .ensures .0 p q
+          ∙ step-takes (readAutomata (now (x .s))) (x .automaton) (runIn (now (x .locations)) (now (x .clocks)) (now (x .vars)) (x .events) p q) (e .0 .0)
+          (ap choiceOf (sym (e .1)) ∙ c .before .before .before .before .before .before .before .open-edge .ensures .0),
       c .take-edge .ensures .1,
     )
 
 returns-2 : tie.Need-returns-2
 returns-2 c =
-    let x = c .before .before .before .before .before .before .before .before .before .before .args in (
-      step-fault (readAutomata (now (x .s))) (x .automaton) (runOf (x .t6)) (reasonOf (c .before .w .given .0 .0))
-          (ap choiceOf (sym (c .before .w .given .1)) ∙ c .before .before .before .open-edge .ensures .0),
-      λ w e. refl,
+    let x = c .before .before .before .before .before .before .before .before .before .args in
+    let w = c .before .w .given in (
+      λ p q.
+          step-fault (readAutomata (now (x .s))) (x .automaton) (runIn (now (x .locations)) (now (x .clocks)) (now (x .vars)) (x .events) p q) (reasonOf (w .0 .0))
+          (ap choiceOf (sym (w .1)) ∙ c .before .before .before .open-edge .ensures .0),
+      refl,
     )
 
 pub edge-step-spec : {M : Type 1} → statement M

@@ -3,34 +3,32 @@ use mathlib.Core.Path.{_≡_, refl, sym, ap, _∙_}
 use Prim.Native.Nat.{_+_, _-_, _≤_, _<_}
 use native.Mathlib.Omega.{arith}
 use denote.Ref.{now}
+use lib.ListN.{length}
 use Rattle.model.specs.Owned.{of}
 use Rattle.model.specs.AutomataTable.{readAutomata}
 use Rattle.model.specs.Automata.{reset}
-use Rattle.automata_files.specs.Places.{firstReset, resetIn, resetAt}
+use Rattle.automata_files.specs.Places.{firstReset, resetIn}
 use Rattle.automata_files.proofs.Readings.{most-edges, most-clocks}
 use Rattle.automata.specs.Index.{ownerIn}
 use Rattle.automata.proofs.Chained.{Walk, walk-start, walk-at, walk-rises, walk-more, walk-done}
-use Rattle.automata.proofs.TableLaws.{few-records, resets-of, clock-in, reset-at}
+use Rattle.automata.proofs.TableLaws.{few-records, resets-of}
 use Rattle.automata.proofs.StepLaws.{resetOn, reset-one, reset-none}
 use borrow.Author.Needs.{needs}
 use Rattle.automata.proofs.steps.reset_clocks.Statement.{statement}
 use Rattle.automata.proofs.steps.reset_clocks.Tie as tie
 
 abbrev Inv-loop : tie.InvT-loop
-Inv-loop s shape first next e start left₀ n₀ left n =
-    Walk (resetOn (λ m. resetIn s m .1)) (reset (of e (readAutomata s .resets)) left₀) s (firstReset shape) (firstReset shape + shape .resets) e left n
+Inv-loop s shape first next e clocks₀ n₀ clocks n =
+    Walk (resetOn (λ m. resetIn s m .1)) (reset (of e (readAutomata s .resets)) clocks₀) s (firstReset shape) (firstReset shape + shape .resets) e clocks n
 
 abbrev μ-loop : tie.MeasureT-loop
-μ-loop s shape first next e start left₀ n₀ left n = 65536 - n
+μ-loop s shape first next e clocks₀ n₀ clocks n = 65536 - n
 
 few-edges : (c : tie.Start Inv-loop μ-loop) → c .args .e < 384
 few-edges c = omega (arith, c .pre .2, most-edges (now (c .args .s)) (c .args .shape) (c .pre .0 .shape))
 
 small : (c : tie.Start Inv-loop μ-loop) → firstReset (c .args .shape) + c .args .shape .resets ≤ 14536
 small c = few-records (now (c .args .s)) (c .args .shape) (c .pre .0 .shape)
-
-first-reset-requires : tie.Need-first-reset-requires Inv-loop μ-loop
-first-reset-requires c κs = few-records (now (c .before .args .s)) (c .before .args .shape) (c .before .pre .0 .shape)
 
 add-n : tie.Need-add-n Inv-loop μ-loop
 add-n c = omega (arith, few-edges (c .before .before))
@@ -48,44 +46,35 @@ loop-holds : tie.Need-loop-holds Inv-loop μ-loop
 loop-holds c =
     let a = c .before .before .before in
     let x = a .args in
-    walk-start (a .pre .1 .resets) (small a) (x .clocks) _ refl (few-edges a) (ap (λ ks. reset ks (x .clocks)) (resets-of (now (x .s)) (x .shape) (a .pre .0 .shape) (x .e)))
+    walk-start (a .pre .1 .resets) (small a) (now (x .clocks)) _ refl (few-edges a) (ap (λ ks. reset ks (now (x .clocks))) (resets-of (now (x .s)) (x .shape) (a .pre .0 .shape) (x .e)))
 
 place : (c : tie.In-loop Inv-loop μ-loop) →
     let x = c .before .before .before .before .before .args in
     (firstReset (x .shape) ≤ c .before .loop .n) × (c .before .loop .n < firstReset (x .shape) + x .shape .resets) × (ownerIn (now (x .s)) (c .before .loop .n) ≡ x .e)
 place c = let a = c .before .before .before .before .before in walk-at (a .pre .1 .resets) (small a) (c .before .loop .inv) (c .loop-test .taken)
 
-sub-reset-clock : tie.Need-sub-reset-clock Inv-loop μ-loop
-sub-reset-clock c = omega (arith, place c, c .before .before .before .first-reset .ensures)
+clock-of-requires : tie.Need-clock-of-requires Inv-loop μ-loop
+clock-of-requires c κs = (c .before .before .before .before .before .pre .0, place c .0, place c .1)
 
-reset-clock-requires : tie.Need-reset-clock-requires Inv-loop μ-loop
-reset-clock-requires c κs = search needs
-
-clock-here : (c : tie.After-reset-clock Inv-loop μ-loop) →
-    let x = c .before .before .before .before .before .before .args in
-    c .reset-clock .result ≡ resetAt (now (x .s)) (x .shape) (c .before .before .loop .n - firstReset (x .shape)) .1
-clock-here c =
-    let x = c .before .before .before .before .before .before .args in
-    c .reset-clock .ensures ∙ ap (λ k. resetAt (now (x .s)) (x .shape) (c .before .before .loop .n - k) .1) (c .before .before .before .before .first-reset .ensures)
-
-few-clocks : (c : tie.After-reset-clock Inv-loop μ-loop) → c .reset-clock .result < 256
+few-clocks : (c : tie.After-clock-of Inv-loop μ-loop) → c .clock-of .result < 256
 few-clocks c =
     let a = c .before .before .before .before .before .before in
-    let x = a .args in
-    let h = clock-here c in
-    omega (arith, h, clock-in (now (x .s)) (x .shape) (a .pre .0) (c .before .before .loop .n) (place (c .before) .0) (place (c .before) .1), most-clocks (now (x .s)) (x .shape) (a .pre .0 .shape))
+    omega (arith, c .clock-of .ensures .1, most-clocks (now (a .args .s)) (a .args .shape) (a .pre .0 .shape))
 
-inside : (c : tie.After-reset-clock Inv-loop μ-loop) → c .before .before .loop .n < 14536
+inside : (c : tie.After-clock-of Inv-loop μ-loop) → c .before .before .loop .n < 14536
 inside c = omega (arith, place (c .before), small (c .before .before .before .before .before .before))
 
 cast-k : tie.Need-cast-k Inv-loop μ-loop
 cast-k c = omega (arith, few-clocks c)
 
-mul-left : tie.Need-mul-left Inv-loop μ-loop
-mul-left c = omega (arith, few-clocks c)
+mul-clocks : tie.Need-mul-clocks Inv-loop μ-loop
+mul-clocks c = omega (arith, few-clocks c)
 
-array-write-left : tie.Need-array-write-left Inv-loop μ-loop
-array-write-left c = few-clocks c
+element-write-clocks : tie.Need-element-write-clocks Inv-loop μ-loop
+element-write-clocks c = few-clocks c
+
+in-index : (c : tie.After-clock-of Inv-loop μ-loop) → c .before .before .loop .n < length (now (c .before .before .before .before .before .before .args .next))
+in-index c = omega (arith, place (c .before), c .before .before .before .before .before .before .pre .1 .places)
 
 cast-n-2 : tie.Need-cast-n-2 Inv-loop μ-loop
 cast-n-2 c = omega (arith, inside c)
@@ -93,8 +82,8 @@ cast-n-2 c = omega (arith, inside c)
 mul-n-2 : tie.Need-mul-n-2 Inv-loop μ-loop
 mul-n-2 c = omega (arith, inside c)
 
-element-copy-out-n-2 : tie.Need-element-copy-out-n-2 Inv-loop μ-loop
-element-copy-out-n-2 c = inside c
+shared-slice-read-n : tie.Need-shared-slice-read-n Inv-loop μ-loop
+shared-slice-read-n c = in-index (c .before)
 
 loop-less : tie.Need-loop-less Inv-loop μ-loop
 loop-less c =
@@ -109,13 +98,12 @@ loop-again c =
     let x = a .args in
     let l = i .before .loop in
     walk-more (a .pre .1 .resets) (small a) (l .inv) (i .loop-test .taken) _
-    (reset-one (λ m. resetIn (now (x .s)) m .1) (l .n) (c .before .reset-clock .result) (l .left)
-    (clock-here (c .before) ∙ ap (λ r. r .1) (reset-at (now (x .s)) (x .shape) (a .pre .0) (l .n) (place i .0) (place i .1))))
+    (reset-one (λ m. resetIn (now (x .s)) m .1) (l .n) (c .before .clock-of .result) (l .clocks) (c .before .clock-of .ensures .0))
 
 returns : tie.Need-returns Inv-loop μ-loop
 returns c =
     let x = c .before .before .before .before .before .args in
-    sym (walk-done (c .before .loop .inv) (c .loop-test .left) ∙ reset-none (λ m. resetIn (now (x .s)) m .1) (c .before .loop .left))
+    sym (walk-done (c .before .loop .inv) (c .loop-test .left) ∙ reset-none (λ m. resetIn (now (x .s)) m .1) (c .before .loop .clocks))
 
 pub reset-clocks-spec : {M : Type 1} → statement M
 reset-clocks-spec =
@@ -123,20 +111,18 @@ reset-clocks-spec =
     (tie.spec
     Inv-loop
     μ-loop
-    first-reset-requires
     add-n
     cast-n
     mul-n
     element-copy-out-n
     loop-holds
-    sub-reset-clock
-    reset-clock-requires
+    clock-of-requires
     cast-k
-    mul-left
-    array-write-left
+    mul-clocks
+    element-write-clocks
     cast-n-2
     mul-n-2
-    element-copy-out-n-2
+    shared-slice-read-n
     loop-less
     loop-again
     returns)

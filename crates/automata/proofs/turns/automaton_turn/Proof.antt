@@ -1,18 +1,16 @@
--- `turns::automaton_turn` meets its contract: a step keeps the position, so that there is a next one. Assumes nothing.
+-- `turns::automaton_turn` meets its contract. Assumes nothing.
 use mathlib.Core.Path.{_≡_, sym, ap, _∙_}
 use Prim.Native.Nat.{_-_}
 use native.Mathlib.Omega.{arith}
 use borrow.Author.Needs.{needs}
 use denote.Ref.{now}
-use Rattle.records.specs.Refusal.{val, _>>=_}
 use Rattle.model.specs.Runs.{taken}
 use Rattle.model.specs.AutomataTable.{readAutomata}
-use Rattle.model.specs.Automata.{edgeStep, automata}
+use Rattle.model.specs.Automata.{automata}
 use Rattle.automata_files.proofs.Readings.{most-automata, length-initial}
-use Rattle.automata.specs.RunOf.{runOf}
-use Rattle.automata.specs.StepOf.{replyOf}
+use Rattle.automata.specs.RunOf.{runIn, runOf}
+use Rattle.automata.specs.StepOf.{wentOf}
 use Rattle.machines.proofs.Turning.{part-value, part-fault}
-use Rattle.automata.proofs.Turning.{automaton-place}
 use Rattle.automata.proofs.turns.automaton_turn.Statement.{statement}
 use Rattle.automata.proofs.turns.automaton_turn.Tie as tie
 
@@ -24,42 +22,38 @@ cast-automaton c = search needs
 
 edge-step-requires : tie.Need-edge-step-requires
 edge-step-requires c κs =
-    let b = c .before .before in
+    let b = c .before .before .before .before .before .before .before .before .before in
     let k = b .pre .0 in
     (k .accepted, (k .has-index, omega (arith, b .pre .1 .0 .begun, b .pre .1 .1)))
 
-enum-known-reply : tie.Need-enum-known-reply
-enum-known-reply c = search needs
+enum-known-e : tie.Need-enum-known-e
+enum-known-e c = search needs
 
-took : (c : tie.After-known-told) →
-    let b = c .before .before .before .before .before .before .before in
-    edgeStep (readAutomata (now (b .args .s))) (b .args .run .position - 1) (runOf (b .args .run))
-    ≡ val (taken (c .before .reply .given .0 .0), runOf (c .before .before .before .before .edge-step .result .run))
-took c =
-    let x = c .before .before .before .before .edge-step in
-    sym (x .ensures .0) ∙ ap (λ p. replyOf p >>= λ a. val (a, runOf (x .result .run))) (c .before .reply .given .1)
+add-t24 : tie.Need-add-t24
+add-t24 c =
+    let b = c .before .before .before .before .before .before .before .before .before .before .before .before .before .before in
+    omega (arith, b .pre .1 .1, most-automata (now (b .args .s)) (b .args .shape) (b .pre .0 .accepted .shape))
 
-moved-requires : tie.Need-moved-requires
-moved-requires c κs =
-    let b = c .before .before .before .before .before .before .before in
-    omega (arith, b .pre .1 .1, automaton-place (now (b .args .s)) (b .args .shape) (b .pre .0 .accepted) (runOf (b .args .run)) _ _ (took c), most-automata (now (b .args .s)) (b .args .shape) (b .pre .0 .accepted .shape))
-
-enum-known-reply-2 : tie.Need-enum-known-reply-2
-enum-known-reply-2 c = search needs
+enum-known-w : tie.Need-enum-known-w
+enum-known-w c = search needs
 
 returns : tie.Need-returns
 returns c =
-    let b = c .before .before .before .before .before .before .before .before in
-    ap (λ q. record { answer = val (taken (c .before .before .reply .given .0 .0)); lent = q }) (c .moved .ensures)
-    ∙ sym (part-value (automata (readAutomata (now (b .args .s)))) (b .args .shape .automata) (length-initial (now (b .args .s)) (b .args .shape) (b .pre .0 .accepted .shape)) (runOf (b .args .run)) (b .pre .1 .1) (runOf (b .args .lent)) _ _ (took (c .before)))
+    let b = c .before .before .before .before .before .before .before .before .before .before .before .before .before .before in
+    let r = b .args .run in
+    let x = c .before .before .before .before .edge-step in
+    let g = c .before .before .e .given in
+    sym (part-value (automata (readAutomata (now (b .args .s)))) (b .args .shape .automata) (length-initial (now (b .args .s)) (b .args .shape) (b .pre .0 .accepted .shape)) (runOf r) (b .pre .1 .1) (runOf (b .args .lent)) (taken (g .0 .0))
+    (runIn (x .last .1 .1 .1 .1 .1 .0) (x .last .1 .1 .1 .1 .1 .1 .0) (x .last .1 .1 .1 .1 .1 .1 .1 .0) (g .0 .1 .0) (r .position) (r .cycles))
+    (sym (x .ensures .0 (r .position) (r .cycles)) ∙ ap (λ w. wentOf w (x .last .1 .1 .1 .1 .1 .0) (x .last .1 .1 .1 .1 .1 .1 .0) (x .last .1 .1 .1 .1 .1 .1 .1 .0) (r .position) (r .cycles)) (g .1)))
 
 returns-2 : tie.Need-returns-2
 returns-2 c =
-    let x = c .before .before .before .before .edge-step in
-    let b = c .before .before .before .before .before .before .before in
-    sym
-    (part-fault (automata (readAutomata (now (b .args .s)))) (b .args .shape .automata) (length-initial (now (b .args .s)) (b .args .shape) (b .pre .0 .accepted .shape)) (runOf (b .args .run)) (b .pre .1 .1) (runOf (b .args .lent)) _
-    (sym (x .ensures .0) ∙ ap (λ p. replyOf p >>= λ a. val (a, runOf (x .result .run))) (c .before .reply2 .given .1)))
+    let b = c .before .before .before .before .before .before .before .before .before .before .before .before .before in
+    let r = b .args .run in
+    let x = c .before .before .before .edge-step in
+    sym (part-fault (automata (readAutomata (now (b .args .s)))) (b .args .shape .automata) (length-initial (now (b .args .s)) (b .args .shape) (b .pre .0 .accepted .shape)) (runOf r) (b .pre .1 .1) (runOf (b .args .lent)) _
+    (sym (x .ensures .0 (r .position) (r .cycles)) ∙ ap (λ w. wentOf w (x .last .1 .1 .1 .1 .1 .0) (x .last .1 .1 .1 .1 .1 .1 .0) (x .last .1 .1 .1 .1 .1 .1 .1 .0) (r .position) (r .cycles)) (c .before .w .given .1)))
 
 pub automaton-turn-spec : {M : Type 1} → statement M
 automaton-turn-spec =
@@ -68,8 +62,8 @@ automaton-turn-spec =
     sub-automaton
     cast-automaton
     edge-step-requires
-    enum-known-reply
-    moved-requires
-    enum-known-reply-2
+    enum-known-e
+    add-t24
+    enum-known-w
     returns
     returns-2)

@@ -1,162 +1,48 @@
--- `turns::cycle_taken` meets its contract. The invariant: the run is ready, and what is left of the cycle from it is the whole from the first one. Assumes
--- nothing.
-use mathlib.Core.Path.{_≡_, refl, sym, ap, _∙_}
-use Prim.Native.Nat.{_+_, _-_}
+-- `turns::cycle_taken` meets its contract. Assumes nothing.
+use mathlib.Core.Path.{_≡_, sym, ap, _∙_}
+use Prim.Native.Nat.{ℕ, _+_}
 use native.Mathlib.Omega.{arith}
 use borrow.Author.Needs.{needs}
-use denote.Ref.{now}
-use Rattle.records.specs.Refusal.{val, _>>=_}
+use lib.ListN.{length, length-replicate}
 use Rattle.model.specs.Outcome.{settled}
-use Rattle.model.specs.Runs.{stepped}
-use Rattle.model.specs.AutomataTable.{readAutomata}
-use Rattle.model.specs.Automata.{automata}
-use Rattle.automata_files.proofs.Readings.{length-initial}
-use Rattle.automata.specs.RunOf.{runOf}
-use Rattle.automata.specs.StepOf.{reasonOf}
-use Rattle.machines.specs.Turns.{after, finish}
-use Rattle.automata.specs.TurnOf.{refusalOf, answerOf, endingOf, Ready}
-use Rattle.machines.proofs.Turning.{unsettled, unsettle, WentOn, went-on, went-wrong, cycle-more, cycle-stop, cycle-end}
-use Rattle.automata.proofs.Turning.{ready-next}
+use Rattle.machines.specs.Turns.{finish}
+use Rattle.automata.specs.RunOf.{runIn, runOf}
+use Rattle.automata.specs.TurnOf.{cycledOf}
 use Rattle.automata.proofs.turns.cycle_taken.Statement.{statement}
 use Rattle.automata.proofs.turns.cycle_taken.Tie as tie
 
-abbrev Inv-loop : tie.InvT-loop
-Inv-loop s shape first next lent present₀ present =
-    Ready shape (runOf present)
-    × (after (automata (readAutomata s)) (shape .automata + 2 - present₀ .position) (runOf present₀)
-    ≡ after (automata (readAutomata s)) (shape .automata + 2 - present .position) (runOf present))
+-- the places that the clocks have by their type
+room : (c : tie.Start) → length (c .args .run .clocks) ≡ 256
+room c = search needs
 
-abbrev μ-loop : tie.MeasureT-loop
-μ-loop s shape first next lent present₀ present = shape .automata + 1 - present .position
+limits-of-requires : tie.Need-limits-of-requires
+limits-of-requires c κs = (c .before .before .before .before .pre .0 .accepted, (length-replicate {A = ℕ} 256 65535, length-replicate {A = ℕ} 256 65535))
 
-loop-holds : tie.Need-loop-holds Inv-loop μ-loop
-loop-holds c = (c .before .pre .1, refl)
+cycle-in-place-requires : tie.Need-cycle-in-place-requires
+cycle-in-place-requires c κs = let b = c .before .before .before .before .before .before .before .before .before .before .before .before .before in (b .pre .0, (b .pre .1, (room b, c .before .before .before .before .before .before .before .before .limits-of .ensures)))
 
-cast-if1 : tie.Need-cast-if1 Inv-loop μ-loop
-cast-if1 c = search needs
-
-automaton-turn-requires : tie.Need-automaton-turn-requires Inv-loop μ-loop
-automaton-turn-requires c κs = (c .before .before .before .before .before .pre .0, (c .before .before .before .loop .inv .0, c .if1 .taken))
-
--- the turn of the present run, from its answer
-stepping : (c : tie.After-automaton-turn Inv-loop μ-loop) →
-    let b = c .before .before .before .before .before .before in
-    stepped (automata (readAutomata (now (b .args .s)))) (runOf (c .before .before .before .before .loop .present))
-    ≡ (answerOf (c .automaton-turn .result .answer) >>= λ x. val (x, runOf (c .automaton-turn .result .run)))
-stepping c =
-    let b = c .before .before .before .before .before .before in
-    sym (unsettle (runOf (b .args .lent)) (stepped (automata (readAutomata (now (b .args .s)))) (runOf (c .before .before .before .before .loop .present))))
-    ∙ ap unsettled (sym (c .automaton-turn .ensures))
-
-ending-of-requires : tie.Need-ending-of-requires Inv-loop μ-loop
-ending-of-requires c κs = tt
-
-enum-told : tie.Need-enum-told Inv-loop μ-loop
+enum-told : tie.Need-enum-told
 enum-told c = search needs
 
-went : (c : tie.After-enum-told Inv-loop μ-loop) →
-    let t = c .before .before .before in
-    let b = t .before .before .before .before .before .before in
-    WentOn (stepped (automata (readAutomata (now (b .args .s)))) (runOf (t .before .before .before .before .loop .present))) (runOf (t .automaton-turn .result .run))
-went c =
-    let t = c .before .before .before in
-    let b = t .before .before .before .before .before .before in
-    went-on (answerOf (t .automaton-turn .result .answer)) (runOf (t .automaton-turn .result .run))
-    (stepped (automata (readAutomata (now (b .args .s)))) (runOf (t .before .before .before .before .loop .present)))
-    (sym (ap endingOf (c .enum-told .given .1)) ∙ c .before .before .ending-of .ensures) (stepping t)
+add-t27 : tie.Need-add-t27
+add-t27 c = omega (arith, c .before .before .before .before .before .before .before .before .before .before .before .before .before .before .before .before .before .pre .1 .unfinished)
 
-next-ready : (c : tie.After-enum-told Inv-loop μ-loop) →
-    let t = c .before .before .before in
-    let b = t .before .before .before .before .before .before in
-    Ready (b .args .shape) (runOf (t .automaton-turn .result .run)) × (t .automaton-turn .result .run .position ≡ t .before .before .before .before .loop .present .position + 1)
-next-ready c =
-    let t = c .before .before .before in
-    let b = t .before .before .before .before .before .before in
-    let l = t .before .before .before .before .loop in
-    ready-next (now (b .args .s)) (b .args .shape) (b .pre .0 .accepted) (runOf (l .present)) (went c .answer, runOf (t .automaton-turn .result .run)) (l .inv .0) (t .before .if1 .taken) (went c .is)
-
-loop-less : tie.Need-loop-less Inv-loop μ-loop
-loop-less c =
-    let t = c .before .before .before .before in
-    let n = next-ready (c .before) .1 in
-    let h = t .before .if1 .taken in
-    omega (arith, n, h)
-
-loop-again : tie.Need-loop-again Inv-loop μ-loop
-loop-again c =
-    let t = c .before .before .before .before in
-    let b = t .before .before .before .before .before .before in
-    let l = t .before .before .before .before .loop in
-    let n = next-ready (c .before) in (
-      n .0,
-      l .inv .1
-          ∙ cycle-more (automata (readAutomata (now (b .args .s)))) (b .args .shape .automata) (length-initial (now (b .args .s)) (b .args .shape) (b .pre .0 .accepted .shape)) (runOf (l .present)) (went (c .before) .answer) (runOf (t .automaton-turn .result .run)) (t .before .if1 .taken) (n .1) (went (c .before) .is),
-    )
-
-enum-known-w : tie.Need-enum-known-w Inv-loop μ-loop
+enum-known-w : tie.Need-enum-known-w
 enum-known-w c = search needs
 
-returns : tie.Need-returns Inv-loop μ-loop
+returns : tie.Need-returns
 returns c =
-    let t = c .before .before .before .before in
-    let b = t .before .before .before .before .before .before in
-    let l = t .before .before .before .before .loop in
-    let x = reasonOf (c .before .w .given .0 .0) in
-    let wrong = went-wrong (answerOf (t .automaton-turn .result .answer)) (runOf (t .automaton-turn .result .run))
-    (stepped (automata (readAutomata (now (b .args .s)))) (runOf (l .present))) x
-    (sym (ap endingOf (c .before .w .given .1)) ∙ c .before .before .before .ending-of .ensures) (stepping t) in
-    sym
-    (ap (λ o. settled (runOf (b .args .lent)) (finish o))
-    (l .inv .1 ∙ cycle-stop (automata (readAutomata (now (b .args .s)))) (b .args .shape .automata) (length-initial (now (b .args .s)) (b .args .shape) (b .pre .0 .accepted .shape)) (runOf (l .present)) x (t .before .if1 .taken) wrong))
+    let b = c .before .before .before .before .before .before .before .before .before .before .before .before .before .before .before .before .before in
+    let x = c .before .before .before .cycle-in-place in
+    let q = runIn (x .last .1 .1 .1 .1 .1 .1 .0) (x .last .1 .1 .1 .1 .1 .1 .1 .0) (x .last .1 .1 .1 .1 .1 .1 .1 .1 .0) 0 1 (b .args .run .cycles + 1) in
+    sym (ap (λ o. settled (runOf (b .args .lent)) (finish o)) (sym (x .ensures .0) ∙ ap (λ k. cycledOf k q) (c .before .enum-told .given .1)))
 
-enum-known-w-2 : tie.Need-enum-known-w-2 Inv-loop μ-loop
-enum-known-w-2 c = search needs
-
-returns-2 : tie.Need-returns-2 Inv-loop μ-loop
+returns-2 : tie.Need-returns-2
 returns-2 c =
-    let t = c .before .before .before .before in
-    let b = t .before .before .before .before .before .before in
-    let l = t .before .before .before .before .loop in
-    let x = refusalOf (c .before .w2 .given .0 .0) in
-    let wrong = went-wrong (answerOf (t .automaton-turn .result .answer)) (runOf (t .automaton-turn .result .run))
-    (stepped (automata (readAutomata (now (b .args .s)))) (runOf (l .present))) x
-    (sym (ap endingOf (c .before .w2 .given .1)) ∙ c .before .before .before .ending-of .ensures) (stepping t) in
-    sym
-    (ap (λ o. settled (runOf (b .args .lent)) (finish o))
-    (l .inv .1 ∙ cycle-stop (automata (readAutomata (now (b .args .s)))) (b .args .shape .automata) (length-initial (now (b .args .s)) (b .args .shape) (b .pre .0 .accepted .shape)) (runOf (l .present)) x (t .before .if1 .taken) wrong))
-
-time-passed-requires : tie.Need-time-passed-requires Inv-loop μ-loop
-time-passed-requires c κs =
-    let b = c .before .before .before .before .before in
-    (b .pre .0 .accepted, (let r = c .before .before .before .loop .inv .0 in (r .unfinished, r .timers)))
-
-returns-3 : tie.Need-returns-3 Inv-loop μ-loop
-returns-3 c =
-    let b = c .before .before .before .before .before .before in
-    let l = c .before .before .before .before .loop in
-    let s = now (b .args .s) in
-    let sh = b .args .shape in
-    let is = b .pre .0 .accepted .shape in
-    let last : l .present .position ≡ sh .automata + 1 = omega (arith, l .inv .0 .within, c .before .if1 .left) in
-    ap (λ q. record { answer = val tt; lent = q }) (c .time-passed .ensures)
-    ∙ sym (ap (λ o. settled (runOf (b .args .lent)) (finish o)) (l .inv .1 ∙ cycle-end (automata (readAutomata s)) (sh .automata) (length-initial s sh is) (runOf (l .present)) last))
+    let b = c .before .before .before .before .before .before .before .before .before .before .before .before .before .before .before .before .before in
+    let x = c .before .before .before .cycle-in-place in
+    let q = runIn (x .last .1 .1 .1 .1 .1 .1 .0) (x .last .1 .1 .1 .1 .1 .1 .1 .0) (x .last .1 .1 .1 .1 .1 .1 .1 .1 .0) 0 1 (b .args .run .cycles + 1) in
+    sym (ap (λ o. settled (runOf (b .args .lent)) (finish o)) (sym (x .ensures .0) ∙ ap (λ k. cycledOf k q) (c .before .w .given .1)))
 
 pub cycle-taken-spec : {M : Type 1} → statement M
-cycle-taken-spec =
-    tie.close
-    (tie.spec
-    Inv-loop
-    μ-loop
-    loop-holds
-    cast-if1
-    automaton-turn-requires
-    ending-of-requires
-    enum-told
-    loop-less
-    loop-again
-    enum-known-w
-    returns
-    enum-known-w-2
-    returns-2
-    time-passed-requires
-    returns-3)
+cycle-taken-spec = tie.close (tie.spec limits-of-requires cycle-in-place-requires enum-told add-t27 enum-known-w returns returns-2)

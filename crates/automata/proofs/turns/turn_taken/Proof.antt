@@ -22,7 +22,7 @@ automaton-turn-requires c κs = search needs
 
 time-passed-requires : tie.Need-time-passed-requires
 time-passed-requires c κs =
-    let b = c .before .before .before .before in
+    let b = c .before .before .before .before .before in
     (b .pre .0 .accepted, (b .pre .1 .unfinished, b .pre .1 .timers))
 
 returns : tie.Need-returns
@@ -30,7 +30,7 @@ returns c = search needs
 
 returns-2 : tie.Need-returns-2
 returns-2 c =
-    let b = c .before .before .before .before .before in
+    let b = c .before .before .before .before .before .before in
     let s = now (b .args .s) in
     let is = b .pre .0 .accepted .shape in
     ap (λ q. record { answer = val time; lent = q }) (c .time-passed .ensures)

@@ -1,4 +1,4 @@
--- `turns::cycle` meets its contract: what the checks let pass is ready. Assumes nothing.
+-- `turns::cycle_of` meets its contract: what the checks let pass is ready. Assumes nothing.
 use mathlib.Core.Path.{_≡_, sym, ap, _∙_, subst}
 use borrow.Author.Needs.{needs}
 use denote.Ref.{now}
@@ -13,11 +13,11 @@ use Rattle.automata.specs.TurnOf.{endingOf, Ready}
 use Rattle.automata_files.proofs.Readings.{length-initial}
 use Rattle.machines.proofs.Turning.{cycle-refused, cycle-given}
 use Rattle.automata.proofs.Turning.{ready}
-use Rattle.automata.proofs.turns.cycle.Statement.{statement}
-use Rattle.automata.proofs.turns.cycle.Tie as tie
+use Rattle.automata.proofs.turns.cycle_of.Statement.{statement}
+use Rattle.automata.proofs.turns.cycle_of.Tie as tie
 
 before-turn-requires : tie.Need-before-turn-requires
-before-turn-requires c κs = c .before .pre .accepted .shape
+before-turn-requires c κs = c .before .before .pre .accepted .shape
 
 enum-told : tie.Need-enum-told
 enum-told c = search needs
@@ -44,18 +44,18 @@ give-requires : tie.Need-give-requires
 give-requires c κs = search needs
 
 passed : (c : tie.After-enum-told4) →
-    let b = c .before .before .before .before in
+    let b = c .before .before .before .before .before in
     checked (automata (readAutomata (now (b .args .s)))) (b .args .events) (runOf (b .args .run)) ≡ val tt
 passed c = sym (c .before .before .before-turn .ensures) ∙ ap beforeOf (c .enum-told4 .given .1)
 
 cycle-taken-requires : tie.Need-cycle-taken-requires
 cycle-taken-requires c κs =
-    let b = c .before .before .before .before .before in
+    let b = c .before .before .before .before .before .before in
     (b .pre, subst (Ready (b .args .shape)) (sym (c .give .ensures)) (ready (now (b .args .s)) (b .args .shape) (b .pre .accepted) (b .args .events) (runOf (b .args .run)) (passed (c .before))))
 
 returns : tie.Need-returns
 returns c =
-    let b = c .before .before .before .before .before in
+    let b = c .before .before .before .before .before .before in
     (λ i. record { answer = endingOf (c .undone .ensures .0 i); lent = runOf (c .undone .ensures .1 i) })
     ∙ sym
     (ap (settled (runOf (b .args .run)))
@@ -64,7 +64,7 @@ returns c =
 
 returns-2 : tie.Need-returns-2
 returns-2 c =
-    let b = c .before .before .before .before .before in
+    let b = c .before .before .before .before .before .before in
     (λ i. record { answer = endingOf (c .undone2 .ensures .0 i); lent = runOf (c .undone2 .ensures .1 i) })
     ∙ sym
     (ap (settled (runOf (b .args .run)))
@@ -73,7 +73,7 @@ returns-2 c =
 
 returns-3 : tie.Need-returns-3
 returns-3 c =
-    let b = c .before .before .before .before .before in
+    let b = c .before .before .before .before .before .before in
     (λ i. record { answer = endingOf (c .undone3 .ensures .0 i); lent = runOf (c .undone3 .ensures .1 i) })
     ∙ sym
     (ap (settled (runOf (b .args .run)))
@@ -82,14 +82,14 @@ returns-3 c =
 
 returns-4 : tie.Need-returns-4
 returns-4 c =
-    let b = c .before .before .before .before .before .before in
+    let b = c .before .before .before .before .before .before .before in
     c .cycle-taken .ensures
     ∙ sym
     (ap (settled (runOf (b .args .run)))
     (cycle-given (automata (readAutomata (now (b .args .s)))) (b .args .shape .automata) (length-initial (now (b .args .s)) (b .args .shape) (b .pre .accepted .shape)) (b .args .events) (runOf (b .args .run)) (runOf (c .before .give .result)) (passed (c .before .before)) (c .before .give .ensures)))
 
-pub cycle-spec : {M : Type 1} → statement M
-cycle-spec =
+pub cycle-of-spec : {M : Type 1} → statement M
+cycle-of-spec =
     tie.close
     (tie.spec
     before-turn-requires

@@ -1,4 +1,4 @@
--- `turns::turn` meets its contract: what the checks let pass is ready. Assumes nothing.
+-- `turns::turn_of` meets its contract: what the checks let pass is ready. Assumes nothing.
 use mathlib.Core.Path.{_≡_, sym, ap, _∙_, subst}
 use borrow.Author.Needs.{needs}
 use denote.Ref.{now}
@@ -12,11 +12,11 @@ use Rattle.automata.specs.RunOf.{runOf}
 use Rattle.automata.specs.TurnOf.{answerOf, Ready}
 use Rattle.machines.proofs.Turning.{turn-refused, turn-fine}
 use Rattle.automata.proofs.Turning.{ready}
-use Rattle.automata.proofs.turns.turn.Statement.{statement}
-use Rattle.automata.proofs.turns.turn.Tie as tie
+use Rattle.automata.proofs.turns.turn_of.Statement.{statement}
+use Rattle.automata.proofs.turns.turn_of.Tie as tie
 
 before-turn-requires : tie.Need-before-turn-requires
-before-turn-requires c κs = c .before .pre .accepted .shape
+before-turn-requires c κs = c .before .before .pre .accepted .shape
 
 enum-told : tie.Need-enum-told
 enum-told c = search needs
@@ -43,18 +43,18 @@ give-requires : tie.Need-give-requires
 give-requires c κs = search needs
 
 passed : (c : tie.After-enum-told4) →
-    let b = c .before .before .before .before in
+    let b = c .before .before .before .before .before in
     checked (automata (readAutomata (now (b .args .s)))) (b .args .events) (runOf (b .args .run)) ≡ val tt
 passed c = sym (c .before .before .before-turn .ensures) ∙ ap beforeOf (c .enum-told4 .given .1)
 
 turn-taken-requires : tie.Need-turn-taken-requires
 turn-taken-requires c κs =
-    let b = c .before .before .before .before .before in
+    let b = c .before .before .before .before .before .before in
     (b .pre, subst (Ready (b .args .shape)) (sym (c .give .ensures)) (ready (now (b .args .s)) (b .args .shape) (b .pre .accepted) (b .args .events) (runOf (b .args .run)) (passed (c .before))))
 
 returns : tie.Need-returns
 returns c =
-    let b = c .before .before .before .before .before in
+    let b = c .before .before .before .before .before .before in
     (λ i. record { answer = answerOf (c .unready .ensures .0 i); lent = runOf (c .unready .ensures .1 i) })
     ∙ sym
     (ap (settled (runOf (b .args .run)))
@@ -63,7 +63,7 @@ returns c =
 
 returns-2 : tie.Need-returns-2
 returns-2 c =
-    let b = c .before .before .before .before .before in
+    let b = c .before .before .before .before .before .before in
     (λ i. record { answer = answerOf (c .unready2 .ensures .0 i); lent = runOf (c .unready2 .ensures .1 i) })
     ∙ sym
     (ap (settled (runOf (b .args .run)))
@@ -72,7 +72,7 @@ returns-2 c =
 
 returns-3 : tie.Need-returns-3
 returns-3 c =
-    let b = c .before .before .before .before .before in
+    let b = c .before .before .before .before .before .before in
     (λ i. record { answer = answerOf (c .unready3 .ensures .0 i); lent = runOf (c .unready3 .ensures .1 i) })
     ∙ sym
     (ap (settled (runOf (b .args .run)))
@@ -81,14 +81,14 @@ returns-3 c =
 
 returns-4 : tie.Need-returns-4
 returns-4 c =
-    let b = c .before .before .before .before .before .before in
+    let b = c .before .before .before .before .before .before .before in
     let m = automata (readAutomata (now (b .args .s))) in
     c .turn-taken .ensures
     ∙ ap (λ q. settled (runOf (b .args .run)) (stepped m q)) (c .before .give .ensures)
     ∙ sym (ap (settled (runOf (b .args .run))) (turn-fine m (b .args .events) (runOf (b .args .run)) (passed (c .before .before))))
 
-pub turn-spec : {M : Type 1} → statement M
-turn-spec =
+pub turn-of-spec : {M : Type 1} → statement M
+turn-of-spec =
     tie.close
     (tie.spec
     before-turn-requires

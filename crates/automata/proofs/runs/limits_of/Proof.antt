@@ -1,0 +1,127 @@
+-- `runs::limits_of` meets its contract: the invariant is that the limits of the clocks before k are there. Assumes nothing.
+use mathlib.Core.Path.{_≡_, ap, _∙_, subst}
+use mathlib.Core.Bool.{cond}
+use mathlib.Core.List.{List}
+use Prim.Native.Nat.{ℕ, _-_, _≤_}
+use native.Mathlib.Omega.{arith}
+use borrow.Author.Needs.{needs}
+use borrow.Author.Tests.{lt-ltb}
+use denote.Ref.{now}
+use lib.ListN.{getD}
+use Rattle.automata_files.specs.declared.Shape.{Shape}
+use Rattle.automata_files.specs.Places.{clockAt}
+use Rattle.automata_files.proofs.Readings.{most-clocks}
+use Rattle.automata_files.proofs.Sound.{ticks-known}
+use Rattle.machines.proofs.Filled.{Filled, filled-none, filled-more}
+use Rattle.automata.specs.RunOf.{turnFor, capFor}
+use Rattle.automata.proofs.runs.limits_of.Statement.{statement}
+use Rattle.automata.proofs.runs.limits_of.Tie as tie
+
+abbrev turns : List ℕ → Shape → ℕ → ℕ
+turns s sh k = turnFor (clockAt s sh k .timing) (clockAt s sh k .ticks)
+
+abbrev caps : List ℕ → Shape → ℕ → ℕ
+caps s sh k = capFor (clockAt s sh k .timing) (clockAt s sh k .ticks)
+
+abbrev Inv-loop : tie.InvT-loop
+Inv-loop s shape turn₀ cap₀ k₀ turn cap k = (k ≤ shape .clocks) × Filled (turns s shape) 0 turn₀ turn k × Filled (caps s shape) 0 cap₀ cap k
+
+abbrev μ-loop : tie.MeasureT-loop
+μ-loop s shape turn₀ cap₀ k₀ turn cap k = shape .clocks - k
+
+loop-holds : tie.Need-loop-holds Inv-loop μ-loop
+loop-holds c =
+    let a = c .before .args in
+    (omega arith, filled-none (turns (now (a .s)) (a .shape)) 0 (now (a .turn)), filled-none (caps (now (a .s)) (a .shape)) 0 (now (a .cap)))
+
+cast-i : tie.Need-cast-i Inv-loop μ-loop
+cast-i c = search needs
+
+timing-of-requires : tie.Need-timing-of-requires Inv-loop μ-loop
+timing-of-requires c κs = search needs
+
+ticks-of-requires : tie.Need-ticks-of-requires Inv-loop μ-loop
+ticks-of-requires c κs = search needs
+
+-- a place of the array
+few : (c : tie.Then1 Inv-loop μ-loop) → c .before .before .loop .k ≤ 255
+few c =
+    let b = c .before .before .before .before in
+    omega (arith, c .if1 .taken, most-clocks (now (b .args .s)) (b .args .shape) (b .pre .0 .shape))
+
+turn-for-requires : tie.Need-turn-for-requires Inv-loop μ-loop
+turn-for-requires c κs = search needs
+
+mul-turn : tie.Need-mul-turn Inv-loop μ-loop
+mul-turn c = omega (arith, few (c .before .before .before))
+
+element-write-turn : tie.Need-element-write-turn Inv-loop μ-loop
+element-write-turn c = omega (arith, few (c .before .before .before))
+
+timing-of-requires-2 : tie.Need-timing-of-requires-2 Inv-loop μ-loop
+timing-of-requires-2 c κs = search needs
+
+ticks-of-requires-2 : tie.Need-ticks-of-requires-2 Inv-loop μ-loop
+ticks-of-requires-2 c κs = search needs
+
+cap-for-requires : tie.Need-cap-for-requires Inv-loop μ-loop
+cap-for-requires c κs =
+    let b = c .before .before .before .before .before .before .before .before .before in
+    omega (arith, c .ticks-of2 .ensures, ticks-known (now (b .args .s)) (b .args .shape) (b .pre .0 .shape) (b .pre .0 .unrefused) (c .before .before .before .before .before .before .before .loop .k) (c .before .before .before .before .before .if1 .taken) .1)
+
+mul-cap : tie.Need-mul-cap Inv-loop μ-loop
+mul-cap c = omega (arith, few (c .before .before .before .before .before .before))
+
+element-write-cap : tie.Need-element-write-cap Inv-loop μ-loop
+element-write-cap c = omega (arith, few (c .before .before .before .before .before .before))
+
+add-k : tie.Need-add-k Inv-loop μ-loop
+add-k c = omega (arith, few (c .before .before .before .before .before .before))
+
+loop-less : tie.Need-loop-less Inv-loop μ-loop
+loop-less c = omega (arith, c .before .before .before .before .before .before .if1 .taken)
+
+loop-again : tie.Need-loop-again Inv-loop μ-loop
+loop-again c =
+    let b = c .before .before .before .before .before .before .before .before .before .before in
+    let a = b .args in
+    let l = c .before .before .before .before .before .before .before .before .loop in (
+      omega (arith, c .before .before .before .before .before .before .if1 .taken),
+      filled-more (turns (now (a .s)) (a .shape)) 0 (now (a .turn)) (l .turn) (l .k) _
+          (c .before .before .before .turn-for .ensures ∙ (λ i. turnFor (c .before .before .before .before .before .timing-of .ensures i) (c .before .before .before .before .ticks-of .ensures i))) (l .inv .1) (omega (arith, few (c .before .before .before .before .before .before), b .pre .1 .0)),
+      filled-more (caps (now (a .s)) (a .shape)) 0 (now (a .cap)) (l .cap) (l .k) _
+          (c .cap-for .ensures ∙ (λ i. capFor (c .before .before .timing-of2 .ensures i) (c .before .ticks-of2 .ensures i))) (l .inv .2) (omega (arith, few (c .before .before .before .before .before .before), b .pre .1 .1)),
+    )
+
+returns : tie.Need-returns Inv-loop μ-loop
+returns c =
+    let a = c .before .before .before .before .args in
+    let l = c .before .before .loop in
+    let end : l .k ≡ a .shape .clocks = omega (arith, l .inv .0, c .if1 .left) in
+    record {
+      turns = λ k h. l .inv .1 .1 k ∙ ap (λ t. cond t (turns (now (a .s)) (a .shape) k) (getD (now (a .turn)) k 0)) (lt-ltb k (l .k) (omega (arith, h, end)));
+      caps = λ k h. l .inv .2 .1 k ∙ ap (λ t. cond t (caps (now (a .s)) (a .shape) k) (getD (now (a .cap)) k 0)) (lt-ltb k (l .k) (omega (arith, h, end)));
+    }
+
+pub limits-of-spec : {M : Type 1} → statement M
+limits-of-spec =
+    tie.close
+    (tie.spec
+    Inv-loop
+    μ-loop
+    loop-holds
+    cast-i
+    timing-of-requires
+    ticks-of-requires
+    turn-for-requires
+    mul-turn
+    element-write-turn
+    timing-of-requires-2
+    ticks-of-requires-2
+    cap-for-requires
+    mul-cap
+    element-write-cap
+    add-k
+    loop-less
+    loop-again
+    returns)
