@@ -15,11 +15,11 @@ use Rattle.model.specs.Translation.{twin}
 use Rattle.model.specs.PathBack as M
 use Rattle.model.specs.PathBack.{timeMark, timeFits, edgeFits, stepFits, walked}
 use Rattle.chart_files.specs.declared.Shape.{Shape}
-use Rattle.chart_files.proofs.Readings.{length-initial}
+use Rattle.chart_files.proofs.Readings.{length-initial, most-charts, most-states, most-transitions}
 use Rattle.charts.specs.Accepted.{Accepted}
 use Rattle.paths.specs.declared.Edge.{Edge}
 use Rattle.paths.specs.declared.Walk.{Walk}
-use Rattle.paths.specs.LedOf.{walkOf, IsEdge}
+use Rattle.paths.specs.LedOf.{walkOf, IsEdge, HasEdges}
 use Rattle.paths.proofs.Edges.{count-is}
 
 module _ (s : List ℕ) (sh : Shape) (ok : Accepted s sh) (e : ℕ) (w : Walk) where
@@ -96,3 +96,15 @@ module _ (s : List ℕ) (sh : Shape) (ok : Accepted s sh) (e : ℕ) (w : Walk) w
   -- a step that fits, and is not time's, names an edge of the automaton whose turn it is
   pub fits-edge : (e ≡ 65535 → ⊥) → stepFits (readCharts s) e here ≡ true → (e < sh .transitions + sh .states) × (edge (twin (readCharts s)) e .automaton + 1 ≡ w .position)
   fits-edge n t = fitting (sym (step-edge (in-time t) n) ∙ t)
+
+-- ---- edges in arrays
+
+module _ (s : List ℕ) (sh : Shape) (ok : Accepted s sh) (automata sources targets : List ℕ) (has : HasEdges s sh automata sources targets) (e : ℕ) (h : e < sh .transitions + sh .states) where
+  abbrev pub held : Edge
+  held = record { automaton = getD automata e 0; source = getD sources e 0; target = getD targets e 0 }
+
+  pub edge-room : e < 384
+  edge-room = omega (arith, h, most-transitions s sh (ok .shape), most-states s sh (ok .shape))
+
+  pub few-automata : getD automata e 0 < 8
+  few-automata = omega (arith, has e h .known, most-charts s sh (ok .shape))

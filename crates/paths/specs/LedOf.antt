@@ -2,15 +2,16 @@
 use mathlib.Core.Path.{_≡_}
 use mathlib.Core.Bool.{true, cond}
 use mathlib.Core.List.{List, [], _∷_}
-use Prim.Native.Nat.{ℕ, _-_, _*_, _≤_, _<_}
+use Prim.Native.Nat.{ℕ, _+_, _-_, _*_, _≤_, _<_}
 use lib.Dec.{ltb}
-use lib.ListN.{length, take}
+use lib.ListN.{length, getD, take}
 use Rattle.records.specs.Refusal.{broken-path, short-rows, Out, val, fault, _>>=_}
 use Rattle.model.specs.Outcome.{Outcome, settled}
 use Rattle.model.specs.ChartSet.{ChartSet, readCharts}
 use Rattle.model.specs.AutomataTable.{edge}
 use Rattle.model.specs.Translation.{twin}
 use Rattle.model.specs.PathBack as M
+use Rattle.chart_files.specs.declared.Shape.{Shape}
 use Rattle.chart_files.specs.Shape.{refusalFor}
 use Rattle.paths.specs.declared.Edge.{Edge}
 use Rattle.paths.specs.declared.Walk.{Walk}
@@ -28,6 +29,11 @@ pub record IsEdge (s : List ℕ) (charts e : ℕ) (x : Edge) : Type 0 where
   pub automaton : x .automaton ≡ edge (twin (readCharts s)) e .automaton
   pub source : x .source ≡ edge (twin (readCharts s)) e .source
   pub target : x .target ≡ edge (twin (readCharts s)) e .target
+
+-- arrays that hold each edge
+abbrev pub HasEdges : List ℕ → Shape → List ℕ → List ℕ → List ℕ → Type 0
+HasEdges s sh automata sources targets =
+    (e : ℕ) → e < sh .transitions + sh .states → IsEdge s (sh .charts) e (record { automaton = getD automata e 0; source = getD sources e 0; target = getD targets e 0 })
 
 abbrev pub countOf : declared-count.Count → Out ℕ
 countOf (declared-count.the-variants.Rows n) = val n

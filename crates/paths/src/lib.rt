@@ -10,7 +10,7 @@ ghost use Rattle.model.specs.ChartSet.{readCharts};
 ghost use Rattle.model.specs.PathBack.{walkStart, edgeFits, stepFits, walked as walkedOn, ledBack, rowWords, pathBack};
 ghost use Rattle.charts.specs.Accepted.{Accepted};
 ghost use Rattle.paths.specs.Along.{rowsAlong};
-ghost use Rattle.paths.specs.LedOf.{walkOf, IsEdge, countOf, counted, Writable, stepWords, ledOf, led};
+ghost use Rattle.paths.specs.LedOf.{walkOf, IsEdge, HasEdges, countOf, counted, Writable, stepWords, ledOf, led};
 use chart_files::Checked;
 use chart_files::Shape;
 use chart_files::check;
@@ -23,6 +23,13 @@ pub struct Edge {
     pub automaton: u8,
     pub source: u16,
     pub target: u16,
+}
+
+// Of each edge its automaton and its ends, made once for a path.
+pub struct EdgeTable {
+    pub automata: [u8; 384],
+    pub sources: [u16; 384],
+    pub targets: [u16; 384],
 }
 
 // Where a path stands.
@@ -71,6 +78,29 @@ fn edge_of(s: &[u8], shape: Shape, e: u16) -> Edge
     }
 }
 
+fn edges_of(s: &[u8], shape: Shape) -> EdgeTable
+    requires { ⌜ Accepted (now s) shape ⌝ }
+    ensures { λ r. ⌜ HasEdges (now (s .entry)) shape (r .automata) (r .sources) (r .targets) ⌝ }
+{
+    let mut automata = [0u8; 384];
+    let mut sources = [0u16; 384];
+    let mut targets = [0u16; 384];
+    let mut e: u16 = 0;
+    while e < shape.transitions + shape.states {
+        let edge = edge_of(s, shape, e);
+        let i = e as usize;
+        automata[i] = edge.automaton;
+        sources[i] = edge.source;
+        targets[i] = edge.target;
+        e += 1;
+    }
+    EdgeTable {
+        automata,
+        sources,
+        targets,
+    }
+}
+
 // A path starts where a run does.
 fn start(s: &[u8], shape: Shape) -> Walk
     requires { ⌜ Accepted (now s) shape ⌝ }
@@ -85,25 +115,42 @@ fn start(s: &[u8], shape: Shape) -> Walk
     }
 }
 
-fn edge_fits(s: &[u8], shape: Shape, e: u16, walk: Walk) -> bool
-    requires { ⌜ Accepted (now s) shape ⌝ }
+fn edge_fits(
+    s: &[u8],
+    shape: Shape,
+    automata: &[u8; 384],
+    sources: &[u16; 384],
+    targets: &[u16; 384],
+    e: u16,
+    walk: Walk,
+) -> bool
+    requires { ⌜ Accepted (now s) shape × HasEdges (now s) shape (now automata) (now sources) (now targets) ⌝ }
     ensures { λ r. ⌜ r ≡ edgeFits (readCharts (now (s .entry))) e (walkOf (shape .charts) walk) ⌝ }
 {
     if shape.transitions + shape.states <= e {
         return false;
     }
-    let edge = edge_of(s, shape, e);
-    let a = edge.automaton as usize;
-    if (edge.automaton as u32) + 1 == walk.position {
-        edge.source == walk.locations[a]
+    let i = e as usize;
+    let automaton = automata[i];
+    let a = automaton as usize;
+    if (automaton as u32) + 1 == walk.position {
+        sources[i] == walk.locations[a]
     } else {
         false
     }
 }
 
 // 65535 is time.
-fn step_fits(s: &[u8], shape: Shape, e: u16, walk: Walk) -> bool
-    requires { ⌜ Accepted (now s) shape ⌝ }
+fn step_fits(
+    s: &[u8],
+    shape: Shape,
+    automata: &[u8; 384],
+    sources: &[u16; 384],
+    targets: &[u16; 384],
+    e: u16,
+    walk: Walk,
+) -> bool
+    requires { ⌜ Accepted (now s) shape × HasEdges (now s) shape (now automata) (now sources) (now targets) ⌝ }
     ensures { λ r. ⌜ r ≡ stepFits (readCharts (now (s .entry))) e (walkOf (shape .charts) walk) ⌝ }
 {
     if 1000000 <= walk.cycles {
@@ -112,12 +159,20 @@ fn step_fits(s: &[u8], shape: Shape, e: u16, walk: Walk) -> bool
     if e == 65535 {
         walk.position == (shape.charts as u32) + 1
     } else {
-        edge_fits(s, shape, e, walk)
+        edge_fits(s, shape, automata, sources, targets, e, walk)
     }
 }
 
-fn walked(s: &[u8], shape: Shape, e: u16, walk: Walk) -> Walk
-    requires { ⌜ Accepted (now s) shape ⌝ }
+fn walked(
+    s: &[u8],
+    shape: Shape,
+    automata: &[u8; 384],
+    sources: &[u16; 384],
+    targets: &[u16; 384],
+    e: u16,
+    walk: Walk,
+) -> Walk
+    requires { ⌜ Accepted (now s) shape × HasEdges (now s) shape (now automata) (now sources) (now targets) ⌝ }
     requires { ⌜ stepFits (readCharts (now s)) e (walkOf (shape .charts) walk) ≡ true ⌝ }
     ensures { λ r. ⌜ walkOf (shape .charts) r ≡ walkedOn (readCharts (now (s .entry))) e (walkOf (shape .charts) walk) ⌝ }
 {
@@ -130,9 +185,9 @@ fn walked(s: &[u8], shape: Shape, e: u16, walk: Walk) -> Walk
             cycles,
         };
     }
-    let edge = edge_of(s, shape, e);
-    let a = edge.automaton as usize;
-    locations[a] = edge.target;
+    let i = e as usize;
+    let a = automata[i] as usize;
+    locations[a] = targets[i];
     let position = walk.position + 1;
     let cycles = walk.cycles;
     Walk {
@@ -150,8 +205,15 @@ fn rows_of_step(shape: Shape, e: u16) -> usize
 }
 
 // How many rows a path gives.
-fn count_rows(s: &[u8], shape: Shape, path: &[u16]) -> Count
-    requires { ⌜ Accepted (now s) shape ⌝ }
+fn count_rows(
+    s: &[u8],
+    shape: Shape,
+    automata: &[u8; 384],
+    sources: &[u16; 384],
+    targets: &[u16; 384],
+    path: &[u16],
+) -> Count
+    requires { ⌜ Accepted (now s) shape × HasEdges (now s) shape (now automata) (now sources) (now targets) ⌝ }
     ensures { λ r. ⌜ countOf r ≡ counted (ledBack (readCharts (now (s .entry))) (now (path .entry)) (walkStart (readCharts (now (s .entry))))) ⌝ }
 {
     let mut walk = start(s, shape);
@@ -159,11 +221,11 @@ fn count_rows(s: &[u8], shape: Shape, path: &[u16]) -> Count
     let mut i: usize = 0;
     while i < path.len() {
         let e = path[i];
-        if !step_fits(s, shape, e, walk) {
+        if !step_fits(s, shape, automata, sources, targets, e, walk) {
             return Count::Broken;
         }
         rows += rows_of_step(shape, e);
-        walk = walked(s, shape, e, walk);
+        walk = walked(s, shape, automata, sources, targets, e, walk);
         i += 1;
     }
     Count::Rows(rows)
@@ -191,8 +253,16 @@ fn put_step(shape: Shape, e: u16, walk: Walk, rows: &mut [u32], k: usize)
 }
 
 // The rows of a path that is known to fit, and to have room.
-fn put_rows(s: &[u8], shape: Shape, path: &[u16], rows: &mut [u32])
-    requires { ⌜ Accepted (now s) shape ⌝ }
+fn put_rows(
+    s: &[u8],
+    shape: Shape,
+    automata: &[u8; 384],
+    sources: &[u16; 384],
+    targets: &[u16; 384],
+    path: &[u16],
+    rows: &mut [u32],
+)
+    requires { ⌜ Accepted (now s) shape × HasEdges (now s) shape (now automata) (now sources) (now targets) ⌝ }
     requires { ⌜ Writable (now s) (now path) (now rows) ⌝ }
     ensures { λ _. ⌜ now (rows .exit) ≡ sets (now (rows .entry)) 0 (rowWords (rowsAlong (readCharts (now (s .entry))) (now (path .entry)) (walkStart (readCharts (now (s .entry)))))) ⌝ }
 {
@@ -203,7 +273,7 @@ fn put_rows(s: &[u8], shape: Shape, path: &[u16], rows: &mut [u32])
         let e = path[i];
         put_step(shape, e, walk, rows, k);
         k += rows_of_step(shape, e);
-        walk = walked(s, shape, e, walk);
+        walk = walked(s, shape, automata, sources, targets, e, walk);
         i += 1;
     }
 }
@@ -213,13 +283,17 @@ fn led_back(s: &[u8], shape: Shape, path: &[u16], rows: &mut [u32]) -> Led
     requires { ⌜ Accepted (now s) shape ⌝ }
     ensures { λ r. ⌜ ledOf r (now (rows .exit)) ≡ led (readCharts (now (s .entry))) (now (path .entry)) (now (rows .entry)) ⌝ }
 {
-    match count_rows(s, shape, path) {
+    let edges = edges_of(s, shape);
+    let automata = edges.automata;
+    let sources = edges.sources;
+    let targets = edges.targets;
+    match count_rows(s, shape, &automata, &sources, &targets, path) {
         Count::Broken => Led::Broken,
         Count::Rows(n) => {
             if rows.len() / 3 < n {
                 return Led::Short;
             }
-            put_rows(s, shape, path, rows);
+            put_rows(s, shape, &automata, &sources, &targets, path, rows);
             Led::Rows(n)
         }
     }

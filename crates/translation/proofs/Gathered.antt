@@ -1,6 +1,6 @@
 -- Laws of lists gathered: of the numbers below one more, of lists gathered before. Assumes nothing.
 use mathlib.Core.Path.{_≡_, refl, sym, ap, _∙_}
-use mathlib.Core.List.{List, [], _∷_, _++_, map, append-nil}
+use mathlib.Core.List.{List, [], _∷_, _++_, append-nil}
 use Prim.Native.Nat.{ℕ, zero, suc, _+_, _-_, _≤_, _<_}
 use native.Mathlib.Nat.{add-zero}
 use native.Mathlib.Omega.{arith}
@@ -30,11 +30,6 @@ pub gather-empty : {A B : Type 0} (xs : List A) → gather {B = B} (λ x. []) xs
 unfolding gather
 gather-empty [] = refl
 gather-empty (x ∷ xs) = gather-empty xs
-
-pub gather-singles : {A B : Type 0} (f : A → B) (xs : List A) → gather (λ x. f x ∷ []) xs ≡ map f xs
-unfolding gather
-gather-singles f [] = refl
-gather-singles f (x ∷ xs) = ap (λ l. f x ∷ l) (gather-singles f xs)
 
 -- ---- numbers
 

@@ -2,7 +2,7 @@
 ghost use mathlib.Core.Path.{_≡_};
 ghost use mathlib.Core.List.{map};
 ghost use Prim.Native.Nat.{_≤_, _<_, _^_};
-ghost use lib.ListN.{length};
+ghost use lib.ListN.{length, replicate};
 ghost use Rattle.records.specs.Lists.{gather};
 ghost use Rattle.model.specs.ChartSet.{readCharts};
 ghost use Rattle.model.specs.AutomataTable.{writeClock};
@@ -31,11 +31,10 @@ fn clocks_in(trigger: Trigger) -> u16
 }
 
 // Of each transition the number of clocks before its own.
-pub fn clocks_of(s: &[u8], shape: Shape) -> [u16; 256]
-    requires { ⌜ IsShape (now s) shape ⌝ }
-    ensures { λ r. ⌜ HasClocks (readCharts (now (s .entry))) r ⌝ }
+pub fn fill_clocks(s: &[u8], shape: Shape, clocks: &mut [u16; 256])
+    requires { ⌜ IsShape (now s) shape × (now clocks ≡ replicate 256 0) ⌝ }
+    ensures { λ _. ⌜ HasClocks (readCharts (now (s .entry))) (now (clocks .exit)) ⌝ }
 {
-    let mut clocks = [0u16; 256];
     let mut count: u16 = 0;
     let mut t: u16 = 0;
     while t < shape.transitions {
@@ -44,7 +43,6 @@ pub fn clocks_of(s: &[u8], shape: Shape) -> [u16; 256]
         count += clocks_in(trigger_of(s, shape, t));
         t += 1;
     }
-    clocks
 }
 
 fn put_clock(trigger: Trigger, out: &mut [u8], at: usize) -> usize

@@ -1,6 +1,7 @@
 // The translator: the automata of a chart set, written into a lent buffer.
 ghost use mathlib.Core.Path.{_≡_};
 ghost use Prim.Native.Nat.{_<_, _^_};
+ghost use lib.Dec.{leb};
 ghost use lib.ListN.{length};
 ghost use Rattle.model.specs.ChartSet.{readCharts};
 ghost use Rattle.model.specs.Translation.{twin, twinBytes, translate as translation};
@@ -21,15 +22,15 @@ use chart_files::Checked;
 use chart_files::Refusal;
 use chart_files::Shape;
 use chart_files::check;
-use charts::tables::actions_of;
-use charts::tables::rows_of;
-use clocks::clocks_of;
+use charts::tables::fill_actions;
+use charts::tables::fill_rows;
+use clocks::fill_clocks;
 use clocks::put_clocks;
 use edges::put_edges;
 use edges::put_idles;
 use literals::put_idle_literals;
 use literals::put_literals;
-use resets::leaving_of;
+use resets::fill_leaving;
 use resets::put_resets;
 use sections::put_homes;
 use sections::put_initials;
@@ -60,7 +61,10 @@ fn put_tests(s: &[u8], shape: Shape, clocks: &[u16; 256], out: &mut [u8], at: us
     requires { ⌜ Accepted (now s) shape × HasClocks (readCharts (now s)) (now clocks) × (at < 2 ^ 51) ⌝ }
     ensures { λ r. ⌜ Puts (now (out .entry)) at (testsText (twin (readCharts (now (s .entry))))) (now (out .exit)) r (2 ^ 43) ⌝ }
 {
-    let rows = rows_of(s, shape);
+    let empty = [65535u16; 16];
+    let mut rows = [empty; 128];
+    let mut ends = [0u8; 128];
+    fill_rows(s, shape, &mut rows, &mut ends);
     let idles_at = put_literals(s, shape, clocks, &rows, out, at);
     let clocks_at = put_idle_literals(s, shape, clocks, &rows, out, idles_at);
     let variables_at = put_clocks(s, shape, out, clocks_at);
@@ -73,13 +77,13 @@ fn put_effects(s: &[u8], shape: Shape, clocks: &[u16; 256], out: &mut [u8], at: 
     requires { ⌜ Accepted (now s) shape × HasClocks (readCharts (now s)) (now clocks) × (at < 2 ^ 52) ⌝ }
     ensures { λ r. ⌜ Puts (now (out .entry)) at (effectsText (twin (readCharts (now (s .entry))))) (now (out .exit)) r (2 ^ 42) ⌝ }
 {
-    let actions = actions_of(s, shape);
-    let first_action = actions.first;
-    let next_action = actions.next;
+    let mut first_action = [65535u16; 512];
+    let mut next_action = [65535u16; 512];
+    fill_actions(s, shape, &mut first_action, &mut next_action);
     let resets_at = put_updates(s, shape, &first_action, &next_action, out, at);
-    let leaving = leaving_of(s, shape);
-    let first = leaving.first;
-    let next = leaving.next;
+    let mut first = [65535u16; 128];
+    let mut next = [65535u16; 256];
+    fill_leaving(s, shape, &mut first, &mut next);
     put_resets(s, shape, clocks, &first, &next, out, resets_at)
 }
 
@@ -88,7 +92,8 @@ fn put_twin(s: &[u8], shape: Shape, out: &mut [u8]) -> usize
     requires { ⌜ Accepted (now s) shape ⌝ }
     ensures { λ r. ⌜ Puts (now (out .entry)) 0 (twinBytes (now (s .entry))) (now (out .exit)) r (2 ^ 50) ⌝ }
 {
-    let clocks = clocks_of(s, shape);
+    let mut clocks = [0u16; 256];
+    fill_clocks(s, shape, &mut clocks);
     let tests_at = put_places(s, shape, out, 0);
     let effects_at = put_tests(s, shape, &clocks, out, tests_at);
     put_effects(s, shape, &clocks, out, effects_at)
@@ -103,6 +108,17 @@ fn twin_length(s: &[u8], shape: Shape) -> usize
     put_twin(s, shape, &mut unused)
 }
 
+// No twin is longer than 232,576 bytes; a buffer that has them needs no first pass.
+fn has_room(s: &[u8], shape: Shape, room: usize) -> bool
+    requires { ⌜ Accepted (now s) shape ⌝ }
+    ensures { λ r. ⌜ r ≡ leb (length (twinBytes (now (s .entry)))) room ⌝ }
+{
+    if 232576 <= room {
+        return true;
+    }
+    twin_length(s, shape) <= room
+}
+
 // A set translated into a lent buffer: what is refused keeps its contents, and bytes beyond the result are kept.
 pub fn translate(s: &[u8], out: &mut [u8]) -> Translated
     ensures { λ r. ⌜ translatedOf r (now (out .exit)) ≡ translation (now (s .entry)) (now (out .entry)) ⌝ }
@@ -110,8 +126,7 @@ pub fn translate(s: &[u8], out: &mut [u8]) -> Translated
     match check(s) {
         Checked::Refused(refusal) => Translated::Refused(refusal),
         Checked::Accepted(shape) => {
-            let length = twin_length(s, shape);
-            if out.len() < length {
+            if !has_room(s, shape, out.len()) {
                 return Translated::Short;
             }
             Translated::Written(put_twin(s, shape, out))

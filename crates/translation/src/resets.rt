@@ -2,6 +2,7 @@
 ghost use mathlib.Core.Path.{_≡_};
 ghost use mathlib.Core.List.{map};
 ghost use Prim.Native.Nat.{_<_, _^_};
+ghost use lib.ListN.{replicate};
 ghost use Rattle.records.specs.Lists.{gather, upto};
 ghost use Rattle.model.specs.ChartSet.{readCharts};
 ghost use Rattle.model.specs.Translation.{size, clocksOf, clocksLeaving, resetsOf};
@@ -17,19 +18,12 @@ use chart_files::fields::source_of;
 use chart_files::fields::target_of;
 use chart_files::fields::trigger_of;
 
-// Of each state its first leaving transition, and of each transition the next that leaves the same state; 65535 is none.
-pub struct Leaving {
-    pub first: [u16; 128],
-    pub next: [u16; 256],
-}
-
-// From the last transition down, so that each finds the one behind it.
-pub fn leaving_of(s: &[u8], shape: Shape) -> Leaving
-    requires { ⌜ Accepted (now s) shape ⌝ }
-    ensures { λ r. ⌜ HasLeaving (readCharts (now (s .entry))) (r .first) (r .next) ⌝ }
+// Of each state its first leaving transition, and of each transition the next that leaves the same state; 65535 is none. From the last transition down,
+// so that each finds the one behind it.
+pub fn fill_leaving(s: &[u8], shape: Shape, first: &mut [u16; 128], next: &mut [u16; 256])
+    requires { ⌜ Accepted (now s) shape × (now first ≡ replicate 128 65535) × (now next ≡ replicate 256 65535) ⌝ }
+    ensures { λ _. ⌜ HasLeaving (readCharts (now (s .entry))) (now (first .exit)) (now (next .exit)) ⌝ }
 {
-    let mut first = [65535u16; 128];
-    let mut next = [65535u16; 256];
     let mut t = shape.transitions;
     while 0 < t {
         t -= 1;
@@ -38,7 +32,6 @@ pub fn leaving_of(s: &[u8], shape: Shape) -> Leaving
         next[i] = first[source];
         first[source] = t;
     }
-    Leaving { first, next }
 }
 
 fn put_reset(trigger: Trigger, clock: u16, out: &mut [u8], at: usize, edge: u16) -> usize

@@ -1,10 +1,11 @@
 // Records into a buffer. Bytes past its end are counted and not written, so that writing into a buffer of no use measures a text.
 ghost use mathlib.Core.Path.{_≡_};
 ghost use mathlib.Core.List.{[], _∷_, _++_};
-ghost use Prim.Native.Nat.{_+_, _/_, _%_, _<_, _^_};
+ghost use Prim.Native.Nat.{_+_, _/_, _%_, _≤_, _<_, _^_};
+ghost use lib.ListN.{length};
+ghost use lib.Seq.{sets};
 ghost use Rattle.records.specs.Bytes.{bytes2, bytes4};
 ghost use Rattle.translation.specs.Texts.{recordText, Puts};
-use records::put_byte;
 
 fn low(v: u16) -> u8
     ensures { λ r. ⌜ r ≡ v % 256 ⌝ }
@@ -18,20 +19,44 @@ fn high(v: u16) -> u8
     (v / 256 % 256) as u8
 }
 
+// A record that goes past the end. The loop ends where the buffer does, so that the bytes stay in one place and a whole record is one copy.
+fn put_part(out: &mut [u8], at: usize, bytes: [u8; 16])
+    requires { ⌜ (at ≤ length (now out)) × (length (now out) ≤ at + 16) ⌝ }
+    ensures { λ _. ⌜ now (out .exit) ≡ sets (now (out .entry)) at bytes ⌝ }
+{
+    let room = out.len() - at;
+    let mut k: usize = 0;
+    while k < room {
+        out[at + k] = bytes[k];
+        k += 1;
+    }
+}
+
+fn put_whole(out: &mut [u8], at: usize, bytes: [u8; 16])
+    requires { ⌜ at + 16 ≤ length (now out) ⌝ }
+    ensures { λ _. ⌜ now (out .exit) ≡ sets (now (out .entry)) at bytes ⌝ }
+{
+    let mut k: usize = 0;
+    while k < 16 {
+        out[at + k] = bytes[k];
+        k += 1;
+    }
+}
+
 // Answers the place behind the record, as all of these do.
 pub fn put_record(out: &mut [u8], at: usize, bytes: [u8; 16]) -> usize
     requires { ⌜ at < 2 ^ 62 ⌝ }
     ensures { λ r. ⌜ Puts (now (out .entry)) at bytes (now (out .exit)) r 16 ⌝ }
 {
-    if out.len() <= at {
-        return at + 16;
+    let behind = at + 16;
+    if behind <= out.len() {
+        put_whole(out, at, bytes);
+        return behind;
     }
-    let mut k: usize = 0;
-    while k < 16 {
-        put_byte(out, at + k, bytes[k]);
-        k += 1;
+    if at < out.len() {
+        put_part(out, at, bytes);
     }
-    at + 16
+    behind
 }
 
 pub fn initial_bytes(state: u16) -> [u8; 16]

@@ -28,14 +28,14 @@ at-most-one n true e = omega arith
 at-most-one n false e = omega arith
 
 abbrev Inv-loop : tie.InvT-loop
-Inv-loop s shape path walk₀ rows₀ i₀ walk rows i = Followed (readCharts s) path i (walkOf (shape .charts) walk) rows
+Inv-loop s shape automata sources targets path walk₀ rows₀ i₀ walk rows i = Followed (readCharts s) path i (walkOf (shape .charts) walk) rows
 
 abbrev μ-loop : tie.MeasureT-loop
-μ-loop s shape path walk₀ rows₀ i₀ walk rows i = length path - i
+μ-loop s shape automata sources targets path walk₀ rows₀ i₀ walk rows i = length path - i
 
 -- src/lib.rt:161:9
 start-requires : tie.Need-start-requires Inv-loop μ-loop
-start-requires c κs = c .before .before .pre
+start-requires c κs = c .before .before .pre .0
 
 -- src/lib.rt:164:5
 loop-holds : tie.Need-loop-holds Inv-loop μ-loop
@@ -82,7 +82,7 @@ walked-requires c κs = (c .before .before .before .before .before .before .befo
 
 -- src/lib.rt:171:9
 add-i : tie.Need-add-i Inv-loop μ-loop
-add-i c = omega (arith, c .before .before .before .before .before .loop-test .taken)
+add-i c = omega (arith, c .before .before .before .before .before .loop-test .taken, c .before .before .before .before .before .before .before .before .before .before .good)
 
 -- src/lib.rt:164:5
 loop-less : tie.Need-loop-less Inv-loop μ-loop
@@ -100,7 +100,7 @@ loop-again c =
     let e = getD (now (a .path)) (l .i) 0 in
     followed-more cs (now (a .path)) (l .i) w (l .rows) (l .inv) (c .before .before .before .before .before .loop-test .taken) (sym (c .before .before .before .step-fits .ensures) ∙ not-false _ (c .before .before .if1 .left))
     (walkOf (a .shape .charts) (c .walked .result)) (c .walked .ensures) (l .rows + c .before .rows-of-step .result)
-    (ap (λ n. l .rows + n) (c .before .rows-of-step .ensures ∙ sym (rows-many cs (now (a .path)) e w (a .shape .transitions) (length-transitions s (a .shape) (b .pre .shape)))))
+    (ap (λ n. l .rows + n) (c .before .rows-of-step .ensures ∙ sym (rows-many cs (now (a .path)) e w (a .shape .transitions) (length-transitions s (a .shape) (b .pre .0 .shape)))))
 
 -- src/lib.rt:157:1
 returns-2 : tie.Need-returns-2 Inv-loop μ-loop

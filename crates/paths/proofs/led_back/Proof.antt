@@ -17,65 +17,62 @@ use Rattle.paths.proofs.led_back.Tie as tie
 use Rattle.paths.proofs.led_back.Reads as reads
 use Rattle.paths.proofs.led_back.Lts as lts
 use Rattle.paths.proofs.count_rows.Reads as count-rows-reads
+use Rattle.paths.proofs.edges_of.Reads as edges-of-reads
 use Rattle.paths.proofs.put_rows.Reads as put-rows-reads
 
--- src/lib.rt:220:11
+edges-of-requires : tie.Need-edges-of-requires
+edges-of-requires c κs = search needs
+
 count-rows-requires : tie.Need-count-rows-requires
 count-rows-requires c κs = search needs
 
--- src/lib.rt:221:26
 enum-told : tie.Need-enum-told
 enum-told c = search needs
 
--- src/lib.rt:222:21
 enum-known-n : tie.Need-enum-known-n
 enum-known-n c = search needs
 
--- src/lib.rt:224:17
 returns : tie.Need-returns
 returns c =
-    let b = c .before .before .before .before .before .before .before .before in
+    let b = c .before .before .before .before .before .before .before .before .before .before .before .before .before .before .before in
     let a = b .args in
     let cs = readCharts (now (a .s)) in
     let n = c .before .before .n .given in
     let m = led-many cs (now (a .path)) (now (a .rows)) (n .0 .0) (sym (ap countOf (n .1)) ∙ c .before .before .before .before .count-rows .ensures) in
     sym (led-short cs (now (a .path)) (now (a .rows)) (n .0 .0) (m .0) (m .1) (c .if1 .taken))
 
--- src/lib.rt:226:13
 put-rows-requires : tie.Need-put-rows-requires
 put-rows-requires c κs =
-    let b = c .before .before .before .before .before .before .before .before .before in
-    let a = b .args in
-    let cs = readCharts (now (a .s)) in
-    let n = c .before .before .before .n .given in
-    let m = led-many cs (now (a .path)) (now (a .rows)) (n .0 .0) (sym (ap countOf (n .1)) ∙ c .before .before .before .before .before .count-rows .ensures) in
-    (b .pre, record { fits = m .0; room = led-room cs (now (a .path)) (now (a .rows)) (n .0 .0) (m .0) (m .1) (c .before .if1 .left) })
-
--- src/lib.rt:216:1
-returns-2 : tie.Need-returns-2
-returns-2 c =
-    let a = c .before .before .before .before .before .before .args in
-    sym (led-broken (readCharts (now (a .s))) (now (a .path)) (now (a .rows)) (sym (ap countOf (c .enum-told .given .1)) ∙ c .before .before .count-rows .ensures))
-
--- src/lib.rt:216:1
-same-length : tie.Need-same-length
-same-length c = search needs
-
--- src/lib.rt:216:1
-returns-3 : tie.Need-returns-3
-returns-3 c =
-    let b = c .before .before .before .before .before .before .before .before .before .before .before .before in
+    let b = c .before .before .before .before .before .before .before .before .before .before .before .before .before .before .before .before .before .before .before in
     let a = b .args in
     let cs = readCharts (now (a .s)) in
     let n = c .before .before .before .before .before .before .n .given in
     let m = led-many cs (now (a .path)) (now (a .rows)) (n .0 .0) (sym (ap countOf (n .1)) ∙ c .before .before .before .before .before .before .before .before .count-rows .ensures) in
+    ((b .pre, c .before .before .before .before .before .before .before .before .before .before .before .before .before .before .before .edges-of .ensures), record { fits = m .0; room = led-room cs (now (a .path)) (now (a .rows)) (n .0 .0) (m .0) (m .1) (c .before .before .before .before .if1 .left) })
+
+returns-2 : tie.Need-returns-2
+returns-2 c =
+    let a = c .before .before .before .before .before .before .before .before .before .before .before .before .before .args in
+    sym (led-broken (readCharts (now (a .s))) (now (a .path)) (now (a .rows)) (sym (ap countOf (c .enum-told .given .1)) ∙ c .before .before .count-rows .ensures))
+
+same-length : tie.Need-same-length
+same-length c = search needs
+
+returns-3 : tie.Need-returns-3
+returns-3 c =
+    let b = c .before .before .before .before .before .before .before .before .before .before .before .before .before .before .before .before .before .before .before .before .before .before in
+    let a = b .args in
+    let cs = readCharts (now (a .s)) in
+    let n = c .before .before .before .before .before .before .before .before .before .n .given in
+    let m = led-many cs (now (a .path)) (now (a .rows)) (n .0 .0) (sym (ap countOf (n .1)) ∙ c .before .before .before .before .before .before .before .before .before .before .before .count-rows .ensures) in
     ap (λ l. record { answer = answerOf (Rows (n .0 .0)); lent = l }) (c .before .before .put-rows .ensures)
-    ∙ sym (led-written cs (now (a .path)) (now (a .rows)) (n .0 .0) (m .0) (m .1) (c .before .before .before .before .if1 .left))
+    ∙ sym (led-written cs (now (a .path)) (now (a .rows)) (n .0 .0) (m .0) (m .1) (c .before .before .before .before .before .before .before .if1 .left))
 
 pub led-back-spec : {M : Type 1} → statement M
 led-back-spec =
     tie.close
     (tie.spec
+    edges-of-requires
     count-rows-requires
     enum-told
     enum-known-n

@@ -30,14 +30,14 @@ at-most-one n true e = omega arith
 at-most-one n false e = omega arith
 
 abbrev Inv-loop : tie.InvT-loop
-Inv-loop s shape path rows₀ walk₀ k₀ i₀ rows walk k i = Followed (readCharts s) path i (walkOf (shape .charts) walk) k × (rows ≡ written (readCharts s) path rows₀ i)
+Inv-loop s shape automata sources targets path rows₀ walk₀ k₀ i₀ rows walk k i = Followed (readCharts s) path i (walkOf (shape .charts) walk) k × (rows ≡ written (readCharts s) path rows₀ i)
 
 abbrev μ-loop : tie.MeasureT-loop
-μ-loop s shape path rows₀ walk₀ k₀ i₀ rows walk k i = length path - i
+μ-loop s shape automata sources targets path rows₀ walk₀ k₀ i₀ rows walk k i = length path - i
 
 -- src/lib.rt:203:9
 start-requires : tie.Need-start-requires Inv-loop μ-loop
-start-requires c κs = c .before .before .before .pre .0
+start-requires c κs = c .before .before .before .pre .0 .0
 
 -- src/lib.rt:206:5
 loop-holds : tie.Need-loop-holds Inv-loop μ-loop
@@ -68,9 +68,9 @@ put-step-requires c κs =
     let fits = followed-fits cs (now (a .path)) (l .i) w (l .k) (l .inv .0) t (b .pre .1 .fits) in
     λ h. (
       room-next cs (now (a .path)) (l .i) w (l .k) _ (l .inv .0) t
-          (rows-many cs (now (a .path)) e w (a .shape .transitions) (length-transitions s (a .shape) (b .pre .0 .shape)) ∙ ap (λ y. cond y 1 0) (lt-ltb e (a .shape .transitions) h))
+          (rows-many cs (now (a .path)) e w (a .shape .transitions) (length-transitions s (a .shape) (b .pre .0 .0 .shape)) ∙ ap (λ y. cond y 1 0) (lt-ltb e (a .shape .transitions) h))
           (omega (arith, b .pre .1 .room, ap length (l .inv .1), length-sets (now (a .rows)) 0 (rowWords (rowsAlong cs (take (l .i) (now (a .path))) (walkStart cs))))),
-      (let p = fits-edge s (a .shape) (b .pre .0) e (l .walk) (λ z. let y : e ≡ 65535 = z in omega (arith, h, most-transitions s (a .shape) (b .pre .0 .shape))) fits .1 in omega arith),
+      (let p = fits-edge s (a .shape) (b .pre .0 .0) e (l .walk) (λ z. let y : e ≡ 65535 = z in omega (arith, h, most-transitions s (a .shape) (b .pre .0 .0 .shape))) fits .1 in omega arith),
     )
 
 -- src/lib.rt:209:14
@@ -104,7 +104,7 @@ walked-requires c κs =
 
 -- src/lib.rt:211:9
 add-i : tie.Need-add-i Inv-loop μ-loop
-add-i c = omega (arith, c .before .before .before .before .before .before .before .loop-test .taken)
+add-i c = omega (arith, c .before .before .before .before .before .before .before .loop-test .taken, c .before .before .before .before .before .before .before .before .before .before .before .before .before .good)
 
 -- src/lib.rt:206:5
 loop-less : tie.Need-loop-less Inv-loop μ-loop
@@ -121,7 +121,7 @@ loop-again c =
     let w = walkOf (a .shape .charts) (l .walk) in
     let e = getD (now (a .path)) (l .i) 0 in
     let t = c .before .before .before .before .before .before .before .loop-test .taken in
-    let are = length-transitions s (a .shape) (b .pre .0 .shape) in
+    let are = length-transitions s (a .shape) (b .pre .0 .0 .shape) in
     let fits = followed-fits cs (now (a .path)) (l .i) w (l .k) (l .inv .0) t (b .pre .1 .fits) in (
       followed-more cs (now (a .path)) (l .i) w (l .k) (l .inv .0) t fits
           (walkOf (a .shape .charts) (c .walked .result)) (c .walked .ensures) (l .k + c .before .rows-of-step .result)

@@ -23,7 +23,7 @@ use Rattle.paths.proofs.edge_fits.Reads as edge-fits-reads
 returns : tie.Need-returns
 returns c =
     let b = c .before .before .before in
-    sym (step-late (now (b .args .s)) (b .args .shape) (b .pre) (b .args .e) (b .args .walk) (c .if1 .taken))
+    sym (step-late (now (b .args .s)) (b .args .shape) (b .pre .0) (b .args .e) (b .args .walk) (c .if1 .taken))
 
 -- src/lib.rt:112:27
 cast-result : tie.Need-cast-result
@@ -41,13 +41,13 @@ edge-fits-requires c κs = search needs
 returns-2 : tie.Need-returns-2
 returns-2 c =
     let b = c .before .before .before .before .before .before in
-    sym (step-time (now (b .args .s)) (b .args .shape) (b .pre) (b .args .e) (b .args .walk) (c .before .before .before .if1 .left) (c .before .before .if2 .taken))
+    sym (step-time (now (b .args .s)) (b .args .shape) (b .pre .0) (b .args .e) (b .args .walk) (c .before .before .before .if1 .left) (c .before .before .if2 .taken))
 
 -- src/lib.rt:104:1
 returns-3 : tie.Need-returns-3
 returns-3 c =
     let b = c .before .before .before .before .before in
-    c .edge-fits .ensures ∙ sym (step-edge (now (b .args .s)) (b .args .shape) (b .pre) (b .args .e) (b .args .walk) (c .before .before .if1 .left) (c .before .if2 .left))
+    c .edge-fits .ensures ∙ sym (step-edge (now (b .args .s)) (b .args .shape) (b .pre .0) (b .args .e) (b .args .walk) (c .before .before .if1 .left) (c .before .if2 .left))
 
 pub step-fits-spec : {M : Type 1} → statement M
 step-fits-spec =

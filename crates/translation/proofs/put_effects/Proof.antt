@@ -1,5 +1,5 @@
 -- `put_effects` meets its contract: the updates, then the resets; the idle edges have none. Assumes nothing.
-use mathlib.Core.Path.{sym}
+use mathlib.Core.Path.{refl, sym}
 use mathlib.Core.List.{_++_}
 use Prim.Native.Nat.{_^_}
 use native.Mathlib.Omega.{arith}
@@ -13,23 +13,21 @@ use Rattle.translation.proofs.FileLaws.{transitions-text}
 use Rattle.translation.proofs.put_effects.Statement.{statement}
 use Rattle.translation.proofs.put_effects.Tie as tie
 
-actions-of-requires : tie.Need-actions-of-requires
-actions-of-requires c κs = c .before .before .pre .0
+fill-actions-requires : tie.Need-fill-actions-requires
+fill-actions-requires c κs = (c .before .before .before .before .pre .0, refl, refl)
 
 put-updates-requires : tie.Need-put-updates-requires
 put-updates-requires c κs =
     let entry = c .before .before .before .before .before .before .before .before in
-    (entry .pre .0, c .before .before .before .before .before .actions-of .ensures, omega (arith, entry .pre .2))
+    (entry .pre .0, c .before .before .before .fill-actions .ensures, omega (arith, entry .pre .2))
 
-leaving-of-requires : tie.Need-leaving-of-requires
-leaving-of-requires c κs =
-    let entry = c .before .before .before .before .before .before .before .before .before .before .before in
-    entry .pre .0
+fill-leaving-requires : tie.Need-fill-leaving-requires
+fill-leaving-requires c κs = (c .before .before .before .before .before .before .before .before .before .before .before .before .before .pre .0, refl, refl)
 
 put-resets-requires : tie.Need-put-resets-requires
 put-resets-requires c κs =
     let entry = c .before .before .before .before .before .before .before .before .before .before .before .before .before .before .before .before .before in
-    (entry .pre .0, entry .pre .1, c .before .before .before .before .before .leaving-of .ensures, omega (arith, entry .pre .2, c .before .before .before .before .before .before .before .before .put-updates .ensures .near))
+    (entry .pre .0, entry .pre .1, c .before .before .before .fill-leaving .ensures, omega (arith, entry .pre .2, c .before .before .before .before .before .before .before .before .put-updates .ensures .near))
 
 same-length : tie.Need-same-length
 same-length c = search needs
@@ -45,9 +43,9 @@ pub put-effects-spec : {M : Type 1} → statement M
 put-effects-spec =
     tie.close
     (tie.spec
-    actions-of-requires
+    fill-actions-requires
     put-updates-requires
-    leaving-of-requires
+    fill-leaving-requires
     put-resets-requires
     same-length
     returns)

@@ -1,5 +1,5 @@
 -- `put_tests` meets its contract: the sections, one after the other, the literals by the transitions and then the states. Assumes nothing.
-use mathlib.Core.Path.{sym, ap}
+use mathlib.Core.Path.{refl, sym, ap}
 use mathlib.Core.List.{_++_, map}
 use Prim.Native.Nat.{_*_, _^_}
 use native.Mathlib.Omega.{arith}
@@ -16,32 +16,32 @@ use Rattle.translation.proofs.FileLaws.{owned-text}
 use Rattle.translation.proofs.put_tests.Statement.{statement}
 use Rattle.translation.proofs.put_tests.Tie as tie
 
-rows-of-requires : tie.Need-rows-of-requires
-rows-of-requires c κs = c .before .before .pre .0
+fill-rows-requires : tie.Need-fill-rows-requires
+fill-rows-requires c κs = (c .before .before .before .before .pre .0, refl, refl)
 
 put-literals-requires : tie.Need-put-literals-requires
 put-literals-requires c κs =
-    let entry = c .before .before .before .before .before in
-    (entry .pre .0, entry .pre .1, c .before .before .rows-of .ensures, omega (arith, entry .pre .2))
+    let entry = c .before .before .before .before .before .before .before in
+    (entry .pre .0, entry .pre .1, c .before .before .fill-rows .ensures .0, omega (arith, entry .pre .2))
 
 put-idle-literals-requires : tie.Need-put-idle-literals-requires
 put-idle-literals-requires c κs =
-    let entry = c .before .before .before .before .before .before .before .before .before .before in
-    (entry .pre .0, entry .pre .1, c .before .before .before .before .before .before .before .rows-of .ensures, omega (arith, entry .pre .2, c .before .before .before .before .put-literals .ensures .near))
+    let entry = c .before .before .before .before .before .before .before .before .before .before .before .before in
+    (entry .pre .0, entry .pre .1, c .before .before .before .before .before .before .before .fill-rows .ensures .0, omega (arith, entry .pre .2, c .before .before .before .before .put-literals .ensures .near))
 
 put-clocks-requires : tie.Need-put-clocks-requires
 put-clocks-requires c κs =
-    let entry = c .before .before .before .before .before .before .before .before .before .before .before .before .before .before in
+    let entry = c .before .before .before .before .before .before .before .before .before .before .before .before .before .before .before .before in
     (entry .pre .0 .shape, omega (arith, entry .pre .2, c .before .before .before .before .before .before .before .before .put-literals .ensures .near, c .before .before .before .put-idle-literals .ensures .near))
 
 put-variables-requires : tie.Need-put-variables-requires
 put-variables-requires c κs =
-    let entry = c .before .before .before .before .before .before .before .before .before .before .before .before .before .before .before .before .before .before in
+    let entry = c .before .before .before .before .before .before .before .before .before .before .before .before .before .before .before .before .before .before .before .before in
     (entry .pre .0 .shape, omega (arith, entry .pre .2, c .before .before .before .before .before .before .before .before .before .before .before .before .put-literals .ensures .near, c .before .before .before .before .before .before .before .put-idle-literals .ensures .near, c .before .before .before .put-clocks .ensures .near))
 
 put-nodes-requires : tie.Need-put-nodes-requires
 put-nodes-requires c κs =
-    let entry = c .before .before .before .before .before .before .before .before .before .before .before .before .before .before .before .before .before .before .before .before .before .before in
+    let entry = c .before .before .before .before .before .before .before .before .before .before .before .before .before .before .before .before .before .before .before .before .before .before .before .before in
     (entry .pre .0 .shape, omega (arith, entry .pre .2, c .before .before .before .before .before .before .before .before .before .before .before .before .before .before .before .before .put-literals .ensures .near, c .before .before .before .before .before .before .before .before .before .before .before .put-idle-literals .ensures .near, c .before .before .before .before .before .before .before .put-clocks .ensures .near, c .before .before .before .put-variables .ensures .near))
 
 same-length : tie.Need-same-length
@@ -49,7 +49,7 @@ same-length c = search needs
 
 returns : tie.Need-returns
 returns c =
-    let entry = c .before .before .before .before .before .before .before .before .before .before .before .before .before .before .before .before .before .before .before .before .before .before .before .before .before in
+    let entry = c .before .before .before .before .before .before .before .before .before .before .before .before .before .before .before .before .before .before .before .before .before .before .before .before .before .before .before in
     let cs = readCharts (now (entry .args .s)) in
     puts-as _
     (ap (λ l. l ++ section 37 (map writeClock (gather (λ x. clocksOf (x .trigger)) (cs .transitions))) ++ section 38 (map writeVariable (cs .variables)) ++ section 39 (map writeNode (cs .nodes)))
@@ -64,7 +64,7 @@ pub put-tests-spec : {M : Type 1} → statement M
 put-tests-spec =
     tie.close
     (tie.spec
-    rows-of-requires
+    fill-rows-requires
     put-literals-requires
     put-idle-literals-requires
     put-clocks-requires

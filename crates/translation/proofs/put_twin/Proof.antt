@@ -1,4 +1,5 @@
 -- `put_twin` meets its contract: the three parts of the file, one after the other. Assumes nothing.
+use mathlib.Core.Path.{refl}
 use Prim.Native.Nat.{_^_}
 use native.Mathlib.Omega.{arith}
 use borrow.Author.Needs.{needs}
@@ -10,28 +11,28 @@ use Rattle.translation.proofs.FileLaws.{file-text}
 use Rattle.translation.proofs.put_twin.Statement.{statement}
 use Rattle.translation.proofs.put_twin.Tie as tie
 
-clocks-of-requires : tie.Need-clocks-of-requires
-clocks-of-requires c κs = c .before .before .pre .shape
+fill-clocks-requires : tie.Need-fill-clocks-requires
+fill-clocks-requires c κs = (c .before .before .before .pre .shape, refl)
 
 put-places-requires : tie.Need-put-places-requires
-put-places-requires c κs = ((c .before .before .before .before .pre), omega arith)
+put-places-requires c κs = (c .before .before .before .before .before .pre, omega arith)
 
 put-tests-requires : tie.Need-put-tests-requires
 put-tests-requires c κs =
-    let entry = c .before .before .before .before .before .before .before .before .before in
-    ((entry .pre), c .before .before .before .before .before .before .clocks-of .ensures, omega (arith, c .before .before .before .before .put-places .ensures .near))
+    let entry = c .before .before .before .before .before .before .before .before .before .before in
+    (entry .pre, c .before .before .before .before .before .before .fill-clocks .ensures, omega (arith, c .before .before .before .before .put-places .ensures .near))
 
 put-effects-requires : tie.Need-put-effects-requires
 put-effects-requires c κs =
-    let entry = c .before .before .before .before .before .before .before .before .before .before .before .before .before .before in
-    ((entry .pre), c .before .before .before .before .before .before .before .before .before .before .before .clocks-of .ensures, omega (arith, c .before .before .before .before .before .before .before .before .before .put-places .ensures .near, c .before .before .before .before .put-tests .ensures .near))
+    let entry = c .before .before .before .before .before .before .before .before .before .before .before .before .before .before .before in
+    (entry .pre, c .before .before .before .before .before .before .before .before .before .before .before .fill-clocks .ensures, omega (arith, c .before .before .before .before .before .before .before .before .before .put-places .ensures .near, c .before .before .before .before .put-tests .ensures .near))
 
 same-length : tie.Need-same-length
 same-length c = search needs
 
 returns : tie.Need-returns
 returns c =
-    let entry = c .before .before .before .before .before .before .before .before .before .before .before .before .before .before .before .before .before in
+    let entry = c .before .before .before .before .before .before .before .before .before .before .before .before .before .before .before .before .before .before in
     puts-as _ (file-text (twin (readCharts (now (entry .args .s)))))
     (puts-then (2 ^ 50) (omega arith) (puts-then (2 ^ 44) (omega arith) (c .before .before .before .before .before .before .before .before .before .before .before .before .put-places .ensures) (c .before .before .before .before .before .before .before .put-tests .ensures)) (c .before .before .put-effects .ensures))
 
@@ -39,7 +40,7 @@ pub put-twin-spec : {M : Type 1} → statement M
 put-twin-spec =
     tie.close
     (tie.spec
-    clocks-of-requires
+    fill-clocks-requires
     put-places-requires
     put-tests-requires
     put-effects-requires

@@ -1,22 +1,23 @@
--- `clocks::clocks_of` meets its contract: the numbers before t are filled in, and the count is t's number. Assumes nothing.
+-- `clocks::fill_clocks` meets its contract: the numbers before t are filled in, and the count is t's number. Assumes nothing.
 use mathlib.Core.Path.{_≡_, sym, ap, _∙_}
 use Prim.Native.Nat.{ℕ, _+_, _-_, _<_, _≤_}
 use native.Mathlib.Omega.{arith}
 use borrow.Author.Needs.{needs}
 use denote.Ref.{now}
 use mathlib.Core.Bool.{cond}
-use lib.ListN.{length, getD, replicate}
+use lib.ListN.{length, getD, length-replicate}
 use borrow.Author.Tests.{lt-ltb}
 use Rattle.model.specs.ChartSet.{readCharts, transition}
 use Rattle.model.specs.Translation.{clocksOf, clockOf}
 use Rattle.chart_files.proofs.Readings.{transition-is, length-transitions, most-transitions}
 use Rattle.machines.proofs.Filled.{Filled, filled-none, filled-more}
 use Rattle.translation.proofs.ClockLaws.{clock-none, clock-more}
-use Rattle.translation.proofs.clocks.clocks_of.Statement.{statement}
-use Rattle.translation.proofs.clocks.clocks_of.Tie as tie
+use Rattle.translation.proofs.clocks.fill_clocks.Statement.{statement}
+use Rattle.translation.proofs.clocks.fill_clocks.Tie as tie
 
 abbrev Inv-loop : tie.InvT-loop
-Inv-loop s shape clocks₀ count₀ t₀ clocks count t = (t ≤ shape .transitions) × (count ≤ t) × (count ≡ clockOf (readCharts s) t) × Filled (clockOf (readCharts s)) 0 (replicate 256 0) clocks t
+Inv-loop s shape clocks₀ count₀ t₀ clocks count t =
+    (t ≤ shape .transitions) × (count ≤ t) × (count ≡ clockOf (readCharts s) t) × Filled (clockOf (readCharts s)) 0 clocks₀ clocks t × (length clocks₀ ≡ 256)
 
 abbrev μ-loop : tie.MeasureT-loop
 μ-loop s shape clocks₀ count₀ t₀ clocks count t = shape .transitions - t
@@ -24,7 +25,7 @@ abbrev μ-loop : tie.MeasureT-loop
 loop-holds : tie.Need-loop-holds Inv-loop μ-loop
 loop-holds c =
     let x = c .before .args in
-    (omega arith, omega arith, sym (clock-none (readCharts (now (x .s)))), filled-none (clockOf (readCharts (now (x .s)))) 0 (replicate 256 0))
+    (omega arith, omega arith, sym (clock-none (readCharts (now (x .s)))), filled-none (clockOf (readCharts (now (x .s)))) 0 (now (x .clocks)), ap length (c .before .pre .1) ∙ length-replicate {A = ℕ} 256 0)
 
 cast-i : tie.Need-cast-i Inv-loop μ-loop
 cast-i c = omega arith
@@ -32,11 +33,11 @@ cast-i c = omega arith
 mul-clocks : tie.Need-mul-clocks Inv-loop μ-loop
 mul-clocks c = omega arith
 
-array-write-clocks : tie.Need-array-write-clocks Inv-loop μ-loop
-array-write-clocks c =
+element-write-clocks : tie.Need-element-write-clocks Inv-loop μ-loop
+element-write-clocks c =
     let entry = c .before .before .before .before in
     let x = entry .args in
-    omega (arith, most-transitions (now (x .s)) (x .shape) (entry .pre))
+    omega (arith, most-transitions (now (x .s)) (x .shape) (entry .pre .0))
 
 trigger-of-requires : tie.Need-trigger-of-requires Inv-loop μ-loop
 trigger-of-requires c κs = search needs
@@ -48,7 +49,7 @@ add-count : tie.Need-add-count Inv-loop μ-loop
 add-count c =
     let entry = c .before .before .before .before .before .before in
     let x = entry .args in
-    omega (arith, c .before .before .before .before .loop .inv .1, c .clocks-in .ensures .1, most-transitions (now (x .s)) (x .shape) (entry .pre))
+    omega (arith, c .before .before .before .before .loop .inv .1, c .clocks-in .ensures .1, most-transitions (now (x .s)) (x .shape) (entry .pre .0))
 
 add-t : tie.Need-add-t Inv-loop μ-loop
 add-t c = omega arith
@@ -63,14 +64,15 @@ loop-again c =
     let l = c .before .before .before .before .loop in
     let cs = readCharts (now (x .s)) in
     let h : l .t < x .shape .transitions = c .before .before .if1 .taken in
-    let small : l .t < 256 = omega (arith, most-transitions (now (x .s)) (x .shape) (entry .pre)) in
-    let more : clockOf cs (l .t + 1) ≡ clockOf cs (l .t) + length (clocksOf (transition cs (l .t) .trigger)) = clock-more cs (l .t) (omega (arith, length-transitions (now (x .s)) (x .shape) (entry .pre))) in
+    let small : l .t < length (now (x .clocks)) = omega (arith, most-transitions (now (x .s)) (x .shape) (entry .pre .0), l .inv .4) in
+    let more : clockOf cs (l .t + 1) ≡ clockOf cs (l .t) + length (clocksOf (transition cs (l .t) .trigger)) = clock-more cs (l .t) (omega (arith, length-transitions (now (x .s)) (x .shape) (entry .pre .0))) in
     let own : c .clocks-in .result ≡ length (clocksOf (transition cs (l .t) .trigger)) =
-    c .clocks-in .ensures .0 ∙ ap (λ y. length (clocksOf y)) (c .before .trigger-of .ensures ∙ ap (λ y. y .trigger) (sym (transition-is (now (x .s)) (x .shape) (entry .pre) (l .t) h))) in (
+    c .clocks-in .ensures .0 ∙ ap (λ y. length (clocksOf y)) (c .before .trigger-of .ensures ∙ ap (λ y. y .trigger) (sym (transition-is (now (x .s)) (x .shape) (entry .pre .0) (l .t) h))) in (
       omega arith,
       omega (arith, l .inv .1, c .clocks-in .ensures .1),
       omega (arith, l .inv .2),
-      filled-more (clockOf cs) 0 (replicate 256 0) (l .clocks) (l .t) (l .count) (l .inv .2) (l .inv .3) small,
+      filled-more (clockOf cs) 0 (now (x .clocks)) (l .clocks) (l .t) (l .count) (l .inv .2) (l .inv .3) small,
+      l .inv .4,
     )
 
 returns : tie.Need-returns Inv-loop μ-loop
@@ -80,11 +82,11 @@ returns c =
     let l = c .before .before .loop in
     let cs = readCharts (now (x .s)) in
     λ t h.
-    let m : t < l .t = omega (arith, length-transitions (now (x .s)) (x .shape) (entry .pre), c .if1 .left) in
-    l .inv .3 .1 t ∙ ap (λ b. cond b (clockOf cs t) (getD (replicate {A = ℕ} 256 0) t 0)) (lt-ltb t (l .t) m)
+    let m : t < l .t = omega (arith, length-transitions (now (x .s)) (x .shape) (entry .pre .0), c .if1 .left) in
+    l .inv .3 .1 t ∙ ap (λ b. cond b (clockOf cs t) (getD (now (x .clocks)) t 0)) (lt-ltb t (l .t) m)
 
-pub clocks-of-spec : {M : Type 1} → statement M
-clocks-of-spec =
+pub fill-clocks-spec : {M : Type 1} → statement M
+fill-clocks-spec =
     tie.close
     (tie.spec
     Inv-loop
@@ -92,7 +94,7 @@ clocks-of-spec =
     loop-holds
     cast-i
     mul-clocks
-    array-write-clocks
+    element-write-clocks
     trigger-of-requires
     clocks-in-requires
     add-count
