@@ -2,7 +2,7 @@
 use mathlib.Core.Bool.{Bool, true, false}
 use mathlib.Core.Option.{Option, some, none}
 use Prim.Native.Nat.{ℕ, _+_, _^_}
-use lib.IntN.{ℤ, pos, negℤ}
+use lib.IntN.{ℤ, pos}
 use Rattle.records.specs.Refusal.{Refusal, refusalNumber, Out, val, fault}
 
 -- a fault's number, above the numbers of 32 bits
@@ -21,7 +21,3 @@ truthCode (fault w) = reasonCode w
 abbrev pub refusalCode : Option Refusal → ℕ
 refusalCode none = 0
 refusalCode (some w) = refusalNumber w
-
--- a refusal as a call's answer
-abbrev pub refusedCode : Refusal → ℤ
-refusedCode w = negℤ (pos (refusalNumber w))

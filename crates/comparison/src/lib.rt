@@ -9,19 +9,7 @@ ghost use Rattle.expressions.specs.Uses.{addUses, allOperands};
 ghost use Rattle.expressions.specs.Answers.{reasonOf};
 ghost use Rattle.records.specs.Framing.{framing as framingBy, counts as countsBy, firsts as firstsBy};
 ghost use Rattle.records.specs.Frame.{framingOf, unlessRefused};
-ghost use Rattle.records.specs.Refusal.{refusalNumber};
-ghost use Rattle.model.specs.ChartFile.{chartsRefusal};
-ghost use Rattle.chart_files.specs.Shape.{refusalFor};
 ghost use Rattle.comparison.specs.Codes.{numberCode, truthCode, reasonCode, refusalCode};
-
-pub mod runs;
-pub mod tables;
-pub mod traces;
-pub mod translations;
-pub mod twin_runs;
-
-use chart_files::Checked;
-use chart_files::Refusal;
 use expressions::arithmetic::Number;
 use expressions::arithmetic::Reason;
 use expressions::arithmetic::Truth;
@@ -185,31 +173,4 @@ pub extern "C" fn framing(
     *firsts = d;
     let a = f.answer;
     framing_number(a)
-}
-
-fn chart_refusal_number(w: Refusal) -> u8
-    ensures { λ r. ⌜ r ≡ refusalNumber (refusalFor w) ⌝ }
-{
-    match w {
-        Refusal::OddLength => 1,
-        Refusal::UnorderedKinds => 2,
-        Refusal::WrongAmounts => 3,
-        Refusal::StrayByte => 4,
-        Refusal::BrokenCode => 5,
-        Refusal::DanglingNumber => 6,
-        Refusal::BrokenStructure => 7,
-        Refusal::BrokenNode => 8,
-        Refusal::ZeroTicks => 9,
-    }
-}
-
-// The refusal's number, or 0.
-#[no_mangle]
-pub extern "C" fn chart_refusal(s: &[u8]) -> u8
-    ensures { λ r. ⌜ r ≡ refusalCode (chartsRefusal (now (s .entry))) ⌝ }
-{
-    match chart_files::check(s) {
-        Checked::Accepted(_) => 0,
-        Checked::Refused(w) => chart_refusal_number(w),
-    }
 }

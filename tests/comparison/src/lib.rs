@@ -1,11 +1,9 @@
-//! The proved functions, as safe Rust: each declaration is that of crate `comparison`.
+//! The proved functions, as safe Rust: here those of crate `comparison`, in `monuvaleck` the C interface.
 
-use simulator::ChartsRun;
-
+pub mod calls;
 pub mod met;
-pub mod tables;
-pub mod traces;
-pub mod twins;
+pub mod monuvaleck;
+pub mod sides;
 
 pub type Values = [i16; 64];
 
@@ -38,51 +36,6 @@ mod exported {
             counts: *mut [usize; 9],
             firsts: *mut [usize; 9],
         ) -> u8;
-        pub fn chart_refusal(bytes: *const u8, len: usize) -> u8;
-        pub fn charts_start(
-            set: *const u8,
-            len: usize,
-            states: *mut [u16; 8],
-            ages: *mut [u32; 8],
-            variables: *mut Values,
-            present: *mut u32,
-            position: *mut u32,
-            cycles: *mut u32,
-        ) -> i32;
-        pub fn charts_turn(
-            set: *const u8,
-            len: usize,
-            states: *mut [u16; 8],
-            ages: *mut [u32; 8],
-            variables: *mut Values,
-            present: *mut u32,
-            position: *mut u32,
-            cycles: *mut u32,
-            events: u32,
-        ) -> i32;
-        pub fn charts_cycle(
-            set: *const u8,
-            len: usize,
-            states: *mut [u16; 8],
-            ages: *mut [u32; 8],
-            variables: *mut Values,
-            present: *mut u32,
-            position: *mut u32,
-            cycles: *mut u32,
-            events: u32,
-        ) -> i32;
-        pub fn charts_play(
-            set: *const u8,
-            len: usize,
-            states: *mut [u16; 8],
-            ages: *mut [u32; 8],
-            variables: *mut Values,
-            present: *mut u32,
-            position: *mut u32,
-            cycles: *mut u32,
-            masks: *const u32,
-            masks_len: usize,
-        ) -> i32;
     }
 }
 
@@ -174,45 +127,4 @@ pub fn framing(bytes: &[u8], first: u8, most: &[u16]) -> (u8, [usize; 9], [usize
         )
     };
     (number, counts, firsts)
-}
-
-/// The refusal of a chart file, or 0.
-pub fn chart_refusal(bytes: &[u8]) -> u8 {
-    unsafe { exported::chart_refusal(bytes.as_ptr(), bytes.len()) }
-}
-
-/// A call on a set and a lent run, whose places it takes one by one, with what else it takes.
-macro_rules! call_charts {
-    ($call:ident, $set:expr, $run:expr $(, $more:expr)*) => {
-        unsafe {
-            exported::$call(
-                $set.as_ptr(),
-                $set.len(),
-                &mut $run.states,
-                &mut $run.ages,
-                &mut $run.variables,
-                &mut $run.events,
-                &mut $run.position,
-                &mut $run.cycles
-                $(, $more)*
-            )
-        }
-    };
-}
-
-/// The answers are those of the C interface: a refusal is minus its number.
-pub fn charts_start(set: &[u8], run: &mut ChartsRun) -> i32 {
-    call_charts!(charts_start, set, run)
-}
-
-pub fn charts_turn(set: &[u8], run: &mut ChartsRun, events: u32) -> i32 {
-    call_charts!(charts_turn, set, run, events)
-}
-
-pub fn charts_cycle(set: &[u8], run: &mut ChartsRun, events: u32) -> i32 {
-    call_charts!(charts_cycle, set, run, events)
-}
-
-pub fn charts_play(set: &[u8], run: &mut ChartsRun, masks: &[u32]) -> i32 {
-    call_charts!(charts_play, set, run, masks.as_ptr(), masks.len())
 }

@@ -1,8 +1,7 @@
 //! Sets beside their twins, through the proved code alone: the same calls, and after each the runs correspond.
 
 use comparison::met::Met;
-use comparison::twins::{automata_cycle, automata_start, automata_turn, charts_translate};
-use comparison::{charts_cycle, charts_start, charts_turn};
+use comparison::monuvaleck::{charts_translate, Stepped};
 use simulator::correspondence::correspond;
 use simulator::generate::calls::{call_list, events_of_set, Call};
 use simulator::generate::sets::{valid_set, Size};
@@ -28,7 +27,7 @@ impl Pair {
         out.truncate(length);
         let table = AutomataTable::read(&out).expect("a twin is accepted");
         let (mut charts, mut automata) = (ChartsRun::ZERO, AutomataRun::ZERO);
-        assert_eq!((charts_start(&set, &mut charts), automata_start(&out, &mut automata)), (0, 0));
+        assert_eq!((charts.start(&set), automata.start(&out)), (0, 0));
         Pair { set, twin: out, table, charts, automata }
     }
 
@@ -37,14 +36,12 @@ impl Pair {
         for call in calls {
             let before = self.charts;
             let (chart, edge) = match *call {
-                Call::Turn(events) => (
-                    charts_turn(&self.set, &mut self.charts, events),
-                    automata_turn(&self.twin, &mut self.automata, events),
-                ),
-                Call::Cycle(events) => (
-                    charts_cycle(&self.set, &mut self.charts, events),
-                    automata_cycle(&self.twin, &mut self.automata, events),
-                ),
+                Call::Turn(events) => {
+                    (self.charts.turn(&self.set, events), self.automata.turn(&self.twin, events))
+                }
+                Call::Cycle(events) => {
+                    (self.charts.cycle(&self.set, events), self.automata.cycle(&self.twin, events))
+                }
             };
             self.agree(*call, chart, edge, &before, met);
             assert!(

@@ -2,7 +2,7 @@
 //! broken alone, and on any bytes.
 
 use comparison::met::Met;
-use comparison::tables::automata_refusal;
+use comparison::monuvaleck::automata_check;
 use simulator::automata::{self, broken_clauses, AutomataTable, CLAUSES};
 use simulator::chart_sets::zero_watch;
 use simulator::generate::record_list::RecordList;
@@ -15,7 +15,7 @@ use simulator::{ChartSet, Random};
 /// Compares a file, and counts the clause that it breaks alone, or that it breaks several or none.
 fn compare(bytes: &[u8], met: &mut Met) {
     let right = automata::check(bytes);
-    assert_eq!(u32::from(automata_refusal(bytes)), right, "{bytes:?}");
+    assert_eq!(automata_check(bytes).unsigned_abs(), right, "{bytes:?}");
     let broken = broken_clauses(bytes);
     assert_eq!(broken.is_empty(), right == 0, "{broken:?} in {bytes:?}");
     met.add(match broken[..] {
@@ -27,7 +27,7 @@ fn compare(bytes: &[u8], met: &mut Met) {
 }
 
 fn accept(bytes: &[u8], origin: &str, met: &mut Met) {
-    assert_eq!((automata_refusal(bytes), automata::check(bytes)), (0, 0), "{bytes:?}");
+    assert_eq!((automata_check(bytes), automata::check(bytes)), (0, 0), "{bytes:?}");
     met.add("files");
     met.add(origin);
     let table = AutomataTable::read(bytes).expect("an accepted table");

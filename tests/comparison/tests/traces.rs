@@ -2,7 +2,7 @@
 //! The answer and all lent words are compared with the simulator's.
 
 use comparison::met::Met;
-use comparison::traces::path_back;
+use comparison::monuvaleck::path_back;
 use simulator::chart_sets::{relay, smallest};
 use simulator::generate::buffers::{lengths, words, FILL_WORD};
 use simulator::generate::calls::{events_of_set, mask};

@@ -1,8 +1,7 @@
 //! The translation, byte for byte: sets of all sizes, buffers exact, a byte short, longer and empty, and refused sets.
 
 use comparison::met::Met;
-use comparison::tables::automata_refusal;
-use comparison::twins::charts_translate;
+use comparison::monuvaleck::{automata_check, charts_translate};
 use simulator::chart_sets;
 use simulator::generate::buffers::{bytes, lengths, FILL};
 use simulator::generate::longest_twins::{longest, LENGTH};
@@ -45,7 +44,7 @@ fn translate(random: &mut Random, set: &[u8], met: &mut Met) {
     let mut out = bytes(twin.len());
     charts_translate(set, &mut out);
     assert!(out == twin);
-    assert_eq!(automata_refusal(&out), 0, "a twin is accepted");
+    assert_eq!(automata_check(&out), 0, "a twin is accepted");
     met.add("sets");
 }
 

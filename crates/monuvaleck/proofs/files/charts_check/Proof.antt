@@ -1,0 +1,39 @@
+-- `files::charts_check` meets its contract, by that of the reader. Assumes nothing.
+use mathlib.Core.Path.{_≡_, sym, ap, _∙_}
+use mathlib.Core.Option.{Option}
+use mir.Syntax.{w32}
+use mir.Val.{toZ, ofZ}
+use lib.IntN.{ℤ}
+use Rattle.records.specs.Refusal.{Refusal, val, unless-refused}
+use Rattle.model.specs.Calls.{numbered}
+use Rattle.chart_files.specs.Shape.{refusalOf}
+use Rattle.monuvaleck.specs.Numbers.{doneCode}
+use borrow.Author.Needs.{needs}
+use Rattle.monuvaleck.proofs.files.charts_check.Statement.{statement}
+use Rattle.monuvaleck.proofs.files.charts_check.Tie as tie
+
+abbrev told : Option Refusal → ℤ
+told o = numbered doneCode (unless-refused o (val tt))
+
+check-requires : tie.Need-check-requires
+check-requires c κs = search needs
+
+enum-told : tie.Need-enum-told
+enum-told c = search needs
+
+enum-known-w : tie.Need-enum-known-w
+enum-known-w c = search needs
+
+file-code-requires : tie.Need-file-code-requires
+file-code-requires c κs = search needs
+
+returns : tie.Need-returns
+returns c = ap (λ x. told (refusalOf x)) (sym (c .enum-told .given .1)) ∙ ap told (c .before .before .check .ensures .answer)
+
+returns-2 : tie.Need-returns-2
+returns-2 c =
+    let kept : toZ w32 (ofZ w32 (c .file-code .result)) ≡ c .file-code .result = search needs in
+    kept ∙ c .file-code .ensures ∙ ap (λ x. told (refusalOf x)) (sym (c .before .before .w .given .1)) ∙ ap told (c .before .before .before .before .check .ensures .answer)
+
+pub charts-check-spec : {M : Type 1} → statement M
+charts-check-spec = tie.close (tie.spec check-requires enum-told enum-known-w file-code-requires returns returns-2)

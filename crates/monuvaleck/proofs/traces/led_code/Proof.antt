@@ -1,0 +1,69 @@
+-- `traces::led_code` meets its contract: each answer has its number. Assumes nothing.
+use mathlib.Core.Path.{_≡_, refl, sym, ap, _∙_}
+use mir.Syntax.{w32}
+use mir.Val.{toZ, ofZ}
+use Prim.Native.Nat.{_≤_, _<_, _^_}
+use native.Mathlib.Omega.{arith}
+use mir.Facts.{toZ-pos}
+use Rattle.model.specs.Calls.{numbered}
+use Rattle.paths.specs.LedOf.{answerOf}
+use Rattle.monuvaleck.specs.Numbers.{countCode}
+use borrow.Author.Needs.{needs}
+use Rattle.monuvaleck.proofs.traces.led_code.Statement.{statement}
+use Rattle.monuvaleck.proofs.traces.led_code.Tie as tie
+
+enum-known-led : tie.Need-enum-known-led
+enum-known-led c = search needs
+
+-- what is cast is small
+cast-result : tie.Need-cast-result
+cast-result c =
+    let g = c .before .led .given in
+    let few = c .before .before .before .pre (g .0 .0) (ap answerOf (g .1)) in
+    let small : g .0 .0 < 2 ^ 31 = omega (arith, few) in
+    search (needs, small)
+
+enum-known-led-2 : tie.Need-enum-known-led-2
+enum-known-led-2 c = search needs
+
+file-code-requires : tie.Need-file-code-requires
+file-code-requires c κs = search needs
+
+enum-told : tie.Need-enum-told
+enum-told c = search needs
+
+enum-told-2 : tie.Need-enum-told-2
+enum-told-2 c = search needs
+
+returns : tie.Need-returns
+returns c =
+    let g = c .before .led .given in
+    let few = c .before .before .before .pre (g .0 .0) (ap answerOf (g .1)) in
+    let small : g .0 .0 < 2 ^ 31 = omega (arith, few) in
+    toZ-pos w32 small ∙ ap (λ x. numbered countCode (answerOf x)) (sym (g .1))
+
+returns-2 : tie.Need-returns-2
+returns-2 c =
+    let kept : toZ w32 (ofZ w32 (c .file-code .result)) ≡ c .file-code .result = search needs in
+    kept ∙ c .file-code .ensures ∙ ap (λ x. numbered countCode (answerOf x)) (sym (c .before .before .led2 .given .1))
+
+returns-3 : tie.Need-returns-3
+returns-3 c = ap (λ x. numbered countCode (answerOf x)) (sym (c .enum-told .given .1))
+
+returns-4 : tie.Need-returns-4
+returns-4 c = ap (λ x. numbered countCode (answerOf x)) (sym (c .enum-told2 .given .1))
+
+pub led-code-spec : {M : Type 1} → statement M
+led-code-spec =
+    tie.close
+    (tie.spec
+    enum-known-led
+    cast-result
+    enum-known-led-2
+    file-code-requires
+    enum-told
+    enum-told-2
+    returns
+    returns-2
+    returns-3
+    returns-4)
