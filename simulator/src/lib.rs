@@ -17,6 +17,7 @@ pub mod expressions;
 pub mod files;
 pub mod generate;
 pub mod interface;
+pub mod listing;
 pub mod node_rules;
 pub mod operators;
 pub mod path_back;

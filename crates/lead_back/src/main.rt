@@ -1,5 +1,4 @@
-// Leads a path of a set's twin back to the set's transitions. Reads the set from the file set.bin in the folder that it is run in, and the path from
-// standard input: 16-bit numbers, little-endian, of edges, and 65535 for time. Prints a line for each edge that came of a transition: cycle, chart,
+// Leads a path of a set's twin back to the set's transitions. The path is a file of 16-bit numbers, little-endian, of edges, and 65535 for time. Prints a line for each edge that came of a transition: cycle, chart,
 // transition. A refusal's number and meaning go to standard error, and nothing is printed.
 ghost use mathlib.Core.Path.{_≡_};
 ghost use Prim.Native.Nat.{_*_, _/_, _≤_};
@@ -7,15 +6,17 @@ ghost use lib.ListN.{length};
 ghost use Rattle.records.specs.Wrote.{Wrote};
 ghost use Rattle.lead_back.specs.Path.{numbers};
 use libc::STDERR_FILENO;
-use libc::STDIN_FILENO;
-use libc::STDOUT_FILENO;
+use messages::input::Form;
+use messages::input::argument;
+use messages::input::arguments;
 use messages::input::fill;
-use messages::input::no_arguments;
-use messages::input::read_set;
+use messages::input::read_file;
+use messages::numbers::path_number;
+use messages::numbers::rows_number;
 use messages::texts::row_into;
+use messages::words::print;
 use messages::words::tell_file;
-use messages::words::tell_path;
-use messages::words::tell_rows;
+use messages::words::tell_number;
 use paths::Led;
 use paths::path_back;
 
@@ -23,11 +24,7 @@ use paths::path_back;
 fn print_row(cycle: u32, chart: u32, transition: u32) -> bool {
     let mut text = io::buffer();
     let size = row_into(&mut text, cycle, chart, transition);
-    let written = io::write_all(STDOUT_FILENO, &text[..size]);
-    if !written {
-        os::fail(b"standard output");
-    }
-    written
+    print(&text[..size])
 }
 
 fn print_rows(rows: &[u32], count: usize)
@@ -46,8 +43,8 @@ fn print_rows(rows: &[u32], count: usize)
 fn lead(s: &[u8], path: &[u16], rows: &mut [u32]) {
     match path_back(s, path, rows) {
         Led::Refused(w) => tell_file(w),
-        Led::Broken => tell_path(),
-        Led::Short => tell_rows(),
+        Led::Broken => tell_number(path_number()),
+        Led::Short => tell_number(rows_number()),
         Led::Rows(n) => print_rows(rows, n),
     }
 }
@@ -78,19 +75,18 @@ fn lead_path(s: &[u8], bytes: &[u8]) {
     lead(s, &path[..count], &mut rows);
 }
 
-// Whether the input is a path that the program has room for; else it says so.
-fn is_path(size: usize) -> bool {
+// Whether the file is a path that the program has room for; else it says so.
+fn is_path(name: &[u8], size: usize) -> bool {
     if 262144 < size {
-        io::write_all(
-            STDERR_FILENO,
-            b"standard input: a path of more than 131,072 numbers\n",
-        );
+        io::write_all(STDERR_FILENO, name);
+        io::write_all(STDERR_FILENO, b": a path of more than 131,072 numbers\n");
         return false;
     }
     if size % 2 != 0 {
+        io::write_all(STDERR_FILENO, name);
         io::write_all(
             STDERR_FILENO,
-            b"standard input: a single byte after the last number of the path\n",
+            b": a single byte after the last number of the path\n",
         );
         return false;
     }
@@ -98,30 +94,53 @@ fn is_path(size: usize) -> bool {
 }
 
 // One byte more than the longest path is asked for.
-fn lead_file(s: &[u8]) {
+fn lead_file(s: &[u8], name: &[u8]) {
+    let fd = os::open_read(name);
+    if fd < 0 {
+        os::fail(name);
+        return;
+    }
     let mut bytes = [0u8; 262145];
-    let got = fill(STDIN_FILENO, &mut bytes);
+    let got = fill(fd, &mut bytes);
     if got.failed {
-        os::fail(b"standard input");
+        os::fail(name);
         return;
     }
     let size = got.size;
-    if is_path(size) {
+    if is_path(name, size) {
         lead_path(s, &bytes[..size]);
     }
 }
 
-fn main() {
-    if !no_arguments(
-        b"lead_back takes no arguments; it reads set.bin in the present folder, and a path from standard input\n",
-    ) {
-        return;
-    }
-    let mut file = io::large_buffer();
-    let got = read_set(&mut file);
+fn lead_named(set: &[u8], path: &[u8]) {
+    let mut file = [0u8; 262144];
+    let got = read_file(set, &mut file, Form::Set);
     if got.failed {
         return;
     }
     let size = got.size;
-    lead_file(&file[..size]);
+    lead_file(&file[..size], path);
+}
+
+fn main() {
+    if !arguments(
+        3,
+        3,
+        b"usage: lead_back SET PATH\nleads a path of the set's twin back: a row of cycle, chart and transition for each edge that came of a transition\n",
+    ) {
+        return;
+    }
+    let mut set = io::buffer();
+    let got = argument(1, &mut set);
+    if got.failed {
+        return;
+    }
+    let set_size = got.size;
+    let mut path = io::buffer();
+    let got = argument(2, &mut path);
+    if got.failed {
+        return;
+    }
+    let path_size = got.size;
+    lead_named(&set[..set_size], &path[..path_size]);
 }

@@ -10,12 +10,13 @@ use lib.IntN.{ℤ, pos}
 use lib.Signed.{mag}
 use Rattle.records.specs.Lists.{gather}
 use Rattle.model.specs.ChartSet.{ChartSet}
-use Rattle.model.specs.Runs.{Run, Answer, taken}
-use Rattle.model.specs.Replay.{decimal, signedDecimal, chosen, space, feed, line, turnLines}
+use Rattle.model.specs.Runs.{Run, Machine, Answer, taken, idle, time, Trace, done, stopped, turned}
+use Rattle.model.specs.Charts.{charts}
+use Rattle.model.specs.Replay.{decimal, signedDecimal, chosen, space, feed, turnLines, traceLines}
 use Rattle.model.proofs.ListLaws.{gather-append}
-use Rattle.lines.specs.Text.{chosenOf, variablesText, lineText}
+use Rattle.lines.specs.Text.{chosenOf, variablesText, lineText, lineIn, turnText, traceText}
 use Rattle.lines.specs.declared.Chosen.{Chosen}
-use Rattle.lines.specs.declared.Chosen.the-variants.{Transition, Idle}
+use Rattle.lines.specs.declared.Chosen.the-variants.{Taken, Idle}
 use Rattle.lines.proofs.Digits.{length-decimal, length-signed16}
 
 -- ---- variables
@@ -36,15 +37,22 @@ variables-more vs k h =
 
 -- ---- a line
 
--- the model's line is this text
-pub line-text : (cs : ChartSet) (r₀ : Run) (a : Answer) (r₁ : Run)
-    → line cs r₀ a r₁ ≡ lineText (r₀ .world .cycles) (r₀ .world .position - 1) a (getD (r₁ .at) (r₀ .world .position - 1) 0) (take (length (cs .variables)) (r₁ .world .vars))
-line-text cs r₀ a r₁ = refl
+-- of chart sets the text is the model's
+turn-text : (cs : ChartSet) (r₀ : Run) (a : Answer) (r₁ : Run) → turnText (charts cs) r₀ a r₁ ≡ turnLines cs r₀ a r₁
+turn-text cs r₀ (taken t) r₁ = refl
+turn-text cs r₀ idle r₁ = refl
+turn-text cs r₀ time r₁ = refl
 
--- and so are the lines of a chart's turn
-pub turn-text : (cs : ChartSet) (r₀ : Run) (c : Chosen) (r₁ : Run) → turnLines cs r₀ (chosenOf c) r₁ ≡ line cs r₀ (chosenOf c) r₁
-turn-text cs r₀ (Transition t) r₁ = refl
-turn-text cs r₀ Idle r₁ = refl
+pub trace-text : (cs : ChartSet) (t : Trace) → traceText (charts cs) t ≡ traceLines cs t
+unfolding traceText traceLines
+trace-text cs done = refl
+trace-text cs (stopped w) = refl
+trace-text cs (turned r₀ a r₁ t) = λ i. turn-text cs r₀ a r₁ i ++ trace-text cs t i
+
+-- the turn of a part has its line
+pub chosen-text : (m : Machine) (r₀ : Run) (c : Chosen) (r₁ : Run) → turnText m r₀ (chosenOf c) r₁ ≡ lineIn m r₀ (chosenOf c) r₁
+chosen-text m r₀ (Taken t) r₁ = refl
+chosen-text m r₀ Idle r₁ = refl
 
 length-variables : (vs : List ℤ) → ((k : ℕ) → k < length vs → mag (getD vs k (pos 0)) < 2 ^ 15) → length (variablesText vs) ≤ 7 * length vs
 unfolding gather

@@ -9,7 +9,7 @@ ghost use Rattle.lines.specs.Text.{chosenOf, headText, variablesText, li
 use records::put_byte;
 
 pub enum Chosen {
-    Transition(u16),
+    Taken(u16),
     Idle,
 }
 
@@ -54,7 +54,7 @@ fn put_chosen(out: &mut [u8], at: usize, chosen: Chosen) -> usize
     ensures { λ r. ⌜ Wrote (now (out .entry)) at (chosenText (chosenOf chosen)) (now (out .exit)) r × (r ≤ at + 5) ⌝ }
 {
     match chosen {
-        Chosen::Transition(t) => put_decimal(out, at, t as u32),
+        Chosen::Taken(t) => put_decimal(out, at, t as u32),
         Chosen::Idle => put_char(out, at, 45),
     }
 }

@@ -1,9 +1,13 @@
-// The file of a set, read whole; a file that is longer than any set is refused as it is read.
+// Arguments and files: a file named by an argument, read whole; one that is longer than any set or table is refused as it is read.
 ghost use Prim.Native.Nat.{_≤_};
 ghost use mathlib.Core.Path.{_≡_};
+ghost use lib.Dec.{leb};
 ghost use lib.ListN.{length};
 ghost use Rattle.io.specs.Counts.{Counts};
+ghost use Rattle.records.specs.Bytes.{byte};
+use crate::numbers::table_number;
 use crate::words::tell_file;
+use crate::words::tell_number;
 use libc::STDERR_FILENO;
 
 // So many bytes were read; where a read failed there may be more.
@@ -12,12 +16,57 @@ pub struct Got {
     pub size: usize,
 }
 
+// What a file is read as; either is told by the first record's kind.
+pub enum Form {
+    Set,
+    Table,
+    Either,
+}
+
 // A part of a long file: how much of it there is, and the last kind up to its end.
 struct Part {
     failed: bool,
     size: usize,
     kind: u8,
 }
+
+fn nothing() -> Got
+    ensures { λ r. ⌜ r .size ≡ 0 ⌝ }
+{
+    Got {
+        failed: true,
+        size: 0,
+    }
+}
+
+// ---- arguments
+
+// Whether there are from `least` to `most`, the program's own name among them; else its usage is told.
+pub fn arguments(least: usize, most: usize, usage: &[u8]) -> bool {
+    let count = os::arg_count();
+    if (count < least) | (most < count) {
+        io::write_all(STDERR_FILENO, usage);
+        return false;
+    }
+    true
+}
+
+// An argument at the start of `name`; one that does not fit is told.
+pub fn argument(i: usize, name: &mut [u8]) -> Got
+    ensures { λ r. ⌜ Counts (r .size) (now (name .exit)) ⌝ }
+{
+    let size = os::arg(i, name);
+    if os::errno() != 0 {
+        os::fail(b"file name");
+        return Got { failed: true, size };
+    }
+    Got {
+        failed: false,
+        size,
+    }
+}
+
+// ---- reading
 
 // Reads until the buffer is full or the input ends. Unlike `io::read_full` it tells a failed read from the end.
 pub fn fill(fd: i32, buf: &mut [u8]) -> Got
@@ -44,7 +93,14 @@ pub fn fill(fd: i32, buf: &mut [u8]) -> Got
     }
 }
 
-// ---- files that are longer than any set
+// Whether the first record is of a table's kinds, from 33 on.
+pub fn is_table(s: &[u8]) -> bool
+    ensures { λ r. ⌜ r ≡ leb 33 (byte (now (s .entry)) 0) ⌝ }
+{
+    33 <= records::byte_at(s, 0)
+}
+
+// ---- files that are longer than any set or table
 
 // The last kind of the whole records, which never descend from the kind given; 255 where they do or one is unknown.
 fn last_kind(s: &[u8], kind: u8) -> u8 {
@@ -82,14 +138,14 @@ fn long_refusal(size: usize, kind: u8) -> chart_files::Refusal {
     chart_files::Refusal::WrongAmounts
 }
 
-// A file with more than the first part, which is more than the most of all kinds together: it is read on, as refusals 1 and 2 depend on its end.
-fn refuse_long(fd: i32, buf: &mut [u8]) {
+// A set with more than the first part, which is more than the most of all kinds together: it is read on, as refusals 1 and 2 depend on its end.
+fn refuse_long(fd: i32, name: &[u8], buf: &mut [u8]) {
     let mut kind = last_kind(buf, 1);
     let mut left = u64::MAX;
     while 0 < left {
         let part = next_part(fd, buf, kind);
         if part.failed {
-            os::fail(b"set.bin");
+            os::fail(name);
             return;
         }
         kind = part.kind;
@@ -101,44 +157,37 @@ fn refuse_long(fd: i32, buf: &mut [u8]) {
     }
 }
 
-// ---- the set
-
-// Whether there are none but the program's own name; else it says so.
-pub fn no_arguments(usage: &[u8]) -> bool {
-    if 1 < os::arg_count() {
-        io::write_all(STDERR_FILENO, usage);
-        return false;
-    }
-    true
-}
-
-fn nothing() -> Got
-    ensures { λ r. ⌜ r .size ≡ 0 ⌝ }
-{
-    Got {
-        failed: true,
-        size: 0,
+// A table of that length is refused whatever its end.
+fn refuse_full(fd: i32, name: &[u8], buf: &mut [u8], form: Form) {
+    let table = match form {
+        Form::Set => false,
+        Form::Table => true,
+        Form::Either => is_table(buf),
+    };
+    if table {
+        tell_number(table_number());
+    } else {
+        refuse_long(fd, name, buf);
     }
 }
 
-// Reads set.bin in the present folder. Where it is missing, unreadable or longer than any set, that is told, and it counts as failed.
-pub fn read_set(buf: &mut [u8]) -> Got
-    requires { ⌜ 65536 ≡ length (now buf) ⌝ }
+// Reads a file into a buffer that is longer than any set or table. Where it is missing, unreadable or fills the buffer, that is told, and it counts as failed.
+pub fn read_file(name: &[u8], buf: &mut [u8], form: Form) -> Got
     ensures { λ r. ⌜ Counts (r .size) (now (buf .exit)) ⌝ }
 {
-    let fd = os::open_read(b"set.bin");
+    let fd = os::open_read(name);
     if fd < 0 {
-        os::fail(b"set.bin");
+        os::fail(name);
         return nothing();
     }
     let got = fill(fd, buf);
     if got.failed {
-        os::fail(b"set.bin");
+        os::fail(name);
         return got;
     }
     if got.size < buf.len() {
         return got;
     }
-    refuse_long(fd, buf);
+    refuse_full(fd, name, buf, form);
     nothing()
 }

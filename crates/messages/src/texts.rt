@@ -5,8 +5,7 @@ ghost use Prim.Native.Nat.{_+_, _≤_, _<_, _^_};
 ghost use lib.ListN.{length};
 ghost use Rattle.model.specs.Replay.{decimal};
 ghost use Rattle.records.specs.Wrote.{Wrote, Begins};
-ghost use Rattle.messages.specs.Texts.{rowText, partsText, contentsText, countsText};
-use chart_files::Shape;
+ghost use Rattle.messages.specs.Texts.{threeText, rowText, setText, placesText, tableText, acceptedWord, writtenWord, bytesWord};
 use lines::put_decimal;
 use records::put_byte;
 
@@ -32,45 +31,125 @@ pub fn put_counted(out: &mut [u8], at: usize, n: u32, word: &[u8]) -> usize
     put_text(out, next, word)
 }
 
-// The line of a row at the start; answers its length.
-pub fn row_into(out: &mut [u8], cycle: u32, chart: u32, transition: u32) -> usize
-    ensures { λ r. ⌜ Begins (now (out .entry)) (rowText cycle chart transition) (now (out .exit)) r × (r ≤ 33) ⌝ }
+// Three of them.
+fn put_three(
+    out: &mut [u8],
+    at: usize,
+    a: u32,
+    u: &[u8],
+    b: u32,
+    v: &[u8],
+    c: u32,
+    w: &[u8],
+) -> usize
+    requires { ⌜ (at < 2 ^ 60) × (length (now u) ≤ 16) × (length (now v) ≤ 16) × (length (now w) ≤ 16) ⌝ }
+    ensures { λ r. ⌜ Wrote (now (out .entry)) at (threeText a (now (u .entry)) b (now (v .entry)) c (now (w .entry))) (now (out .exit)) r × (r ≤ at + 78) ⌝ }
 {
-    let chart_at = put_counted(out, 0, cycle, b" ");
-    let transition_at = put_counted(out, chart_at, chart, b" ");
-    put_counted(out, transition_at, transition, b"\n")
+    let b_at = put_counted(out, at, a, u);
+    let c_at = put_counted(out, b_at, b, v);
+    put_counted(out, c_at, c, w)
 }
 
-// Charts, states and transitions.
-fn put_parts(out: &mut [u8], at: usize, shape: Shape) -> usize
-    requires { ⌜ at < 2 ^ 60 ⌝ }
-    ensures { λ r. ⌜ Wrote (now (out .entry)) at (partsText shape) (now (out .exit)) r × (r ≤ at + 62) ⌝ }
+// The line of a row at the start; answers its length.
+pub fn row_into(out: &mut [u8], cycle: u32, chart: u32, transition: u32) -> usize
+    ensures { λ r. ⌜ Begins (now (out .entry)) (rowText cycle chart transition) (now (out .exit)) r × (r ≤ 78) ⌝ }
 {
-    let states_at = put_counted(out, at, shape.charts as u32, b" charts, ");
-    let transitions_at = put_counted(out, states_at, shape.states as u32, b" states, ");
-    put_counted(
+    put_three(out, 0, cycle, b" ", chart, b" ", transition, b"\n")
+}
+
+// How many records a set has of each kind, to the line's end.
+fn put_set(out: &mut [u8], at: usize, shape: chart_files::Shape) -> usize
+    requires { ⌜ at < 2 ^ 59 ⌝ }
+    ensures { λ r. ⌜ Wrote (now (out .entry)) at (setText shape) (now (out .exit)) r × (r ≤ at + 156) ⌝ }
+{
+    let next = put_three(
         out,
-        transitions_at,
+        at,
+        shape.charts as u32,
+        b" charts, ",
+        shape.states as u32,
+        b" states, ",
         shape.transitions as u32,
         b" transitions, ",
+    );
+    put_three(
+        out,
+        next,
+        shape.variables as u32,
+        b" variables, ",
+        shape.nodes as u32,
+        b" nodes, ",
+        shape.actions as u32,
+        b" actions\n",
     )
 }
 
-// Variables, nodes and actions.
-fn put_contents(out: &mut [u8], at: usize, shape: Shape) -> usize
-    requires { ⌜ at < 2 ^ 60 ⌝ }
-    ensures { λ r. ⌜ Wrote (now (out .entry)) at (contentsText shape) (now (out .exit)) r × (r ≤ at + 59) ⌝ }
+// Automata, locations, edges, literals, clocks, variables.
+fn put_places(out: &mut [u8], at: usize, shape: automata_files::Shape) -> usize
+    requires { ⌜ at < 2 ^ 59 ⌝ }
+    ensures { λ r. ⌜ Wrote (now (out .entry)) at (placesText shape) (now (out .exit)) r × (r ≤ at + 156) ⌝ }
 {
-    let nodes_at = put_counted(out, at, shape.variables as u32, b" variables, ");
-    let actions_at = put_counted(out, nodes_at, shape.nodes as u32, b" nodes, ");
-    put_counted(out, actions_at, shape.actions as u32, b" actions\n")
+    let next = put_three(
+        out,
+        at,
+        shape.automata as u32,
+        b" automata, ",
+        shape.locations as u32,
+        b" locations, ",
+        shape.edges as u32,
+        b" edges, ",
+    );
+    put_three(
+        out,
+        next,
+        shape.literals as u32,
+        b" literals, ",
+        shape.clocks as u32,
+        b" clocks, ",
+        shape.variables as u32,
+        b" variables, ",
+    )
+}
+
+// How many records a table has of each kind, to the line's end.
+fn put_table(out: &mut [u8], at: usize, shape: automata_files::Shape) -> usize
+    requires { ⌜ at < 2 ^ 58 ⌝ }
+    ensures { λ r. ⌜ Wrote (now (out .entry)) at (tableText shape) (now (out .exit)) r × (r ≤ at + 234) ⌝ }
+{
+    let next = put_places(out, at, shape);
+    put_three(
+        out,
+        next,
+        shape.nodes as u32,
+        b" nodes, ",
+        shape.updates as u32,
+        b" updates, ",
+        shape.resets as u32,
+        b" resets\n",
+    )
 }
 
 // The line of an accepted set at the start; answers its length.
-pub fn counts_into(out: &mut [u8], shape: Shape) -> usize
-    ensures { λ r. ⌜ Begins (now (out .entry)) (countsText shape) (now (out .exit)) r × (r ≤ 131) ⌝ }
+pub fn set_into(out: &mut [u8], shape: chart_files::Shape) -> usize
+    ensures { λ r. ⌜ Begins (now (out .entry)) (acceptedWord ++ setText shape) (now (out .exit)) r × (r ≤ 300) ⌝ }
 {
-    let parts_at = put_text(out, 0, b"accepted: ");
-    let contents_at = put_parts(out, parts_at, shape);
-    put_contents(out, contents_at, shape)
+    let next = put_text(out, 0, b"accepted: ");
+    put_set(out, next, shape)
+}
+
+// The line of an accepted table at the start; answers its length.
+pub fn table_into(out: &mut [u8], shape: automata_files::Shape) -> usize
+    ensures { λ r. ⌜ Begins (now (out .entry)) (acceptedWord ++ tableText shape) (now (out .exit)) r × (r ≤ 300) ⌝ }
+{
+    let next = put_text(out, 0, b"accepted: ");
+    put_table(out, next, shape)
+}
+
+// The line of a twin of so many bytes at the start; answers its length.
+pub fn written_into(out: &mut [u8], size: u32, shape: automata_files::Shape) -> usize
+    ensures { λ r. ⌜ Begins (now (out .entry)) (writtenWord ++ (decimal size ++ bytesWord) ++ tableText shape) (now (out .exit)) r × (r ≤ 300) ⌝ }
+{
+    let size_at = put_text(out, 0, b"written: ");
+    let next = put_counted(out, size_at, size, b" bytes, ");
+    put_table(out, next, shape)
 }

@@ -1,4 +1,4 @@
-// Replays a chart set. Reads the set from the file set.bin in the folder that it is run in, and event masks of four bytes, little-endian, from standard
+// Replays a chart set: the file named, or set.bin in the folder that it is run in. Reads event masks of four bytes, little-endian, from standard
 // input; plays a cycle for each mask and prints a line for each chart's turn: cycle, chart, transition or -, state after, variables. It stops at a refusal
 // or fault, whose number and meaning go to standard error, at a partial mask, or at the end.
 ghost use Rattle.charts.specs.TurnOf.{Known};
@@ -11,14 +11,16 @@ use charts::tables::actions_of;
 use charts::tables::rows_of;
 use charts::turns::Ending;
 use libc::STDIN_FILENO;
-use libc::STDOUT_FILENO;
+use messages::input::Form;
+use messages::input::argument;
+use messages::input::arguments;
 use messages::input::fill;
-use messages::input::no_arguments;
-use messages::input::read_set;
+use messages::input::read_file;
+use messages::words::print;
 use messages::words::tell_fault;
 use messages::words::tell_file;
 use messages::words::tell_refusal;
-use replays::cycle_into;
+use replays::sets::cycle_into;
 
 // Whether to go on, and from which run.
 struct Played {
@@ -58,9 +60,7 @@ fn play_mask(
     let size = lined.size;
     let answer = lined.answer;
     let after = lined.run;
-    let written = io::write_all(STDOUT_FILENO, &text[..size]);
-    if !written {
-        os::fail(b"standard output");
+    if !print(&text[..size]) {
         return Played {
             going: false,
             run: after,
@@ -123,17 +123,33 @@ fn play_file(s: &[u8]) {
     }
 }
 
-fn main() {
-    if !no_arguments(
-        b"replay takes no arguments; it reads set.bin in the present folder, and event masks from standard input\n",
-    ) {
-        return;
-    }
-    let mut file = io::large_buffer();
-    let got = read_set(&mut file);
+fn play_named(name: &[u8]) {
+    let mut file = [0u8; 262144];
+    let got = read_file(name, &mut file, Form::Set);
     if got.failed {
         return;
     }
     let size = got.size;
     play_file(&file[..size]);
+}
+
+fn main() {
+    if !arguments(
+        1,
+        2,
+        b"usage: replay [SET]\nreplays a chart set, set.bin where none is named, by event masks of four bytes from standard input\n",
+    ) {
+        return;
+    }
+    if os::arg_count() < 2 {
+        play_named(b"set.bin");
+        return;
+    }
+    let mut name = io::buffer();
+    let got = argument(1, &mut name);
+    if got.failed {
+        return;
+    }
+    let size = got.size;
+    play_named(&name[..size]);
 }

@@ -1,2 +1,4 @@
 pub mod Played
+pub mod Sets
+pub mod Twins
 pub mod Loop

@@ -1,93 +1,103 @@
-// Translates a chart set into its automata twin. Reads the set from the file set.bin in the folder that it is run in, writes the twin's file to standard
-// output, and tells its length and how many records of each kind it has on standard error. A refusal's number and meaning go there too, and nothing to
-// standard output.
+// Translates a chart set into its automata twin, which it writes to a file, and tells the twin's length and how many records it has of each kind. The file is
+// made, or emptied, only once the twin is there; a refusal's number and meaning go to standard error.
 ghost use Prim.Native.Nat.{_≤_};
-use libc::STDERR_FILENO;
-use libc::STDOUT_FILENO;
-use messages::input::no_arguments;
-use messages::input::read_set;
-use messages::words::tell_buffer;
+ghost use lib.ListN.{length};
+use automata_files::Checked;
+use automata_files::Shape;
+use automata_files::shape_of;
+use messages::input::Form;
+use messages::input::argument;
+use messages::input::arguments;
+use messages::input::read_file;
+use messages::numbers::buffer_number;
+use messages::texts::written_into;
+use messages::words::print;
 use messages::words::tell_file;
+use messages::words::tell_number;
 use translation::Translated;
 use translation::translate;
 
-fn one_if(is: bool) -> u64
-    ensures { λ r. ⌜ r ≤ 1 ⌝ }
+fn print_written(size: u32, shape: Shape) {
+    let mut text = io::buffer();
+    let length = written_into(&mut text, size, shape);
+    print(&text[..length]);
+}
+
+// Whether all of it was written; else that is told.
+fn write_file(name: &[u8], bytes: &[u8]) -> bool {
+    let fd = os::open_overwrite(name);
+    if fd < 0 {
+        os::fail(name);
+        return false;
+    }
+    if !io::write_all(fd, bytes) {
+        os::fail(name);
+        return false;
+    }
+    if libc::close(fd) != 0 {
+        os::fail(name);
+        return false;
+    }
+    true
+}
+
+fn write_twin(name: &[u8], twin: &[u8])
+    requires { ⌜ length (now twin) ≤ 232576 ⌝ }
 {
-    if is { 1 } else { 0 }
-}
-
-// How many whole records are of a kind.
-fn count_of(twin: &[u8], kind: u8) -> u64 {
-    let mut count: u64 = 0;
-    let mut at: usize = 0;
-    while 16 <= twin.len() - at {
-        count += one_if(twin[at] == kind);
-        at += 16;
+    if !write_file(name, twin) {
+        return;
     }
-    count
-}
-
-fn tell_kind(twin: &[u8], kind: u8, word: &[u8]) {
-    let count = count_of(twin, kind);
-    io::print_decimal(STDERR_FILENO, count);
-    io::write_all(STDERR_FILENO, word);
-}
-
-fn tell_written(twin: &[u8]) {
-    io::write_all(STDERR_FILENO, b"written: ");
-    io::print_decimal(STDERR_FILENO, twin.len() as u64);
-    io::write_all(STDERR_FILENO, b" bytes, ");
-    tell_kind(twin, 33, b" automata, ");
-    tell_kind(twin, 34, b" locations, ");
-    tell_kind(twin, 35, b" edges, ");
-    tell_kind(twin, 36, b" literals, ");
-    tell_kind(twin, 37, b" clocks, ");
-    tell_kind(twin, 38, b" variables, ");
-    tell_kind(twin, 39, b" nodes, ");
-    tell_kind(twin, 40, b" updates, ");
-    tell_kind(twin, 41, b" resets\n");
-}
-
-fn write_twin(twin: &[u8]) {
-    let written = io::write_all(STDOUT_FILENO, twin);
-    if written {
-        tell_written(twin);
-    } else {
-        os::fail(b"standard output");
+    match shape_of(twin) {
+        Checked::Refused => (),
+        Checked::Accepted(shape) => print_written(twin.len() as u32, shape),
     }
 }
 
-fn translate_into(s: &[u8], twin: &mut [u8]) {
+// No twin is longer than this.
+fn translate_into(s: &[u8], name: &[u8], twin: &mut [u8])
+    requires { ⌜ length (now twin) ≤ 232576 ⌝ }
+{
     match translate(s, twin) {
         Translated::Refused(w) => tell_file(w),
-        Translated::Short => tell_buffer(),
-        Translated::Written(n) => write_twin(&twin[..n]),
+        Translated::Short => tell_number(buffer_number()),
+        Translated::Written(n) => write_twin(name, &twin[..n]),
     }
 }
 
-// No twin is longer than this buffer.
-fn translate_file(s: &[u8]) {
+fn translate_file(s: &[u8], name: &[u8]) {
     let mut twin = [0u8; 232576];
-    translate_into(s, &mut twin);
+    translate_into(s, name, &mut twin);
 }
 
-fn main() {
-    if !no_arguments(b"translate takes no arguments; it reads set.bin in the present folder\n") {
-        return;
-    }
-    if libc::isatty(STDOUT_FILENO) == 1 {
-        io::write_all(
-            STDERR_FILENO,
-            b"standard output is a terminal; send the twin to a file, as by: translate > twin.bin\n",
-        );
-        return;
-    }
-    let mut file = io::large_buffer();
-    let got = read_set(&mut file);
+fn translate_named(set: &[u8], twin: &[u8]) {
+    let mut file = [0u8; 262144];
+    let got = read_file(set, &mut file, Form::Set);
     if got.failed {
         return;
     }
     let size = got.size;
-    translate_file(&file[..size]);
+    translate_file(&file[..size], twin);
+}
+
+fn main() {
+    if !arguments(
+        3,
+        3,
+        b"usage: translate SET TWIN\ntranslates a chart set into its automata twin, which is written to the file TWIN\n",
+    ) {
+        return;
+    }
+    let mut set = io::buffer();
+    let got = argument(1, &mut set);
+    if got.failed {
+        return;
+    }
+    let set_size = got.size;
+    let mut twin = io::buffer();
+    let got = argument(2, &mut twin);
+    if got.failed {
+        return;
+    }
+    let twin_size = got.size;
+    translate_named(&set[..set_size], &twin[..twin_size]);
 }

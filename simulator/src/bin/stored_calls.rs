@@ -1,46 +1,108 @@
-//! Writes the stored calls of the programs `check_set`, `lead_back` and `translate`: of each a set, standard input, and
-//! what the program is to print, with what its message on standard error starts with and the exit status. The first
-//! argument is the folder that gets a folder for each program, and in that one for each call.
+//! Writes calls of the programs `check_file`, `lead_back`, `list`, `replay_twin` and `translate`: of each its arguments, its files, standard
+//! input, and what the program is to print and to write, with what its message on standard error starts with and the exit
+//! status. The first argument is the folder that gets a folder for each program, and in that one for each call. Written are
+//! the stored calls; with a second argument, so many generated ones of each kind of file.
 
 use simulator::assemble::*;
 use simulator::chart_sets;
+use simulator::generate::calls::{events_of_table, mask};
+use simulator::generate::longest_twins::longest;
+use simulator::generate::{set_damage, sets, table_damage, tables};
+use simulator::listing::listing;
+use simulator::operators::*;
 use simulator::path_back::rows_of;
-use simulator::refusals::Refusal;
+use simulator::refusals::{self, Refusal};
+use simulator::replay::replay_twin;
 use simulator::translation::{translate, twin};
-use simulator::{Answer, AutomataTable, ChartSet, Machine};
+use simulator::{automata, charts, Answer, AutomataTable, ChartSet, Machine, Random};
 use std::path::Path;
 use std::{env, fs, io};
 
 /// The most bytes of a set.
 const LARGEST: usize = 31_872;
 /// The bytes that the programs read at once.
-const LONG: usize = 65_536;
+const LONG: usize = 262_144;
 /// The most bytes of a twin.
 const LARGEST_TWIN: usize = 232_576;
 /// Time, in a path.
 const TIME: u16 = 65_535;
 
-/// A name; the set, or no file; standard input.
-type Call = (&'static str, Option<Vec<u8>>, Vec<u8>);
+/// A name; the file, or none; the path, or standard input.
+type Call = (String, Option<Vec<u8>>, Vec<u8>);
 
-/// What is printed, what the message starts with, and the status.
+/// What is printed, what is written to a file, what the message starts with, the record that it tells, and the status.
 struct Expected {
     printed: Vec<u8>,
+    written: Option<Vec<u8>>,
     message: String,
+    record: Option<usize>,
     status: u8,
 }
 
+/// A program: its name, the words that it is called with, the names of its first file and of its path, and what it does.
+struct Program {
+    name: &'static str,
+    words: &'static [&'static str],
+    file: &'static str,
+    input: &'static str,
+    answer: fn(&[u8], &[u8]) -> Expected,
+}
+
+const PROGRAMS: [Program; 5] = [
+    Program {
+        name: "check_file",
+        words: &["file.bin"],
+        file: "file.bin",
+        input: "input.bin",
+        answer: checked,
+    },
+    Program {
+        name: "lead_back",
+        words: &["set.bin", "path.bin"],
+        file: "set.bin",
+        input: "path.bin",
+        answer: led_back,
+    },
+    Program { name: "list", words: &["file.bin"], file: "file.bin", input: "input.bin", answer: listed },
+    Program {
+        name: "replay_twin",
+        words: &["twin.bin"],
+        file: "twin.bin",
+        input: "input.bin",
+        answer: twin_replayed,
+    },
+    Program {
+        name: "translate",
+        words: &["set.bin", "twin.bin"],
+        file: "set.bin",
+        input: "input.bin",
+        answer: translated,
+    },
+];
+
 impl Expected {
-    fn printed(printed: Vec<u8>, message: &str) -> Self {
-        Expected { printed, message: message.into(), status: 0 }
+    fn printed(printed: String) -> Self {
+        Expected {
+            printed: printed.into_bytes(),
+            written: None,
+            message: String::new(),
+            record: None,
+            status: 0,
+        }
     }
 
     fn refused(number: Refusal) -> Self {
-        Expected { printed: Vec::new(), message: format!("refusal {number}"), status: 1 }
+        Expected {
+            printed: Vec::new(),
+            written: None,
+            message: format!("refusal {number}"),
+            record: None,
+            status: 1,
+        }
     }
 
     fn unread(what: &str) -> Self {
-        Expected { printed: Vec::new(), message: what.into(), status: 2 }
+        Expected { printed: Vec::new(), written: None, message: what.into(), record: None, status: 2 }
     }
 }
 
@@ -100,12 +162,32 @@ fn damaged(at: usize, byte: u8) -> Vec<u8> {
 /// The same calls for every program, with an input that each takes.
 fn common(input: &[u8]) -> Vec<Call> {
     vec![
-        ("zero_watch", Some(chart_sets::zero_watch()), input.to_vec()),
-        ("no_set", None, input.to_vec()),
-        ("empty_set", Some(Vec::new()), input.to_vec()),
-        ("refused_set", Some(equal_priorities()), input.to_vec()),
-        ("oversized_set", Some(charts_of(LARGEST + 16)), input.to_vec()),
+        call("zero_watch", chart_sets::zero_watch(), input),
+        (String::from("no_file"), None, input.to_vec()),
+        call("empty_set", Vec::new(), input),
+        call("refused_set", equal_priorities(), input),
+        call("oversized_set", charts_of(LARGEST + 16), input),
     ]
+}
+
+fn call(name: &str, file: Vec<u8>, input: &[u8]) -> Call {
+    (String::from(name), Some(file), input.to_vec())
+}
+
+/// The twin of an accepted set.
+fn twin_of(set: &[u8]) -> Vec<u8> {
+    twin(&ChartSet::read(set).expect("an accepted set"))
+}
+
+/// The zero-watch set's twin with one byte changed.
+fn damaged_twin(at: usize, byte: u8) -> Vec<u8> {
+    let mut table = twin_of(&chart_sets::zero_watch());
+    table[at] = byte;
+    table
+}
+
+fn masks(list: &[u32]) -> Vec<u8> {
+    list.iter().flat_map(|mask| mask.to_le_bytes()).collect()
 }
 
 fn check_calls() -> Vec<Call> {
@@ -124,8 +206,17 @@ fn check_calls() -> Vec<Call> {
             ("long_set", charts_of(LONG)),
             ("long_odd", charts_of(LONG + 5)),
             ("long_unordered", long_unordered()),
+            ("zero_watch_twin", twin_of(&chart_sets::zero_watch())),
+            ("relay_twin", twin_of(&chart_sets::relay())),
+            ("winch_twin", twin_of(&chart_sets::winch())),
+            ("table_odd_length", with_rest(twin_of(&chart_sets::zero_watch()), &[33])),
+            ("table_unordered", damaged_twin(16, 33 + 9)),
+            ("table_stray_byte", damaged_twin(15, 1)),
+            ("table_code", damaged_twin(4 * 16 + 6, 2)),
+            ("table_named_nothing", damaged_twin(2, 3)),
+            ("long_table", [33].into_iter().chain([0; 15]).cycle().take(LONG + 5).collect()),
         ]
-        .map(|(name, set)| (name, Some(set), Vec::new())),
+        .map(|(name, file)| call(name, file, &[])),
     );
     calls
 }
@@ -133,20 +224,96 @@ fn check_calls() -> Vec<Call> {
 fn path_calls() -> Vec<Call> {
     let watched = taken(&chart_sets::zero_watch(), &[0, 1, 1, 2, 0]);
     let mut calls = common(&path(&watched));
-    let zero_watch = Some(chart_sets::zero_watch());
     let relay = taken(&chart_sets::relay(), &[0, 1, 1, 64, 32, 33, 0]);
-    calls.extend([
-        ("relay", Some(chart_sets::relay()), path(&relay)),
-        ("no_path", zero_watch.clone(), Vec::new()),
-        ("within_a_cycle", zero_watch.clone(), path(&watched[..7])),
-        ("odd_path", zero_watch.clone(), with_rest(path(&watched), &[0])),
-        ("single_byte", zero_watch.clone(), vec![0]),
-        ("no_edge", zero_watch.clone(), path(&[0, TIME, 7])),
-        ("time_first", zero_watch.clone(), path(&[TIME])),
-        ("two_edges", zero_watch.clone(), path(&[0, 2])),
-        ("elsewhere", zero_watch.clone(), path(&[0, TIME, 3])),
-        ("broken_and_refused", Some(equal_priorities()), path(&[9])),
-    ]);
+    calls.extend(
+        [
+            ("empty_path", Vec::new()),
+            ("within_a_cycle", path(&watched[..7])),
+            ("odd_path", with_rest(path(&watched), &[0])),
+            ("single_byte", vec![0]),
+            ("no_edge", path(&[0, TIME, 7])),
+            ("time_first", path(&[TIME])),
+            ("two_edges", path(&[0, 2])),
+            ("elsewhere", path(&[0, TIME, 3])),
+        ]
+        .map(|(name, path)| call(name, chart_sets::zero_watch(), &path)),
+    );
+    calls.push(call("relay", chart_sets::relay(), &path(&relay)));
+    calls.push(call("broken_and_refused", equal_priorities(), &path(&[9])));
+    calls
+}
+
+/// One expression with every operator.
+fn every_operator() -> Vec<u8> {
+    let nodes = [
+        constant(1),
+        constant(-2),
+        operation(EQUAL, &[0, 1]),
+        variable_value(0),
+        constant(i32::MAX),
+        operation(LESS, &[3, 4]),
+        operation(OR, &[2, 5]),
+        constant(0),
+        constant(32_767),
+        operation(AT_MOST, &[7, 8]),
+        operation(AND, &[6, 9]),
+        operation(NOT, &[10]),
+        variable_value(0),
+        constant(10),
+        operation(SUM, &[12, 13]),
+        constant(4),
+        operation(PRODUCT, &[14, 15]),
+        constant(-1),
+        operation(DIFFERENCE, &[16, 17]),
+        constant(3),
+        operation(QUOTIENT, &[18, 19]),
+        constant(i32::MIN),
+        operation(REMAINDER, &[20, 21]),
+        constant(-32_768),
+        operation(CHOICE, &[11, 22, 23]),
+    ];
+    chart_sets::one_expression(i16::MIN, i16::MAX, -1, &nodes)
+}
+
+fn list_calls() -> Vec<Call> {
+    let mut calls = vec![(String::from("no_file"), None, Vec::new())];
+    for (name, set) in chart_sets::all() {
+        let name = name.replace(' ', "_");
+        calls.push(call(&format!("{name}_twin"), twin_of(&set), &[]));
+        calls.push(call(&name, set, &[]));
+    }
+    calls.extend(
+        [
+            ("every_operator", every_operator()),
+            ("every_operator_twin", twin_of(&every_operator())),
+            ("empty_set", Vec::new()),
+            ("refused_set", equal_priorities()),
+            ("oversized_set", charts_of(LARGEST + 16)),
+            ("unordered", damaged(0, 7)),
+            ("stray_byte", damaged(15, 1)),
+            ("code", damaged(4 * 16 + 1, 17)),
+            ("table_code", damaged_twin(4 * 16 + 6, 2)),
+            ("table_named_nothing", damaged_twin(2, 3)),
+        ]
+        .map(|(name, file)| call(name, file, &[])),
+    );
+    calls
+}
+
+fn twin_calls() -> Vec<Call> {
+    let watched = masks(&[0, 1, 1, 2, 0]);
+    let mut calls = vec![
+        (String::from("no_file"), None, watched.clone()),
+        call("no_masks", twin_of(&chart_sets::zero_watch()), &[]),
+        call("partial_mask", twin_of(&chart_sets::zero_watch()), &with_rest(watched.clone(), &[1, 0, 0])),
+        call("a_set", chart_sets::zero_watch(), &watched),
+        call("refused_table", damaged_twin(2, 3), &watched),
+        call("none_open", damaged_twin(4 * 16 + 2, 1), &watched),
+        call("two_open", damaged_twin(16 * 16 + 1, 1), &watched),
+    ];
+    calls.extend(chart_sets::all().into_iter().map(|(name, set)| {
+        call(&name.replace(' ', "_"), twin_of(&set), &masks(&[0, 1, 3, 64, 32, 33, 2, 1, 0]))
+    }));
     calls
 }
 
@@ -159,34 +326,73 @@ fn translate_calls() -> Vec<Call> {
             ("relay", chart_sets::relay()),
             ("action_order", chart_sets::action_order()),
         ]
-        .map(|(name, set)| (name, Some(set), Vec::new())),
+        .map(|(name, set)| call(name, set, &[])),
     );
     calls
 }
 
-fn counts(set: &[u8]) -> String {
-    let count = |kind: u8| set.chunks(16).filter(|record| record[0] == kind).count();
-    format!(
-        "accepted: {} charts, {} states, {} transitions, {} variables, {} nodes, {} actions\n",
-        count(1),
-        count(2),
-        count(3),
-        count(4),
-        count(5),
-        count(6)
-    )
+/// How many records there are of each kind, from the first on, with their words.
+fn counts(file: &[u8], first: u8, words: &[&str]) -> String {
+    let count = |kind: u8| file.chunks(16).filter(|record| record[0] == kind).count();
+    let counted: Vec<String> =
+        (first..).zip(words).map(|(kind, word)| format!("{} {word}", count(kind))).collect();
+    format!("{}\n", counted.join(", "))
 }
 
-fn checked(set: &[u8], _: &[u8]) -> Expected {
-    match ChartSet::read(set) {
-        Ok(_) => Expected::printed(counts(set).into_bytes(), ""),
-        Err(number) => Expected::refused(number),
+fn table_counts(table: &[u8]) -> String {
+    let words =
+        ["automata", "locations", "edges", "literals", "clocks", "variables", "nodes", "updates", "resets"];
+    counts(table, 33, &words)
+}
+
+/// A table by its first record's kind, else a set.
+fn is_table(file: &[u8]) -> bool {
+    file.first().is_some_and(|kind| *kind >= 33)
+}
+
+/// What is printed of a file that is accepted; else its refusal.
+fn where_accepted(file: &[u8], text: fn(&[u8]) -> String) -> Expected {
+    let read =
+        if is_table(file) { AutomataTable::read(file).map(|_| ()) } else { ChartSet::read(file).map(|_| ()) };
+    match read {
+        Ok(()) => Expected::printed(text(file)),
+        Err(number) => Expected { record: broken_record(file, number), ..Expected::refused(number) },
+    }
+}
+
+fn checked(file: &[u8], _: &[u8]) -> Expected {
+    where_accepted(file, |file| {
+        let words = ["charts", "states", "transitions", "variables", "nodes", "actions"];
+        let counts = if is_table(file) { table_counts(file) } else { counts(file, 1, &words) };
+        format!("accepted: {counts}")
+    })
+}
+
+fn listed(file: &[u8], _: &[u8]) -> Expected {
+    where_accepted(file, listing)
+}
+
+/// The first whole record that breaks a rule by itself: that of the refusal of a set, and of a table the first of three.
+/// A file that is not read whole has none.
+fn broken_record(file: &[u8], number: Refusal) -> Option<usize> {
+    if file.len() >= LONG {
+        return None;
+    }
+    let breaks = |test: &dyn Fn(&[u8]) -> bool| file.chunks_exact(16).position(test);
+    match number {
+        refusals::KIND | refusals::STRAY_BYTE | refusals::CODE_OR_RANGE | refusals::ZERO_TICKS => {
+            breaks(&|record| charts::applying(record)[number as usize])
+        }
+        refusals::AUTOMATA_FILE => ["kinds", "stray byte", "code or range"]
+            .iter()
+            .find_map(|clause| breaks(&|record| automata::broken_clauses(record).contains(clause))),
+        _ => None,
     }
 }
 
 fn led_back(set: &[u8], input: &[u8]) -> Expected {
     if input.len() % 2 != 0 {
-        return Expected::unread("standard input");
+        return Expected::unread("path.bin");
     }
     let numbers: Vec<u16> = input.chunks(2).map(|pair| u16::from_le_bytes([pair[0], pair[1]])).collect();
     match ChartSet::read(set).and_then(|set| rows_of(&set, &numbers)) {
@@ -195,7 +401,7 @@ fn led_back(set: &[u8], input: &[u8]) -> Expected {
                 .iter()
                 .map(|[cycle, chart, transition]| format!("{cycle} {chart} {transition}\n"))
                 .collect();
-            Expected::printed(lines.into_bytes(), "")
+            Expected::printed(lines)
         }
         Err(number) => Expected::refused(number),
     }
@@ -206,37 +412,108 @@ fn translated(set: &[u8], _: &[u8]) -> Expected {
     match translate(set, &mut out) {
         Ok(len) => {
             out.truncate(len);
-            Expected::printed(out, "written")
+            let mut expected = Expected::printed(format!("written: {len} bytes, {}", table_counts(&out)));
+            expected.written = Some(out);
+            expected
         }
         Err(number) => Expected::refused(number),
     }
 }
 
-fn write_call(folder: &Path, set: &Option<Vec<u8>>, input: &[u8], expected: &Expected) -> io::Result<()> {
-    fs::create_dir_all(folder)?;
-    if let Some(set) = set {
-        fs::write(folder.join("set.bin"), set)?;
+/// Refusals come before a turn, faults in one.
+fn twin_replayed(table: &[u8], input: &[u8]) -> Expected {
+    let played = replay_twin(table, input);
+    let mut expected = Expected::printed(played.lines);
+    if let Some(number) = played.refusal {
+        let word = if number >= refusals::OUT_OF_RANGE { "fault" } else { "refusal" };
+        expected.message = format!("{word} {number}");
+        expected.status = 1;
     }
-    fs::write(folder.join("input.bin"), input)?;
+    expected
+}
+
+fn write_call(folder: &Path, program: &Program, file: &Option<Vec<u8>>, input: &[u8]) -> io::Result<()> {
+    let expected = match file {
+        None => Expected::unread(program.file),
+        Some(file) => (program.answer)(file, input),
+    };
+    fs::create_dir_all(folder)?;
+    if let Some(file) = file {
+        fs::write(folder.join(program.file), file)?;
+    }
+    if let Some(written) = expected.written {
+        fs::write(folder.join("expected.bin"), written)?;
+    }
+    fs::write(folder.join(program.input), input)?;
+    fs::write(folder.join("args"), program.words.join("\n") + "\n")?;
+    if ["check_file", "list"].contains(&program.name) {
+        let record = expected.record.map_or(String::new(), |record| record.to_string());
+        fs::write(folder.join("expected.record"), record + "\n")?;
+    }
     fs::write(folder.join("expected.out"), &expected.printed)?;
     fs::write(folder.join("expected.err"), format!("{}\n", expected.message))?;
     fs::write(folder.join("expected.status"), format!("{}\n", expected.status))
 }
 
+/// A file of every kind: an accepted set, a damaged one, an accepted table, a damaged one; whichever there is.
+fn any_file(random: &mut Random) -> Option<Vec<u8>> {
+    match random.below(4) {
+        0 => Some(sets::any_valid_set(random)),
+        1 => {
+            let set = sets::any_valid_set(random);
+            let damage = &set_damage::DAMAGES[random.below(set_damage::DAMAGES.len())];
+            set_damage::damage(random, &set, damage).map(|damaged| damaged.bytes)
+        }
+        2 => Some(tables::any_table(random)),
+        _ => {
+            let table = tables::any_table(random);
+            let damage = &table_damage::DAMAGES[random.below(table_damage::DAMAGES.len())];
+            table_damage::damage(random, &table, damage)
+        }
+    }
+}
+
+/// A table that is played, mostly with events that it knows.
+fn any_play(random: &mut Random) -> (Vec<u8>, Vec<u8>) {
+    let bytes = tables::any_table(random);
+    let known = events_of_table(&AutomataTable::read(&bytes).expect("an accepted table"));
+    let list: Vec<u32> = (0..20).map(|_| mask(random, known)).collect();
+    (bytes, masks(&list))
+}
+
+/// A set with the most of each kind, and its twin.
+fn largest(random: &mut Random) -> [Call; 2] {
+    let set = longest(random);
+    [call("largest_twin", twin_of(&set), &[]), call("largest", set, &[])]
+}
+
+fn generated(count: usize) -> [Vec<Call>; 5] {
+    let mut random = Random::new(4);
+    let mut numbered = |make: &mut dyn FnMut(&mut Random) -> Option<(Vec<u8>, Vec<u8>)>| -> Vec<Call> {
+        (0..count)
+            .filter_map(|k| {
+                make(&mut random).map(|(file, input)| call(&format!("generated_{k}"), file, &input))
+            })
+            .collect()
+    };
+    let mut any = |random: &mut Random| any_file(random).map(|file| (file, Vec::new()));
+    let checked = numbered(&mut any);
+    let played = numbered(&mut |random| Some(any_play(random)));
+    let translated = numbered(&mut any);
+    let mut listed = numbered(&mut any);
+    listed.extend(largest(&mut random));
+    [checked, Vec::new(), listed, played, translated]
+}
+
 fn main() -> io::Result<()> {
     let target = env::args().nth(1).expect("the folder to write to");
-    let programs: [(&str, Vec<Call>, fn(&[u8], &[u8]) -> Expected); 3] = [
-        ("check_set", check_calls(), checked),
-        ("lead_back", path_calls(), led_back),
-        ("translate", translate_calls(), translated),
-    ];
-    for (program, calls, answer) in programs {
-        for (name, set, input) in calls {
-            let expected = match &set {
-                None => Expected::unread("set.bin"),
-                Some(set) => answer(set, &input),
-            };
-            write_call(&Path::new(&target).join(program).join(name), &set, &input, &expected)?;
+    let calls = match env::args().nth(2) {
+        None => [check_calls(), path_calls(), list_calls(), twin_calls(), translate_calls()],
+        Some(count) => generated(count.parse().expect("how many")),
+    };
+    for (program, calls) in PROGRAMS.iter().zip(calls) {
+        for (name, file, input) in calls {
+            write_call(&Path::new(&target).join(program.name).join(name), program, &file, &input)?;
         }
     }
     Ok(())

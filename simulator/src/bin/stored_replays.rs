@@ -12,8 +12,8 @@ use simulator::variables::Variable;
 use std::path::Path;
 use std::{env, fs, io};
 
-/// The bytes that the replay program reads at once, more than twice those of the largest set.
-const LONG: usize = 65_536;
+/// The bytes that the replay program reads at once, more than those of the largest set.
+const LONG: usize = 262_144;
 
 /// A name; the set, or no file; the masks.
 type Case = (&'static str, Option<Vec<u8>>, Vec<u8>);

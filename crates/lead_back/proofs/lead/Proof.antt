@@ -18,14 +18,20 @@ tell-file-requires c κs = search needs
 enum-told : tie.Need-enum-told
 enum-told c = search needs
 
-tell-path-requires : tie.Need-tell-path-requires
-tell-path-requires c κs = search needs
+path-number-requires : tie.Need-path-number-requires
+path-number-requires c κs = search needs
+
+tell-number-requires : tie.Need-tell-number-requires
+tell-number-requires c κs = search needs
 
 enum-told-2 : tie.Need-enum-told-2
 enum-told-2 c = search needs
 
-tell-rows-requires : tie.Need-tell-rows-requires
-tell-rows-requires c κs = search needs
+rows-number-requires : tie.Need-rows-number-requires
+rows-number-requires c κs = search needs
+
+tell-number-requires-2 : tie.Need-tell-number-requires-2
+tell-number-requires-2 c κs = search needs
 
 enum-known-n : tie.Need-enum-known-n
 enum-known-n c = search needs
@@ -69,9 +75,11 @@ lead-spec =
     enum-known-w
     tell-file-requires
     enum-told
-    tell-path-requires
+    path-number-requires
+    tell-number-requires
     enum-told-2
-    tell-rows-requires
+    rows-number-requires
+    tell-number-requires-2
     enum-known-n
     print-rows-requires
     same-length

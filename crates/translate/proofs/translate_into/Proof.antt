@@ -20,8 +20,11 @@ tell-file-requires c κs = search needs
 enum-told : tie.Need-enum-told
 enum-told c = search needs
 
-tell-buffer-requires : tie.Need-tell-buffer-requires
-tell-buffer-requires c κs = search needs
+buffer-number-requires : tie.Need-buffer-number-requires
+buffer-number-requires c κs = search needs
+
+tell-number-requires : tie.Need-tell-number-requires
+tell-number-requires c κs = search needs
 
 enum-known-n : tie.Need-enum-known-n
 enum-known-n c = search needs
@@ -29,7 +32,7 @@ enum-known-n c = search needs
 slice-reshare-prefix-write-twin : tie.Need-slice-reshare-prefix-write-twin
 slice-reshare-prefix-write-twin c =
     let call = c .before .before .before .before .before .translate in
-    let a = c .before .before .before .before .before .before .before .before .before .args in
+    let a = c .before .before .before .before .before .before .before .before .before .before .args in
     let fits = room (now (a .s)) (now (a .twin)) (call .last .1 .0) (call .result) (call .ensures) (c .before .n .given .0 .0) (c .before .n .given .1) in
     omega (arith, fits, call .kept .1 .0)
 
@@ -37,7 +40,11 @@ slice-aggregate-write-twin : tie.Need-slice-aggregate-write-twin
 slice-aggregate-write-twin c = sym (length-take-le (c .before .before .n .given .0 .0) _ (slice-reshare-prefix-write-twin (c .before)))
 
 write-twin-requires : tie.Need-write-twin-requires
-write-twin-requires c κs = search needs
+write-twin-requires c κs =
+    let n = c .before .before .n .given .0 .0 in
+    let call = c .before .before .before .before .before .before .translate in
+    let h = length-take-le n (call .last .1 .0) (slice-reshare-prefix-write-twin (c .before)) in
+    omega (arith, h, slice-reshare-prefix-write-twin (c .before), call .kept .1 .0)
 
 same-length : tie.Need-same-length
 same-length c = search needs
@@ -65,7 +72,8 @@ translate-into-spec =
     enum-known-w
     tell-file-requires
     enum-told
-    tell-buffer-requires
+    buffer-number-requires
+    tell-number-requires
     enum-known-n
     slice-reshare-prefix-write-twin
     slice-aggregate-write-twin

@@ -6,10 +6,10 @@ use Rattle.messages.proofs.input.refuse_long.Statement.{statement}
 use Rattle.messages.proofs.input.refuse_long.Tie as tie
 
 abbrev Inv-loop : tie.InvT-loop
-Inv-loop fd buf₀ kind₀ left₀ t6 buf kind left = length buf ≡ length buf₀
+Inv-loop fd name buf₀ kind₀ left₀ buf kind left = length buf ≡ length buf₀
 
 abbrev μ-loop : tie.MeasureT-loop
-μ-loop fd buf₀ kind₀ left₀ t6 buf kind left = left
+μ-loop fd name buf₀ kind₀ left₀ buf kind left = left
 
 last-kind-requires : tie.Need-last-kind-requires Inv-loop μ-loop
 last-kind-requires c κs = search needs
@@ -19,9 +19,6 @@ loop-holds c = search needs
 
 next-part-requires : tie.Need-next-part-requires Inv-loop μ-loop
 next-part-requires c κs = search needs
-
-slice-aggregate-fail : tie.Need-slice-aggregate-fail Inv-loop μ-loop
-slice-aggregate-fail c = search needs
 
 fail-requires : tie.Need-fail-requires Inv-loop μ-loop
 fail-requires c κs = search needs
@@ -68,7 +65,6 @@ refuse-long-spec =
     last-kind-requires
     loop-holds
     next-part-requires
-    slice-aggregate-fail
     fail-requires
     same-length
     returns

@@ -1,0 +1,79 @@
+// The lines of a chart set's records, without their ends.
+ghost use Prim.Native.Nat.{_+_, _≤_, _<_, _^_};
+use super::fields::one;
+use super::fields::put_deed;
+use super::fields::put_guard;
+use super::fields::two;
+use super::texts::put_measured;
+use super::texts::put_named;
+use super::texts::put_word;
+use chart_files::fields::deed_by;
+use records::byte_at;
+use records::u16_at;
+use records::u32_at;
+
+pub fn put_chart(out: &mut [u8], i: u32, r: &[u8]) -> usize
+    ensures { λ n. ⌜ n ≤ 256 ⌝ }
+{
+    let next = put_named(out, 0, b"chart ", i);
+    put_named(out, next, b": initial state ", two(r, 2))
+}
+
+pub fn put_state(out: &mut [u8], i: u32, r: &[u8]) -> usize
+    ensures { λ n. ⌜ n ≤ 256 ⌝ }
+{
+    let next = put_named(out, 0, b"state ", i);
+    put_named(out, next, b": chart ", one(r, 1))
+}
+
+fn put_trigger(out: &mut [u8], at: usize, r: &[u8]) -> usize
+    requires { ⌜ at < 2 ^ 18 ⌝ }
+    ensures { λ n. ⌜ n ≤ at + 52 ⌝ }
+{
+    match byte_at(r, 6) {
+        1 => put_named(out, at, b", event ", one(r, 7)),
+        2 => put_measured(out, at, b", after ", u32_at(r, 8), b" ms"),
+        3 => put_measured(out, at, b", every ", u32_at(r, 8), b" ms"),
+        _ => put_word(out, at, b", always"),
+    }
+}
+
+fn put_ends(out: &mut [u8], i: u32, r: &[u8]) -> usize
+    ensures { λ n. ⌜ n ≤ 96 ⌝ }
+{
+    let source = put_named(out, 0, b"transition ", i);
+    let target = put_named(out, source, b": state ", two(r, 2));
+    put_named(out, target, b" to state ", two(r, 4))
+}
+
+pub fn put_transition(out: &mut [u8], i: u32, r: &[u8]) -> usize
+    ensures { λ n. ⌜ n ≤ 256 ⌝ }
+{
+    let priority = put_ends(out, i, r);
+    let trigger = put_named(out, priority, b", priority ", one(r, 1));
+    let guard = put_trigger(out, trigger, r);
+    put_guard(out, guard, u16_at(r, 12))
+}
+
+fn put_owner(out: &mut [u8], at: usize, r: &[u8]) -> usize
+    requires { ⌜ at < 2 ^ 18 ⌝ }
+    ensures { λ n. ⌜ n ≤ at + 32 ⌝ }
+{
+    match byte_at(r, 1) {
+        1 => put_named(out, at, b": entry of state ", two(r, 2)),
+        2 => put_named(out, at, b": exit of state ", two(r, 2)),
+        _ => put_named(out, at, b": transition ", two(r, 2)),
+    }
+}
+
+pub fn put_action(out: &mut [u8], i: u32, r: &[u8]) -> usize
+    ensures { λ n. ⌜ n ≤ 256 ⌝ }
+{
+    let owner = put_named(out, 0, b"action ", i);
+    let deed = put_owner(out, owner, r);
+    put_deed(
+        out,
+        deed,
+        deed_by(byte_at(r, 4), byte_at(r, 5), u16_at(r, 6)),
+    )
+}

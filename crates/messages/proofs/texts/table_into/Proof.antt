@@ -1,0 +1,30 @@
+-- `texts::table_into` meets its contract, by those of its calls. Assumes nothing.
+use native.Mathlib.Omega.{arith}
+use Rattle.records.proofs.Wrote.{wrote-then}
+use borrow.Author.Needs.{needs}
+use Rattle.messages.proofs.texts.table_into.Statement.{statement}
+use Rattle.messages.proofs.texts.table_into.Tie as tie
+
+slice-aggregate-put-text : tie.Need-slice-aggregate-put-text
+slice-aggregate-put-text c = search needs
+
+put-text-requires : tie.Need-put-text-requires
+put-text-requires c κs = search needs
+
+put-table-requires : tie.Need-put-table-requires
+put-table-requires c κs = search needs
+
+same-length : tie.Need-same-length
+same-length c = search needs
+
+returns : tie.Need-returns
+returns c =
+    let word = c .before .before .before .before .before .before .put-text .ensures in
+    let counts = c .before .before .put-table .ensures in
+    let all = wrote-then word (counts .0) in
+    ((omega (arith, all .behind), all .written), omega (arith, word .behind, counts .1))
+
+pub table-into-spec : {M : Type 1} → statement M
+table-into-spec =
+    tie.close
+    (tie.spec slice-aggregate-put-text put-text-requires put-table-requires same-length returns)

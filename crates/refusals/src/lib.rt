@@ -1,0 +1,46 @@
+// A refusal of a file that is named, told on standard error: its number and meaning, with the first record that breaks the rule where one does by itself.
+use findings::Found;
+use findings::Rule;
+use findings::find;
+use libc::STDERR_FILENO;
+use messages::numbers::file_number;
+use messages::numbers::table_number;
+use messages::words::say;
+
+// Whether there is such a record, of which it is told what is wrong.
+fn tell_record(s: &[u8], rule: Rule, words: &[u8]) -> bool {
+    match find(rule, s) {
+        Found::Nowhere => false,
+        Found::At(n) => {
+            io::write_all(STDERR_FILENO, b" (record ");
+            io::print_decimal(STDERR_FILENO, n as u64);
+            io::write_all(STDERR_FILENO, words);
+            io::write_all(STDERR_FILENO, b")");
+            true
+        }
+    }
+}
+
+pub fn tell_set(s: &[u8], w: chart_files::Refusal) {
+    say(b"refusal ", file_number(w));
+    match w {
+        chart_files::Refusal::UnorderedKinds => tell_record(s, Rule::SetKinds, b": unknown"),
+        chart_files::Refusal::StrayByte => tell_record(s, Rule::SetBytes, b""),
+        chart_files::Refusal::BrokenCode => tell_record(s, Rule::SetCodes, b""),
+        chart_files::Refusal::ZeroTicks => tell_record(s, Rule::SetTicks, b""),
+        _ => false,
+    }
+    ;
+    io::write_all(STDERR_FILENO, b"\n");
+}
+
+// What is told of 11 is the first of 2, 4 and 5 that a record breaks.
+pub fn tell_table(s: &[u8]) {
+    say(b"refusal ", table_number());
+    if !tell_record(s, Rule::TableKinds, b": kind unknown") {
+        if !tell_record(s, Rule::TableBytes, b": an unnamed or unused byte not zero") {
+            tell_record(s, Rule::TableCodes, b": a code or range broken");
+        }
+    }
+    io::write_all(STDERR_FILENO, b"\n");
+}

@@ -1,0 +1,59 @@
+-- `replay_twin::play_file` is safe: a file that is not refused is one that can be played. Assumes nothing.
+use borrow.Author.Needs.{needs}
+use denote.Ref.{now}
+use Rattle.automata.specs.Accepted.{Accepted}
+use Rattle.automata.proofs.Checking.{accepted-of}
+use Rattle.automata.proofs.LinkLaws.{blank}
+use Rattle.automata.proofs.TableLaws.{room-long}
+use Rattle.replay_twin.proofs.play_file.Statement.{statement}
+use Rattle.replay_twin.proofs.play_file.Tie as tie
+
+check-requires : tie.Need-check-requires
+check-requires c κs = search needs
+
+enum-told : tie.Need-enum-told
+enum-told c = search needs
+
+table-number-requires : tie.Need-table-number-requires
+table-number-requires c κs = search needs
+
+tell-number-requires : tie.Need-tell-number-requires
+tell-number-requires c κs = search needs
+
+enum-known-shape : tie.Need-enum-known-shape
+enum-known-shape c = search needs
+
+accepted : (c : tie.After-known-told) → Accepted (now (c .before .before .before .before .before .args .s)) (c .before .shape .given .0 .0)
+accepted c =
+    let k = c .before .before .before in
+    accepted-of (now (k .before .before .args .s)) (k .check .result) (k .check .ensures) (c .before .shape .given .0 .0) (c .before .shape .given .1)
+
+slice-aggregate-index-of : tie.Need-slice-aggregate-index-of
+slice-aggregate-index-of c = search needs
+
+index-of-requires : tie.Need-index-of-requires
+index-of-requires c κs = let ok = accepted (c .before .before) in (ok, (blank, room-long _ _ (ok .shape)))
+
+play-requires : tie.Need-play-requires
+play-requires c κs = record { accepted = accepted (c .before .before .before .before .before .before); has-index = c .before .before .before .index-of .ensures }
+
+returns : tie.Need-returns
+returns c = search needs
+
+returns-2 : tie.Need-returns-2
+returns-2 c = search needs
+
+pub play-file-spec : {M : Type 1} → statement M
+play-file-spec =
+    tie.close
+    (tie.spec
+    check-requires
+    enum-told
+    table-number-requires
+    tell-number-requires
+    enum-known-shape
+    slice-aggregate-index-of
+    index-of-requires
+    play-requires
+    returns
+    returns-2)
