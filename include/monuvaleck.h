@@ -1,0 +1,142 @@
+/* Monuvaleck: chart sets of sewer crawlers and their automata twins.
+ *
+ * Link with libmonuvaleck.a (x86-64 Linux; `rt staticlib monuvaleck` writes target/staticlib/libmonuvaleck.a). It needs memcpy and memset
+ * of the C library and nothing else: no heap, no files, no signals, no floating point.
+ *
+ * ANSWERS. Every function answers an int32_t. 0 or more is the answer. Less than 0 is a refusal or a fault: minus its number, one of
+ * enum monuvaleck_refusal. Then nothing lent has changed: the run, the buffer, the rows are byte for byte as they were.
+ * Files are checked first, then runs and events, then comes the turn. Of the reasons that apply in one place the lowest number is answered;
+ * in a turn it is the fault that is met first.
+ *
+ * ANY INPUT. Every function takes any bytes, runs, events, masks, paths and lengths, and ends. Nothing need be checked before. What a pointer must be:
+ * - It points at as many elements as its length says (lengths count elements, so rows_len counts words, not rows), or at one run.
+ * - It is aligned for its type: uint8_t at any address, uint16_t at even ones, uint32_t and the runs at multiples of 4.
+ * - Where a length is 0 nothing is read or written there, and the pointer may be null. A run is never null.
+ * - All that is lent for reading has been written; what is lent for writing overlaps nothing else that is lent in the same call.
+ *   Things that are only read may overlap.
+ *
+ * THREADS. No function keeps anything: what it answers and writes depends on its arguments alone. Calls at the same time need no lock as long as none
+ * writes what another reads or writes. A run may be copied, stored and loaded as bytes; its fields are in the byte order of the machine.
+ *
+ * STACK. Leave 256 KiB. tests/c measures the deepest stack of each function, which guards and actions of 1,024 nested nodes take.
+ *
+ * TIME. Turns are taken in file order of the charts, at the positions 1 to n of a cycle for n charts; at position n + 1 time passes. A cycle is 100 ms.
+ */
+#ifndef MONUVALECK_H
+#define MONUVALECK_H
+
+#include <stddef.h>
+#include <stdint.h>
+
+#ifdef __cplusplus
+extern "C" {
+#endif
+
+/* Why a call was refused, or what faulted in it. Functions answer minus these. */
+enum monuvaleck_refusal {
+    /* the chart set: every charts_ function, and path_back */
+    MONUVALECK_ODD_LENGTH = 1,       /* its length is no multiple of 16 */
+    MONUVALECK_UNORDERED_KINDS = 2,  /* a record's kind is unknown, or lower than that of the record before */
+    MONUVALECK_WRONG_AMOUNTS = 3,    /* no chart, or too many of a kind */
+    MONUVALECK_STRAY_BYTE = 4,       /* an unnamed or unused byte is not zero */
+    MONUVALECK_BROKEN_CODE = 5,      /* a code is unknown, or a number out of its range */
+    MONUVALECK_DANGLING_NUMBER = 6,  /* a number names nothing */
+    MONUVALECK_BROKEN_STRUCTURE = 7, /* a transition across charts; an initial state of another chart, without exactly one leaving transition, that one with
+                                        trigger or guard, entered, or with entry or exit action; equal priorities leaving a state; a ninth action */
+    MONUVALECK_BROKEN_NODE = 8,      /* an operand is not lower or of the wrong sort; a guard is no truth, an assigned node no number; a node is not used exactly once */
+    MONUVALECK_ZERO_TICKS = 9,       /* a timing trigger below 50 ms: 0 ticks */
+
+    /* translating */
+    MONUVALECK_SHORT_BUFFER = 10, /* the result is longer than the buffer */
+
+    /* the automata table: every automata_ function */
+    MONUVALECK_BAD_TABLE = 11, /* the table is refused, whatever the reason */
+
+    /* before a turn: _turn, _cycle, _play */
+    MONUVALECK_IMPOSSIBLE_RUN = 12,   /* the run cannot be one of this file: a state or location of another chart, a variable out of its range, an age over the cycle count,
+                                         a clock over its top, position 0 or over n + 1, a count over 1,000,000 or, past position 1, over 999,999, events present at
+                                         position 1, or an unused place that is not zero */
+    MONUVALECK_MISPLACED_EVENTS = 13, /* events were given elsewhere than at position 1 */
+    MONUVALECK_CYCLES_DONE = 14,      /* 1,000,000 cycles are done, and the position is 1 */
+
+    /* in a turn: _turn, _cycle, _play */
+    MONUVALECK_OUT_OF_RANGE = 15,  /* a number does not fit 32 bits */
+    MONUVALECK_ZERO_DIVISOR = 16,  /* a quotient or remainder by 0 */
+    MONUVALECK_OUT_OF_BOUNDS = 17, /* an assigned value is outside its variable's range */
+    MONUVALECK_NONE_OPEN = 18,     /* automata: no edge is open */
+    MONUVALECK_MANY_OPEN = 19,     /* automata: two or more edges are open */
+
+    /* path_back */
+    MONUVALECK_BROKEN_PATH = 20, /* the path names no edge, breaks turn order, goes on after 1,000,000 cycles, or an edge does not leave where its automaton stands */
+    MONUVALECK_SHORT_ROWS = 21   /* more rows than lent */
+};
+
+/* What a turn answers where nothing was taken. */
+#define MONUVALECK_IDLE 65534 /* the chart idled; a twin answers the number of its idle edge instead */
+#define MONUVALECK_TIME 65535 /* position n + 1: time passed */
+
+/* Limits: lengths in bytes that no accepted set, no accepted table and no translation is above; cycles of a run. */
+#define MONUVALECK_LONGEST_SET 31872
+#define MONUVALECK_LONGEST_TWIN 232576
+#define MONUVALECK_MOST_CYCLES 1000000
+
+/* A run of a chart set. Places past the set's own charts and variables are 0. */
+typedef struct {
+    uint16_t states[8];    /* of each chart its present state, numbered through the whole set */
+    uint32_t ages[8];      /* of each chart the cycles since that state was entered */
+    int16_t variables[64]; /* the values */
+    uint32_t events;       /* bit k: event k is present */
+    uint32_t position;     /* 1 .. n + 1 */
+    uint32_t cycles;       /* the cycles done */
+} charts_run;
+
+/* A run of an automata table. Places past the table's own automata, clocks and variables are 0. */
+typedef struct {
+    uint16_t locations[8]; /* of each automaton its present location */
+    uint16_t clocks[256];  /* the clocks, in ticks */
+    int16_t variables[64];
+    uint32_t events;
+    uint32_t position;
+    uint32_t cycles;
+} automata_run;
+
+/* Checks a file. 0: accepted. A set is refused by 1 to 9, a table by 11. */
+int32_t charts_check(const uint8_t *set, size_t set_len);
+int32_t automata_check(const uint8_t *table, size_t table_len);
+
+/* Makes the run a fresh one, whatever it held. 0: done. Refused as by the check. */
+int32_t charts_start(const uint8_t *set, size_t set_len, charts_run *run);
+int32_t automata_start(const uint8_t *table, size_t table_len, automata_run *run);
+
+/* Takes the turn of the present position. The answer is the number of the transition or edge taken, MONUVALECK_IDLE or MONUVALECK_TIME.
+ * At position 1 the events given (bit k: event k) become the present ones; elsewhere they must be 0.
+ * Refused as by the check, and by 12 to 14; faults 15 to 17, of automata also 18 and 19. */
+int32_t charts_turn(const uint8_t *set, size_t set_len, charts_run *run, uint32_t events);
+int32_t automata_turn(const uint8_t *table, size_t table_len, automata_run *run, uint32_t events);
+
+/* Takes the turns from the present position up to n + 1. 0: done, and the position is 1. A fault in any of the turns leaves the run as it was before
+ * all of them. Refused as a turn. */
+int32_t charts_cycle(const uint8_t *set, size_t set_len, charts_run *run, uint32_t events);
+int32_t automata_cycle(const uint8_t *table, size_t table_len, automata_run *run, uint32_t events);
+
+/* Plays a cycle for each mask of events, with the file checked only once: for long runs. It ends before the first cycle that is refused or faults;
+ * the run is the one after the cycles played. The answer is their number. Where not even the first can be played, the answer is why, as a cycle's, and
+ * nothing has changed. With no masks: 0, or the file's refusal; the run is not looked at. To learn why fewer cycles were played than there are masks, call
+ * the cycle with the next mask. */
+int32_t charts_play(const uint8_t *set, size_t set_len, charts_run *run, const uint32_t *masks, size_t masks_len);
+int32_t automata_play(const uint8_t *table, size_t table_len, automata_run *run, const uint32_t *masks, size_t masks_len);
+
+/* Translates a set into its twin, an automata table. The answer is the twin's length; the bytes beyond it are kept. MONUVALECK_LONGEST_TWIN bytes are always
+ * enough. Refused by 1 to 10. */
+int32_t charts_translate(const uint8_t *set, size_t set_len, uint8_t *out, size_t out_len);
+
+/* Leads a path of the set's twin back. The path starts with a fresh run and names what each turn took: an edge, or MONUVALECK_TIME. Each edge that came of a
+ * transition gives a row of three words: cycle, chart, transition. The answer is the number of rows; the words beyond them are kept. As many rows as
+ * the path has steps are always enough. Refused by 1 to 9, 20 and 21. */
+int32_t path_back(const uint8_t *set, size_t set_len, const uint16_t *path, size_t path_len, uint32_t *rows, size_t rows_len);
+
+#ifdef __cplusplus
+}
+#endif
+
+#endif

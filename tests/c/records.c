@@ -1,0 +1,168 @@
+#include "records.h"
+
+#include <stdlib.h>
+#include <string.h>
+
+unsigned two_at(const uint8_t *bytes, size_t at)
+{
+    return bytes[at] | (unsigned)bytes[at + 1] << 8;
+}
+
+uint32_t four_at(const uint8_t *bytes, size_t at)
+{
+    return two_at(bytes, at) | (uint32_t)two_at(bytes, at + 2) << 16;
+}
+
+void set_two(uint8_t *bytes, size_t at, unsigned value)
+{
+    bytes[at] = (uint8_t)value;
+    bytes[at + 1] = (uint8_t)(value >> 8);
+}
+
+void set_four(uint8_t *bytes, size_t at, uint32_t value)
+{
+    set_two(bytes, at, value & 0xFFFF);
+    set_two(bytes, at + 2, value >> 16);
+}
+
+size_t first_of(const uint8_t *bytes, size_t len, uint8_t kind)
+{
+    size_t at = 0;
+    while (at < len && bytes[at] < kind) {
+        at += RECORD;
+    }
+    return at;
+}
+
+size_t count_of(const uint8_t *bytes, size_t len, uint8_t kind)
+{
+    return (first_of(bytes, len, (uint8_t)(kind + 1)) - first_of(bytes, len, kind)) / RECORD;
+}
+
+/* A new record of a kind, all zero but for that. */
+static uint8_t *add(file *f, uint8_t kind)
+{
+    if (f->len + RECORD > sizeof f->bytes) {
+        abort();
+    }
+    uint8_t *record = f->bytes + f->len;
+    memset(record, 0, RECORD);
+    record[0] = kind;
+    f->len += RECORD;
+    return record;
+}
+
+void add_chart(file *f, unsigned initial)
+{
+    set_two(add(f, CHART), 2, initial);
+}
+
+void add_state(file *f, unsigned chart)
+{
+    add(f, STATE)[1] = (uint8_t)chart;
+}
+
+void add_transition(file *f, unsigned priority, unsigned source, unsigned target, unsigned trigger, uint32_t argument, unsigned guard)
+{
+    uint8_t *record = add(f, TRANSITION);
+    record[1] = (uint8_t)priority;
+    set_two(record, 2, source);
+    set_two(record, 4, target);
+    record[6] = (uint8_t)trigger;
+    if (trigger == ON_EVENT) {
+        record[7] = (uint8_t)argument;
+    } else {
+        set_four(record, 8, argument);
+    }
+    set_two(record, 12, guard);
+}
+
+void add_variable(file *f, uint8_t kind, int lowest, int highest, int start)
+{
+    uint8_t *record = add(f, kind);
+    set_two(record, 2, (unsigned)lowest & 0xFFFF);
+    set_two(record, 4, (unsigned)highest & 0xFFFF);
+    set_two(record, 6, (unsigned)start & 0xFFFF);
+}
+
+void add_constant(file *f, uint8_t kind, int32_t value)
+{
+    uint8_t *record = add(f, kind);
+    record[1] = CONSTANT;
+    set_four(record, 8, (uint32_t)value);
+}
+
+void add_node(file *f, uint8_t kind, unsigned operator_code, unsigned a, unsigned b, unsigned c)
+{
+    uint8_t *record = add(f, kind);
+    record[1] = (uint8_t)operator_code;
+    set_two(record, 2, a);
+    set_two(record, 4, b);
+    set_two(record, 6, c);
+}
+
+void add_action(file *f, unsigned place, unsigned owner, unsigned deed, unsigned thing, unsigned node)
+{
+    uint8_t *record = add(f, ACTION);
+    record[1] = (uint8_t)place;
+    set_two(record, 2, owner);
+    record[4] = (uint8_t)deed;
+    record[5] = (uint8_t)thing;
+    set_two(record, 6, node);
+}
+
+void add_automaton(file *f, unsigned initial)
+{
+    set_two(add(f, AUTOMATON), 2, initial);
+}
+
+void add_location(file *f, unsigned automaton)
+{
+    add(f, LOCATION)[1] = (uint8_t)automaton;
+}
+
+void add_edge(file *f, unsigned automaton, unsigned source, unsigned target, unsigned idle)
+{
+    uint8_t *record = add(f, EDGE);
+    record[1] = (uint8_t)automaton;
+    set_two(record, 2, source);
+    set_two(record, 4, target);
+    record[6] = (uint8_t)idle;
+}
+
+void add_literal(file *f, unsigned sign, unsigned edge, unsigned trigger, unsigned argument, unsigned node)
+{
+    uint8_t *record = add(f, LITERAL);
+    record[1] = (uint8_t)sign;
+    set_two(record, 2, edge);
+    record[4] = (uint8_t)trigger;
+    if (trigger == ON_EVENT) {
+        record[5] = (uint8_t)argument;
+    } else {
+        set_two(record, 6, argument);
+    }
+    set_two(record, 8, node);
+}
+
+void add_clock(file *f, unsigned trigger, unsigned ticks)
+{
+    uint8_t *record = add(f, CLOCK);
+    record[1] = (uint8_t)trigger;
+    set_two(record, 2, ticks);
+}
+
+void add_update(file *f, unsigned deed, unsigned edge, unsigned thing, unsigned node)
+{
+    uint8_t *record = add(f, UPDATE);
+    record[1] = (uint8_t)deed;
+    set_two(record, 2, edge);
+    record[4] = (uint8_t)thing;
+    set_two(record, 6, node);
+}
+
+void add_reset(file *f, unsigned edge, unsigned clock)
+{
+    uint8_t *record = add(f, RESET);
+    set_two(record, 2, edge);
+    set_two(record, 4, clock);
+}

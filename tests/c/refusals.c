@@ -1,0 +1,761 @@
+/* Every refusal and fault of every function, with all that is lent between canaries and pages that cannot be touched, and unchanged afterwards.
+ * Where several things are wrong at once the number that comes first in the table is answered. With an argument all is lent on the heap. */
+#include "lent.h"
+#include "monuvaleck.h"
+#include "records.h"
+
+#include <stdio.h>
+#include <stdlib.h>
+#include <string.h>
+
+enum { IN_FILE, IN_RUN, IN_LIST, IN_OUT };
+enum { MOST_NUMBER = 21, MANY_STEPS = 2 * MONUVALECK_MOST_CYCLES + 1 };
+
+/* What a call is given; each call lends copies of it. */
+static struct {
+    const file *f;
+    charts_run charts;
+    automata_run automata;
+    uint32_t events;
+    uint32_t masks[4];
+    size_t masks_len;
+    const uint16_t *path;
+    size_t path_len;
+    size_t out_len, rows_len;
+} given;
+
+static uint8_t filler[MONUVALECK_LONGEST_TWIN];
+
+/* ---- the calls */
+
+#define LENT_FILE areas[IN_FILE].bytes, areas[IN_FILE].len
+#define LENT_RUN ((void *)areas[IN_RUN].bytes)
+#define LENT_LIST ((void *)areas[IN_LIST].bytes)
+#define LENT_OUT ((void *)areas[IN_OUT].bytes)
+
+static int32_t check_charts(void) { return charts_check(LENT_FILE); }
+static int32_t start_charts(void) { return charts_start(LENT_FILE, LENT_RUN); }
+static int32_t turn_charts(void) { return charts_turn(LENT_FILE, LENT_RUN, given.events); }
+static int32_t cycle_charts(void) { return charts_cycle(LENT_FILE, LENT_RUN, given.events); }
+static int32_t play_charts(void) { return charts_play(LENT_FILE, LENT_RUN, LENT_LIST, given.masks_len); }
+static int32_t translate(void) { return charts_translate(LENT_FILE, LENT_OUT, given.out_len); }
+static int32_t lead_back(void) { return path_back(LENT_FILE, LENT_LIST, given.path_len, LENT_OUT, given.rows_len); }
+static int32_t check_automata(void) { return automata_check(LENT_FILE); }
+static int32_t start_automata(void) { return automata_start(LENT_FILE, LENT_RUN); }
+static int32_t turn_automata(void) { return automata_turn(LENT_FILE, LENT_RUN, given.events); }
+static int32_t cycle_automata(void) { return automata_cycle(LENT_FILE, LENT_RUN, given.events); }
+static int32_t play_automata(void) { return automata_play(LENT_FILE, LENT_RUN, LENT_LIST, given.masks_len); }
+
+enum { CHECK_C, START_C, TURN_C, CYCLE_C, PLAY_C, TRANSLATE, BACK, CHECK_A, START_A, TURN_A, CYCLE_A, PLAY_A, CALLS };
+
+/* Each function with the numbers that it can answer, as bits. */
+#define FROM_TO(a, b) ((2u << (b)) - (1u << (a)))
+static const struct {
+    const char *name;
+    int32_t (*call)(void);
+    uint32_t numbers;
+} calls[CALLS] = {
+    {"charts_check", check_charts, FROM_TO(1, 9)},
+    {"charts_start", start_charts, FROM_TO(1, 9)},
+    {"charts_turn", turn_charts, FROM_TO(1, 9) | FROM_TO(12, 17)},
+    {"charts_cycle", cycle_charts, FROM_TO(1, 9) | FROM_TO(12, 17)},
+    {"charts_play", play_charts, FROM_TO(1, 9) | FROM_TO(12, 17)},
+    {"charts_translate", translate, FROM_TO(1, 10)},
+    {"path_back", lead_back, FROM_TO(1, 9) | FROM_TO(20, 21)},
+    {"automata_check", check_automata, FROM_TO(11, 11)},
+    {"automata_start", start_automata, FROM_TO(11, 11)},
+    {"automata_turn", turn_automata, FROM_TO(11, 19)},
+    {"automata_cycle", cycle_automata, FROM_TO(11, 19)},
+    {"automata_play", play_automata, FROM_TO(11, 19)},
+};
+
+static unsigned met[CALLS][MOST_NUMBER + 1], wrong[CALLS][MOST_NUMBER + 1];
+
+static void lend_given(unsigned call, bool low)
+{
+    bool of_automata = call >= CHECK_A, of_path = call == BACK;
+    lend(IN_FILE, given.f->bytes, given.f->len, low);
+    if (of_automata) {
+        lend(IN_RUN, &given.automata, sizeof given.automata, low);
+    } else {
+        lend(IN_RUN, &given.charts, sizeof given.charts, low);
+    }
+    if (of_path) {
+        lend(IN_LIST, given.path, given.path_len * sizeof *given.path, low);
+        lend(IN_OUT, filler, given.rows_len * sizeof(uint32_t), low);
+    } else {
+        lend(IN_LIST, given.masks, given.masks_len * sizeof *given.masks, low);
+        lend(IN_OUT, filler, given.out_len, low);
+    }
+}
+
+/* The call answers minus the number and changes nothing. */
+static void refuses(unsigned call, unsigned number, const char *what)
+{
+    for (unsigned low = 0; low < 2; low++) {
+        lend_given(call, low != 0);
+        int32_t answer = calls[call].call();
+        bool unchanged = kept(IN_FILE) && kept(IN_RUN) && kept(IN_LIST) && kept(IN_OUT);
+        met[call][number]++;
+        if (answer != -(int32_t)number || !unchanged) {
+            wrong[call][number]++;
+            printf("%s: %s: answer %d, not %d%s\n", calls[call].name, what, (int)answer, -(int)number, unchanged ? "" : "; something lent has changed");
+        }
+    }
+}
+
+static void all_refuse(unsigned first, unsigned last, unsigned number, const char *what)
+{
+    for (unsigned call = first; call <= last; call++) {
+        refuses(call, number, what);
+    }
+}
+
+/* ---- chart sets: two charts with every kind of trigger, each kind of node and action used once */
+
+enum { AT_STATES = 2, AT_TRANSITIONS = 7, AT_NODES = 15, RECORDS = 25 };
+
+static void make_set(file *f)
+{
+    f->len = 0;
+    add_chart(f, 0);
+    add_chart(f, 3);
+    for (unsigned state = 0; state < 5; state++) {
+        add_state(f, state >= 3);
+    }
+    add_transition(f, 1, 0, 1, NO_TRIGGER, 0, NONE);
+    add_transition(f, 1, 1, 2, ON_EVENT, 3, 2);
+    add_transition(f, 2, 1, 1, AFTER, 300, NONE);
+    add_transition(f, 1, 2, 1, EVERY, 200, NONE);
+    add_transition(f, 1, 3, 4, NO_TRIGGER, 0, NONE);
+    add_transition(f, 3, 4, 4, ON_EVENT, 5, NONE);
+    add_variable(f, VARIABLE, -100, 100, 1);
+    add_variable(f, VARIABLE, 0, 10, 0);
+    add_node(f, NODE, VALUE, 0, 0, 0);
+    add_constant(f, NODE, 5);
+    add_node(f, NODE, LESS, 0, 1, 0);
+    add_constant(f, NODE, 7);
+    add_node(f, NODE, VALUE, 0, 0, 0);
+    add_constant(f, NODE, 2);
+    add_node(f, NODE, QUOTIENT, 4, 5, 0);
+    add_action(f, ENTRY, 1, ASSIGN, 1, 3);
+    add_action(f, ON_TRANSITION, 1, ASSIGN, 0, 6);
+    add_action(f, EXIT, 2, RAISE, 5, 0);
+}
+
+static uint8_t *record(file *f, size_t number)
+{
+    return f->bytes + number * RECORD;
+}
+
+/* Breaks the set by each number; whatever else is broken too, the lowest stays the lowest. */
+static void break_set(file *f, unsigned number)
+{
+    switch (number) {
+    case 1: f->bytes[f->len++] = 0; break;
+    case 2: record(f, 0)[0] = 0; break;
+    case 3: for (unsigned i = 0; i < 512; i++) { add_action(f, EXIT, 2, RAISE, 5, 0); } break;
+    case 4: record(f, AT_STATES)[15] = 1; break;
+    case 5: record(f, AT_TRANSITIONS + 5)[1] = 17; break;
+    case 6: set_two(record(f, AT_TRANSITIONS + 4), 4, 99); break;
+    case 7: record(f, AT_TRANSITIONS + 2)[1] = 1; break;
+    case 8: set_two(record(f, AT_NODES + 6), 4, 4); break;
+    case 9: set_four(record(f, AT_TRANSITIONS + 2), 8, 49); break;
+    default: abort();
+    }
+}
+
+static file work, table;
+
+/* All 511 choices of what is broken, the length last since it moves the end. */
+static void broken_sets(void)
+{
+    for (unsigned broken = 1; broken < 512; broken++) {
+        unsigned lowest = 0;
+        make_set(&work);
+        for (unsigned number = 9; number >= 1; number--) {
+            if (broken >> (number - 1) & 1) {
+                break_set(&work, number);
+                lowest = number;
+            }
+        }
+        all_refuse(CHECK_C, BACK, lowest, "a broken set");
+    }
+}
+
+/* One change of a file's bytes, of the last value's width. */
+typedef struct {
+    const char *what;
+    size_t record, byte, width;
+    uint32_t value;
+    unsigned number;
+} change;
+
+static void apply(file *f, const change *c)
+{
+    uint8_t *r = record(f, c->record);
+    if (c->width == 1) {
+        r[c->byte] = (uint8_t)c->value;
+    } else if (c->width == 2) {
+        set_two(r, c->byte, c->value);
+    } else {
+        set_four(r, c->byte, c->value);
+    }
+}
+
+static const change set_changes[] = {
+    {"an unknown kind", 24, 0, 1, 7, 2},
+    {"a descending kind", 3, 0, 1, 1, 2},
+    {"an unnamed byte of a chart", 0, 1, 1, 1, 4},
+    {"an unused event", 7, 7, 1, 1, 4},
+    {"unused milliseconds", 8, 8, 4, 100, 4},
+    {"an unused operand", 16, 2, 2, 1, 4},
+    {"an unused node", 24, 6, 2, 1, 4},
+    {"priority 0", 7, 1, 1, 0, 5},
+    {"an unknown trigger", 7, 6, 1, 4, 5},
+    {"event 32", 8, 7, 1, 32, 5},
+    {"0 ms", 9, 8, 4, 0, 5},
+    {"3,600,001 ms", 9, 8, 4, 3600001, 5},
+    {"a start below the lowest", 14, 6, 2, 65535, 5},
+    {"an unknown operator", 16, 1, 1, 9, 5},
+    {"an unknown place", 24, 1, 1, 4, 5},
+    {"an unknown deed", 24, 4, 1, 3, 5},
+    {"raised event 32", 24, 5, 1, 32, 5},
+    {"an initial state that is not there", 0, 2, 2, 5, 6},
+    {"a chart that is not there", 6, 1, 1, 2, 6},
+    {"a guard that is not there", 8, 12, 2, 7, 6},
+    {"a variable that is not there", 15, 2, 2, 2, 6},
+    {"an operand that is not there", 17, 2, 2, 65535, 6},
+    {"an owner that is not there", 23, 2, 2, 6, 6},
+    {"an assigned variable that is not there", 22, 5, 1, 2, 6},
+    {"a transition across charts", 8, 4, 2, 4, 7},
+    {"an initial state of another chart", 1, 2, 2, 1, 7},
+    {"an initial state with trigger", 11, 6, 1, 1, 7},
+    {"an initial state entered", 12, 4, 2, 3, 7},
+    {"an initial state with an entry action", 22, 2, 2, 0, 7},
+    {"an operand that is not lower", 17, 2, 2, 2, 8},
+    {"a truth where a number stands", 21, 2, 2, 2, 8},
+    {"a guard that is no truth", 8, 12, 2, 6, 8},
+};
+
+static void changed_sets(void)
+{
+    for (size_t i = 0; i < sizeof set_changes / sizeof set_changes[0]; i++) {
+        make_set(&work);
+        apply(&work, &set_changes[i]);
+        all_refuse(CHECK_C, BACK, set_changes[i].number, set_changes[i].what);
+    }
+    work.len = 0;
+    all_refuse(CHECK_C, BACK, 3, "no bytes");
+    make_set(&work);
+    work.len = AT_STATES * RECORD;
+    memmove(work.bytes, work.bytes + work.len, RECORD * (RECORDS - AT_STATES));
+    work.len = RECORD * (RECORDS - AT_STATES);
+    all_refuse(CHECK_C, BACK, 3, "no chart");
+    make_set(&work);
+    for (unsigned i = 0; i < 8; i++) {
+        add_action(&work, EXIT, 2, RAISE, 5, 0);
+    }
+    all_refuse(CHECK_C, BACK, 7, "a ninth action");
+    make_set(&work);
+    for (size_t cut = 1; cut < RECORD; cut++) {
+        work.len = RECORD * RECORDS - cut;
+        all_refuse(CHECK_C, BACK, 1, "an odd length");
+    }
+}
+
+/* ---- automata tables: the twin of the set, with 11 edges, 2 clocks */
+
+static void must(bool holds, const char *what)
+{
+    if (!holds) {
+        printf("FAILED: %s\n", what);
+        exit(1);
+    }
+}
+
+static void make_twin(const file *of)
+{
+    int32_t len = charts_translate(of->bytes, of->len, table.bytes, sizeof table.bytes);
+    must(len > 0 && automata_check(table.bytes, (size_t)len) == 0, "a twin to break");
+    table.len = (size_t)len;
+}
+
+/* A change counts records from the first of its kind. */
+static const struct {
+    uint8_t kind;
+    change change;
+} table_changes[] = {
+    {AUTOMATON, {"an unknown kind", 0, 0, 1, 32, 11}},
+    {RESET, {"a kind past the last", 0, 0, 1, 42, 11}},
+    {EDGE, {"a descending kind", 1, 0, 1, 34, 11}},
+    {LOCATION, {"an unnamed byte", 0, 9, 1, 1, 11}},
+    {LITERAL, {"an unused clock", 1, 6, 2, 1, 11}},
+    {EDGE, {"an idle mark of 2", 0, 6, 1, 2, 11}},
+    {LITERAL, {"an unknown sign", 0, 1, 1, 3, 11}},
+    {LITERAL, {"an unknown trigger", 0, 4, 1, 3, 11}},
+    {CLOCK, {"an unknown timing", 0, 1, 1, 1, 11}},
+    {CLOCK, {"0 ticks", 0, 2, 2, 0, 11}},
+    {CLOCK, {"36,001 ticks", 0, 2, 2, 36001, 11}},
+    {TWIN_VARIABLE, {"a lowest above the start", 0, 2, 2, 2, 11}},
+    {TWIN_NODE, {"an unknown operator", 1, 1, 1, 15, 11}},
+    {UPDATE, {"an unknown deed", 0, 1, 1, 0, 11}},
+    {AUTOMATON, {"an initial location that is not there", 0, 2, 2, 5, 11}},
+    {LOCATION, {"an automaton that is not there", 4, 1, 1, 2, 11}},
+    {EDGE, {"a target that is not there", 0, 4, 2, 5, 11}},
+    {LITERAL, {"an edge that is not there", 0, 2, 2, 11, 11}},
+    {LITERAL, {"a node that is not there", 0, 8, 2, 7, 11}},
+    {UPDATE, {"an updated variable that is not there", 0, 4, 1, 64, 11}},
+    {RESET, {"a clock that is not there", 0, 4, 2, 2, 11}},
+    {AUTOMATON, {"an initial location of another automaton", 0, 2, 2, 4, 11}},
+    {EDGE, {"an edge across automata", 0, 4, 2, 4, 11}},
+    {EDGE, {"an idle edge with two ends", 0, 6, 1, 1, 11}},
+    {TWIN_NODE, {"an operand that is not lower", 2, 2, 2, 2, 11}},
+    {TWIN_NODE, {"an operand twice", 6, 4, 2, 4, 11}},
+    {LITERAL, {"a guard that is no truth", 1, 8, 2, 3, 11}},
+    {UPDATE, {"an updating node that is a truth", 0, 6, 2, 2, 11}},
+};
+
+static void broken_tables(void)
+{
+    make_set(&work);
+    make_twin(&work);
+    file *whole = malloc(sizeof *whole);
+    must(whole != NULL, "memory");
+    *whole = table;
+    for (size_t i = 0; i < sizeof table_changes / sizeof table_changes[0]; i++) {
+        table = *whole;
+        change c = table_changes[i].change;
+        c.record += first_of(whole->bytes, whole->len, table_changes[i].kind) / RECORD;
+        apply(&table, &c);
+        all_refuse(CHECK_A, PLAY_A, 11, c.what);
+    }
+    table = *whole;
+    table.len -= 1;
+    all_refuse(CHECK_A, PLAY_A, 11, "an odd length");
+    table.len = 0;
+    all_refuse(CHECK_A, PLAY_A, 11, "no bytes");
+    table = *whole;
+    while (count_of(table.bytes, table.len, RESET) <= 4096) {
+        add_reset(&table, 0, 0);
+    }
+    all_refuse(CHECK_A, PLAY_A, 11, "too many resets");
+    table.bytes[table.len - 1] = 1;
+    table.len += 1;
+    all_refuse(CHECK_A, PLAY_A, 11, "many things at once");
+    free(whole);
+}
+
+/* ---- runs: 12 to 14 */
+
+/* A change of a field; the width is its size. */
+typedef struct {
+    const char *what;
+    size_t offset, width;
+    uint32_t value;
+} poke;
+
+static void poke_run(void *run, const poke *p)
+{
+    uint16_t two = (uint16_t)p->value;
+    memcpy((uint8_t *)run + p->offset, p->width == 2 ? (const void *)&two : (const void *)&p->value, p->width);
+}
+
+#define PLACE(type, field) offsetof(type, field), sizeof(((type *)0)->field)
+#define SHARED_POKES(type)                                                                                            \
+    {"a variable above its range", PLACE(type, variables[0]), 101},                                                   \
+        {"a variable below its range", PLACE(type, variables[1]), 65535},                                             \
+        {"an unused variable", PLACE(type, variables[2]), 1}, {"the last variable", PLACE(type, variables[63]), 1},   \
+        {"an event present at position 1", PLACE(type, events), 1u << 31}, {"position 0", PLACE(type, position), 0},  \
+        {"position n + 2", PLACE(type, position), 4}, {"the highest position", PLACE(type, position), UINT32_MAX},    \
+        {"a count of 1,000,001", PLACE(type, cycles), 1000001}, {"the highest count", PLACE(type, cycles), UINT32_MAX}
+
+static const poke charts_pokes[] = {
+    SHARED_POKES(charts_run),
+    {"a state of another chart", PLACE(charts_run, states[0]), 4},
+    {"a state that is not there", PLACE(charts_run, states[1]), 5},
+    {"an unused state", PLACE(charts_run, states[2]), 1},
+    {"the last state", PLACE(charts_run, states[7]), 65535},
+    {"an age over the count", PLACE(charts_run, ages[0]), 1},
+    {"the highest age", PLACE(charts_run, ages[1]), UINT32_MAX},
+    {"an unused age", PLACE(charts_run, ages[7]), 1},
+};
+
+static const poke automata_pokes[] = {
+    SHARED_POKES(automata_run),
+    {"a location of another automaton", PLACE(automata_run, locations[0]), 4},
+    {"a location that is not there", PLACE(automata_run, locations[1]), 5},
+    {"an unused location", PLACE(automata_run, locations[2]), 1},
+    {"an after-clock over its top", PLACE(automata_run, clocks[0]), 5},
+    {"an every-clock over its top", PLACE(automata_run, clocks[1]), 3},
+    {"an unused clock", PLACE(automata_run, clocks[2]), 1},
+    {"the last clock", PLACE(automata_run, clocks[255]), 65535},
+};
+
+static void fresh_runs(void)
+{
+    must(charts_start(work.bytes, work.len, &given.charts) == 0, "a run to break");
+    must(automata_start(table.bytes, table.len, &given.automata) == 0, "a twin's run to break");
+}
+
+/* Turn, cycle and play of charts, or of automata, given the events, refuse by the number. */
+static void moves_refuse(bool automata, uint32_t events, unsigned number, const char *what)
+{
+    given.f = automata ? &table : &work;
+    given.events = events;
+    given.masks[0] = events;
+    all_refuse(automata ? TURN_A : TURN_C, automata ? PLAY_A : PLAY_C, number, what);
+}
+
+static void impossible_runs(void)
+{
+    for (size_t i = 0; i < sizeof charts_pokes / sizeof charts_pokes[0]; i++) {
+        fresh_runs();
+        poke_run(&given.charts, &charts_pokes[i]);
+        moves_refuse(false, 0, 12, charts_pokes[i].what);
+        moves_refuse(false, 8, 12, "an impossible run and events");
+    }
+    for (size_t i = 0; i < sizeof automata_pokes / sizeof automata_pokes[0]; i++) {
+        fresh_runs();
+        poke_run(&given.automata, &automata_pokes[i]);
+        moves_refuse(true, 0, 12, automata_pokes[i].what);
+        moves_refuse(true, 8, 12, "an impossible run and events");
+    }
+}
+
+/* Both runs at a position and a count. */
+static void set_time(uint32_t position, uint32_t cycles)
+{
+    given.charts.position = given.automata.position = position;
+    given.charts.cycles = given.automata.cycles = cycles;
+}
+
+static void times(void)
+{
+    for (unsigned automata = 0; automata < 2; automata++) {
+        fresh_runs();
+        for (uint32_t position = 2; position <= 3; position++) {
+            set_time(position, 0);
+            moves_refuse(automata, 1, 13, "events past position 1");
+            moves_refuse(automata, UINT32_MAX, 13, "all events past position 1");
+            set_time(position, 999999);
+            moves_refuse(automata, 1, 13, "events past position 1 in the last cycle");
+            set_time(position, 1000000);
+            moves_refuse(automata, 0, 12, "1,000,000 cycles past position 1");
+        }
+        set_time(1, 1000000);
+        moves_refuse(automata, 0, 14, "1,000,000 cycles done");
+        moves_refuse(automata, 8, 14, "1,000,000 cycles done, with events");
+        given.charts.variables[0] = given.automata.variables[0] = 101;
+        moves_refuse(automata, 0, 12, "1,000,000 cycles done, with a variable out of its range");
+    }
+}
+
+/* ---- faults: the second chart assigns to its variable, -100 to 100, as it leaves its initial state */
+
+static void begin_faulting(file *f)
+{
+    f->len = 0;
+    add_chart(f, 0);
+    add_chart(f, 2);
+    for (unsigned state = 0; state < 4; state++) {
+        add_state(f, state >= 2);
+    }
+    add_transition(f, 1, 0, 1, NO_TRIGGER, 0, NONE);
+    add_transition(f, 1, 2, 3, NO_TRIGGER, 0, NONE);
+    add_variable(f, VARIABLE, -100, 100, 0);
+}
+
+static const struct {
+    const char *what;
+    int32_t a, b, c;
+    unsigned first, second; /* (a first b) second c; where there is no second, a first b; where there is no first, a */
+    unsigned number;
+} faults[] = {
+    {"a sum above 32 bits", INT32_MAX, 1, 0, SUM, 0, 15},
+    {"a difference below 32 bits", INT32_MIN, 1, 0, DIFFERENCE, 0, 15},
+    {"a product above 32 bits", 65536, 32768, 0, PRODUCT, 0, 15},
+    {"the quotient of the lowest and -1", INT32_MIN, -1, 0, QUOTIENT, 0, 15},
+    {"a quotient by 0", 1, 0, 0, QUOTIENT, 0, 16},
+    {"a remainder by 0", INT32_MIN, 0, 0, REMAINDER, 0, 16},
+    {"the range before the divisor", INT32_MAX, 1, 0, SUM, QUOTIENT, 15},
+    {"the divisor before the range", 1, 0, INT32_MAX, REMAINDER, PRODUCT, 16},
+    {"101", 101, 0, 0, 0, 0, 17},
+    {"-101", -101, 0, 0, 0, 0, 17},
+    {"100 + 1", 100, 1, 0, SUM, 0, 17},
+};
+
+static void make_faulting(file *f, size_t fault)
+{
+    begin_faulting(f);
+    add_constant(f, NODE, faults[fault].a);
+    unsigned root = 0;
+    if (faults[fault].first != 0) {
+        add_constant(f, NODE, faults[fault].b);
+        add_node(f, NODE, faults[fault].first, 0, 1, 0);
+        root = 2;
+    }
+    if (faults[fault].second != 0) {
+        add_constant(f, NODE, faults[fault].c);
+        add_node(f, NODE, faults[fault].second, 2, 3, 0);
+        root = 4;
+    }
+    add_action(f, ON_TRANSITION, 1, ASSIGN, 0, root);
+}
+
+/* A turn of the second chart faults; a cycle faults as a whole, also the first chart's turn in it. */
+static void faulting_sets(void)
+{
+    for (size_t i = 0; i < sizeof faults / sizeof faults[0]; i++) {
+        make_faulting(&work, i);
+        make_twin(&work);
+        fresh_runs();
+        must(charts_turn(work.bytes, work.len, &given.charts, 7) == 0, "the first chart's turn");
+        must(automata_turn(table.bytes, table.len, &given.automata, 7) == 0, "the first automaton's turn");
+        for (unsigned automata = 0; automata < 2; automata++) {
+            moves_refuse(automata, 0, faults[i].number, faults[i].what);
+            moves_refuse(automata, 1, 13, "events before a fault");
+        }
+        fresh_runs();
+        for (unsigned automata = 0; automata < 2; automata++) {
+            given.f = automata ? &table : &work;
+            given.masks[0] = given.events = 7;
+            all_refuse(automata ? CYCLE_A : CYCLE_C, automata ? PLAY_A : PLAY_C, faults[i].number, "a fault in a cycle's second turn");
+        }
+    }
+}
+
+/* One automaton, one location, so many idle edges without literals; a literal that faults at the last edge if asked. */
+static void make_open(file *f, unsigned edges, bool fault)
+{
+    f->len = 0;
+    add_automaton(f, 0);
+    add_location(f, 0);
+    for (unsigned edge = 0; edge < edges; edge++) {
+        add_edge(f, 0, 0, 0, 1);
+    }
+    if (fault) {
+        add_literal(f, MUST_HOLD, edges - 1, NO_TRIGGER, 0, 4);
+        add_constant(f, TWIN_NODE, 1);
+        add_constant(f, TWIN_NODE, 0);
+        add_node(f, TWIN_NODE, QUOTIENT, 0, 1, 0);
+        add_constant(f, TWIN_NODE, 0);
+        add_node(f, TWIN_NODE, EQUAL, 2, 3, 0);
+    }
+}
+
+static void open_edges(void)
+{
+    static const struct {
+        unsigned edges;
+        bool fault;
+        unsigned number;
+    } cases[] = {{0, false, 18}, {2, false, 19}, {384, false, 19}, {1, true, 16}, {3, true, 16}};
+    for (size_t i = 0; i < sizeof cases / sizeof cases[0]; i++) {
+        make_open(&table, cases[i].edges, cases[i].fault);
+        must(automata_start(table.bytes, table.len, &given.automata) == 0, "a table of open edges");
+        moves_refuse(true, 5, cases[i].number, "open edges");
+    }
+}
+
+/* ---- lent buffers, paths and rows */
+
+/* Every length that is too short, and some that are not. */
+static void buffers(void)
+{
+    make_set(&work);
+    make_twin(&work);
+    given.f = &work;
+    for (given.out_len = 0; given.out_len < table.len; given.out_len++) {
+        refuses(TRANSLATE, 10, "a short buffer");
+    }
+    for (; given.out_len < table.len + 40; given.out_len++) {
+        lend_given(TRANSLATE, given.out_len % 2 == 0);
+        must(translate() == (int32_t)table.len && memcmp(LENT_OUT, table.bytes, table.len) == 0 && kept_from(IN_OUT, table.len) && kept(IN_FILE),
+             "a translation into its length and more");
+    }
+    puts("ok: a translation into its length and more");
+}
+
+static uint16_t steps[MANY_STEPS];
+
+static void path_refused(const uint16_t *path, size_t len, size_t rows_len, unsigned number, const char *what)
+{
+    given.path = path;
+    given.path_len = len;
+    given.rows_len = rows_len;
+    refuses(BACK, number, what);
+}
+
+/* Paths of the set's twin: edges 0 to 5 of the transitions, 6 to 10 of the idle states. */
+static void paths(void)
+{
+    static const uint16_t no_edge[] = {0, 4, 65535, 11}, time_first[] = {65535}, time_second[] = {0, 65535}, late[] = {0, 4, 7}, another[] = {4},
+                          elsewhere[] = {3}, idle_elsewhere[] = {0, 4, 65535, 6}, high[] = {65534}, good[] = {0, 4, 65535, 2, 10, 65535, 7, 5};
+    given.f = &work;
+    path_refused(no_edge, 4, 30, 20, "an edge that is not there");
+    path_refused(high, 1, 30, 20, "65,534");
+    path_refused(time_first, 1, 30, 20, "time at position 1");
+    path_refused(time_second, 2, 30, 20, "time at position 2");
+    path_refused(late, 3, 30, 20, "an edge where time is due");
+    path_refused(another, 1, 30, 20, "an edge of another automaton");
+    path_refused(elsewhere, 1, 30, 20, "an edge of another location");
+    path_refused(idle_elsewhere, 4, 30, 20, "an idle edge of another location");
+    path_refused(late, 3, 0, 20, "a broken path, and no rows");
+    must(path_back(work.bytes, work.len, good, 8, (uint32_t *)(void *)filler, 12) == 4, "a path of four rows");
+    for (size_t rows_len = 0; rows_len < 12; rows_len++) {
+        path_refused(good, 8, rows_len, 21, "short rows");
+    }
+}
+
+/* A chart that stays in its second state, through a whole run and one step more. */
+static void longest_path(void)
+{
+    work.len = 0;
+    add_chart(&work, 0);
+    add_state(&work, 0);
+    add_state(&work, 0);
+    add_transition(&work, 1, 0, 1, NO_TRIGGER, 0, NONE);
+    for (size_t i = 0; i < MANY_STEPS; i++) {
+        steps[i] = i % 2 == 1 ? 65535 : 2;
+    }
+    steps[0] = 0;
+    must(path_back(work.bytes, work.len, steps, MANY_STEPS - 1, (uint32_t *)(void *)filler, 3) == 1, "a path of 1,000,000 cycles");
+    path_refused(steps, MANY_STEPS, 3, 20, "a step after 1,000,000 cycles");
+    path_refused(steps, MANY_STEPS - 1, 2, 21, "a long path, and short rows");
+}
+
+/* ---- what is no refusal, at the same edges */
+
+/* Lengths above 32 bits, in memory that is mapped and hardly touched: none of them is cut. */
+static void vast_lengths(void)
+{
+    static const uint16_t good[] = {0, 4, 65535, 2};
+    size_t over = (size_t)UINT32_MAX + 1;
+    uint8_t *zeros = vast(sizeof(uint32_t) * (over + 2));
+    if (zeros == NULL) {
+        puts("skipped: lengths above 32 bits, which cannot be lent here");
+        return;
+    }
+    make_set(&work);
+    make_twin(&work);
+    fresh_runs();
+    void *words = zeros;
+    bool fine = charts_play(work.bytes, work.len, &given.charts, words, over) == MONUVALECK_MOST_CYCLES &&
+                automata_play(table.bytes, table.len, &given.automata, words, over) == MONUVALECK_MOST_CYCLES &&
+                path_back(work.bytes, work.len, words, over, NULL, 0) == -20 && path_back(work.bytes, work.len, good, 4, words, over + 2) == 3 &&
+                charts_translate(work.bytes, work.len, zeros, over) == (int32_t)table.len && automata_check(zeros, over + table.len) == -11;
+    memcpy(zeros, work.bytes, work.len);
+    memset(zeros + work.len, 0, table.len);
+    fine = fine && charts_check(zeros, over + work.len) == -2 && charts_check(zeros, over + work.len + 1) == -1;
+    must(fine, "lengths above 32 bits");
+    puts("ok: lengths above 32 bits");
+}
+
+/* Nothing is read where a length is 0, so the pointer may be null; with no masks the run is not looked at. */
+static void no_lengths(void)
+{
+    charts_run run;
+    automata_run twin_run;
+    memset(&run, 255, sizeof run);
+    memset(&twin_run, 255, sizeof twin_run);
+    make_set(&work);
+    make_twin(&work);
+    bool fine = charts_check(NULL, 0) == -3 && automata_check(NULL, 0) == -11 && charts_start(NULL, 0, &run) == -3 && charts_turn(NULL, 0, &run, 1) == -3 &&
+                charts_cycle(NULL, 0, &run, 1) == -3 && charts_play(NULL, 0, &run, NULL, 0) == -3 && automata_start(NULL, 0, &twin_run) == -11 &&
+                automata_turn(NULL, 0, &twin_run, 1) == -11 && automata_cycle(NULL, 0, &twin_run, 1) == -11 &&
+                automata_play(NULL, 0, &twin_run, NULL, 0) == -11 && charts_translate(NULL, 0, NULL, 0) == -3 && path_back(NULL, 0, NULL, 0, NULL, 0) == -3 &&
+                charts_play(work.bytes, work.len, &run, NULL, 0) == 0 && automata_play(table.bytes, table.len, &twin_run, NULL, 0) == 0 &&
+                charts_translate(work.bytes, work.len, NULL, 0) == -10 && path_back(work.bytes, work.len, NULL, 0, NULL, 0) == 0;
+    for (size_t i = 0; i < sizeof run; i++) {
+        fine = fine && ((const uint8_t *)&run)[i] == 255;
+    }
+    for (size_t i = 0; i < sizeof twin_run; i++) {
+        fine = fine && ((const uint8_t *)&twin_run)[i] == 255;
+    }
+    must(fine, "lengths of 0 with null pointers");
+    puts("ok: lengths of 0 with null pointers");
+}
+
+/* A play that stops keeps the cycles before: the winding variable is 99, 100, then out of its range. */
+static void stopped_play(void)
+{
+    static const uint32_t masks[5] = {0, 0, 0, 0, 0};
+    work.len = 0;
+    add_chart(&work, 0);
+    add_state(&work, 0);
+    add_state(&work, 0);
+    add_transition(&work, 1, 0, 1, NO_TRIGGER, 0, NONE);
+    add_transition(&work, 1, 1, 1, NO_TRIGGER, 0, NONE);
+    add_variable(&work, VARIABLE, -100, 100, 98);
+    add_node(&work, NODE, VALUE, 0, 0, 0);
+    add_constant(&work, NODE, 1);
+    add_node(&work, NODE, SUM, 0, 1, 0);
+    add_action(&work, ON_TRANSITION, 1, ASSIGN, 0, 2);
+    make_twin(&work);
+    fresh_runs();
+    must(charts_play(work.bytes, work.len, &given.charts, masks, 5) == 3 && given.charts.cycles == 3 && given.charts.variables[0] == 100 &&
+             automata_play(table.bytes, table.len, &given.automata, masks, 5) == 3 && given.automata.cycles == 3 && given.automata.variables[0] == 100,
+         "a play that stops at a fault");
+    moves_refuse(false, 0, 17, "the cycle after a stopped play");
+    moves_refuse(true, 0, 17, "the cycle after a stopped play");
+    set_time(1, 999999);
+    given.charts.variables[0] = given.automata.variables[0] = 0;
+    must(charts_play(work.bytes, work.len, &given.charts, masks, 5) == 1 && given.charts.cycles == 1000000 &&
+             automata_play(table.bytes, table.len, &given.automata, masks, 5) == 1 && given.automata.cycles == 1000000,
+         "a play that stops at 1,000,000 cycles");
+    puts("ok: a play that stops keeps the cycles before");
+}
+
+/* A line for each function and number; a number that no call was to meet counts as a failure. */
+static int report(void)
+{
+    int failures = 0;
+    for (unsigned call = 0; call < CALLS; call++) {
+        for (unsigned number = 1; number <= MOST_NUMBER; number++) {
+            bool can = calls[call].numbers >> number & 1;
+            if (can || met[call][number] > 0) {
+                bool fine = can && met[call][number] > 0 && wrong[call][number] == 0;
+                printf("%s: %s refuses by %u (%u calls)\n", fine ? "ok" : "FAILED", calls[call].name, number, met[call][number]);
+                failures += !fine;
+            }
+        }
+    }
+    return failures;
+}
+
+int main(int argc, char **argv)
+{
+    (void)argv;
+    on_heap = argc > 1;
+    make_areas(sizeof steps + 4096);
+    memset(filler, 0xA5, sizeof filler);
+    static const uint16_t wild[] = {1, 2, 3};
+    given.path = wild;
+    given.path_len = 3;
+    given.rows_len = 7;
+    given.out_len = 100;
+    given.masks_len = 1;
+    /* a run that no file has, so that the file's refusal is seen to come first */
+    memset(&given.charts, 0xFF, sizeof given.charts);
+    memset(&given.automata, 0xFF, sizeof given.automata);
+    given.f = &work;
+    given.events = 1;
+    broken_sets();
+    changed_sets();
+    given.f = &table;
+    broken_tables();
+    make_set(&work);
+    make_twin(&work);
+    impossible_runs();
+    times();
+    faulting_sets();
+    open_edges();
+    buffers();
+    paths();
+    longest_path();
+    no_lengths();
+    vast_lengths();
+    stopped_play();
+    return report() == 0 ? 0 : 1;
+}
