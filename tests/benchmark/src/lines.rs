@@ -1,147 +1,281 @@
-//! The lines of the table: chart sets checked, and cycles of their runs; then those of their twins.
+//! The lines of the tables: one kind of work on one input, for the proved and for the tuned side.
 
-use crate::table::{Given, Line};
-use crate::twin_lines::twin_lines;
-use simulator::chart_sets::zero_watch;
-use simulator::generate::calls::{events_of_set, mask};
-use simulator::generate::sets::{valid_set, Size};
-use simulator::records::{whole_records, CHART_LIMITS};
-use simulator::{charts, interface, Answer, ChartSet, ChartsRun, Machine, Random};
-use std::collections::hash_map::DefaultHasher;
-use std::hash::{Hash, Hasher};
-use std::rc::Rc;
+use crate::inputs::{self, Input};
+use crate::proved::Proved;
+use crate::work::{side, Side};
+use comparison::monuvaleck::{self, Stepped};
+use std::fmt::Debug;
+use std::hash::Hash;
+use std::hint::black_box;
+use tuned::automata::Table;
+use tuned::charts::Set;
+use tuned::machine::{Answer, Machine};
+use tuned::runs::Run;
+use tuned::{path_back, translation, Refusal};
 
-/// A set with the masks of a run from its start, in which no cycle is refused or faults.
-pub struct Input {
-    pub name: &'static str,
-    pub set: Vec<u8>,
-    pub masks: Vec<u32>,
-    /// How many cycles are done where each call checks the set, and how many files are checked.
-    pub calls: usize,
+pub struct Line {
+    pub input: &'static str,
+    pub work: &'static str,
+    /// How many units can be done at most.
+    pub units: usize,
+    pub proved: Side,
+    /// Reads the file as often as the proved side does, into kept storage.
+    pub tuned: Side,
+    /// Keeps the decoded file between calls.
+    pub kept: Option<Side>,
 }
 
-pub fn all() -> Vec<Line> {
-    let inputs = [
-        Input { name: "zero-watch", set: zero_watch(), masks: zero_watch_masks(200_000), calls: 20_000 },
-        largest(60_000, 300),
-    ];
-    let lines = |input: Rc<Input>| {
-        let mut lines = twin_lines(&input);
-        lines.splice(..0, chart_lines(input));
-        lines
-    };
-    inputs.into_iter().map(Rc::new).flat_map(lines).collect()
-}
+/// A run that can be compared.
+trait SameRun: Run + Hash + PartialEq + Debug {}
 
-fn zero_watch_masks(count: usize) -> Vec<u32> {
-    let mut random = Random::new(1);
-    (0..count).map(|_| random.pick(&[0, 1, 2, 3])).collect()
-}
+impl<T: Run + Hash + PartialEq + Debug> SameRun for T {}
 
-/// A set of the largest sizes: of some whose run goes on without a fault, the one that takes most transitions.
-fn largest(cycles: usize, calls: usize) -> Input {
-    let of_seed = |seed: u64| {
-        let mut random = Random::new(seed);
-        let set = valid_set(&mut random, Size::Largest);
-        let known = events_of_set(&ChartSet::read(&set).expect("a valid set"));
-        let masks: Vec<u32> = (0..cycles).map(|_| mask(&mut random, known)).collect();
-        Input { name: "largest", set, masks, calls }
-    };
-    let played = (0..64).map(of_seed).filter(|input| taken(input).is_some());
-    let input = played.max_by_key(|input| taken(input)).expect("a set whose run goes on");
-    let records = whole_records(&input.set);
-    for (kind, most) in CHART_LIMITS {
-        assert_eq!(records.iter().filter(|record| record[0] == kind).count(), most);
+/// An answer as the C interface gives it.
+#[inline(always)]
+fn code<T>(result: Result<T, Refusal>, answer: impl FnOnce(T) -> i32) -> i32 {
+    match result {
+        Ok(value) => answer(value),
+        Err(number) => -(number as i32),
     }
-    println!("largest: {} transitions taken in {cycles} cycles of 8 charts", taken(&input).unwrap_or(0));
-    input
 }
 
-/// The transitions taken in all cycles, if none faults.
-fn taken(input: &Input) -> Option<usize> {
-    let set = ChartSet::read(&input.set).expect("a valid set");
-    let mut run = set.start();
-    let mut taken = 0;
-    for events in &input.masks {
-        let mut given = *events;
-        loop {
-            match set.turn(&mut run, given) {
-                Ok(Answer::Taken(_)) => taken += 1,
-                Ok(Answer::Idle) => {}
-                Ok(Answer::Time) => break,
-                Err(_) => return None,
+/// Answers so far, as one number; no call may be refused or fault.
+#[derive(Clone, Copy, Default, Hash)]
+struct Answers(u64);
+
+impl Answers {
+    #[inline(always)]
+    fn add(&mut self, answer: i32) {
+        assert!(answer >= 0, "number {}", -answer);
+        self.0 = self.0.rotate_left(7) ^ answer as u64;
+    }
+}
+
+fn checked<M: Proved + 'static>(input: &Input, work: &'static str, file: &'static [u8]) -> Line {
+    let mut machine = M::default();
+    Line {
+        input: input.name,
+        work,
+        units: input.calls,
+        proved: side(Answers::default(), move |answers, units| {
+            (0..units).for_each(|_| answers.add(M::check(black_box(file))));
+        }),
+        tuned: side(Answers::default(), move |answers, units| {
+            (0..units).for_each(|_| answers.add(code(machine.read_into(black_box(file)), |()| 0)));
+        }),
+        kept: None,
+    }
+}
+
+/// A machine and its fresh run, which the proved side makes out of another.
+fn fresh<M: Proved<Run: SameRun>>(file: &[u8]) -> (M, M::Run) {
+    let machine = M::read(file).expect("an accepted file");
+    let mut run = machine.start();
+    machine.cycle(&mut run, 0).expect("no cycle faults");
+    assert_eq!(M::lent(&mut run).start(file), 0);
+    assert_eq!(run, machine.start());
+    (machine, run)
+}
+
+/// Calls that check their file, each with its events.
+fn called<M: Proved<Run: SameRun> + 'static>(
+    (input, work): (&Input, &'static str),
+    file: &'static [u8],
+    events: &'static [u32],
+    proved: impl Fn(&mut M::Lent, &[u8], u32) -> i32 + 'static,
+    tuned: impl Fn(&M, &mut M::Run, u32) -> i32 + Copy + 'static,
+) -> Line {
+    let (kept, run) = fresh::<M>(file);
+    let mut machine = M::default();
+    let start = (Answers::default(), run);
+    Line {
+        input: input.name,
+        work,
+        units: input.calls,
+        proved: side(start, move |(answers, run), units| {
+            for events in &events[..units] {
+                answers.add(proved(M::lent(run), black_box(file), *events));
             }
-            given = 0;
-        }
+        }),
+        tuned: side(start, move |(answers, run), units| {
+            for events in &events[..units] {
+                let read = machine.read_into(black_box(file));
+                answers.add(code(read, |()| tuned(&machine, run, *events)));
+            }
+        }),
+        kept: Some(side(start, move |(answers, run), units| {
+            for events in &events[..units] {
+                answers.add(tuned(black_box(&kept), run, *events));
+            }
+        })),
     }
-    Some(taken)
 }
 
-/// An answer and a run as one number.
-fn given(answer: i32, run: &ChartsRun) -> Given {
-    let mut hasher = DefaultHasher::new();
-    (answer, run.states, run.ages, run.variables, run.events, run.position, run.cycles).hash(&mut hasher);
-    hasher.finish()
+/// Cycles, the file checked once.
+fn played<M: Proved<Run: SameRun> + 'static>(
+    input: &'static Input,
+    work: &'static str,
+    file: &'static [u8],
+) -> Line {
+    let (mut machine, run) = fresh::<M>(file);
+    Line {
+        input: input.name,
+        work,
+        units: input.masks.len(),
+        proved: side((0, run), move |(answer, run), units| {
+            *answer = M::lent(run).play(black_box(file), &input.masks[..units]);
+            assert_eq!(*answer as usize, units, "a cycle faulted");
+        }),
+        tuned: side((0, run), move |(answer, run), units| {
+            let read = machine.read_into(black_box(file));
+            let played = read.and_then(|()| machine.play(run, &input.masks[..units]));
+            *answer = code(played, |played| played as i32);
+        }),
+        kept: None,
+    }
 }
 
-type Start = fn(&[u8], &mut ChartsRun) -> i32;
-type Cycle = fn(&[u8], &mut ChartsRun, u32) -> i32;
-type Play = fn(&[u8], &mut ChartsRun, &[u32]) -> i32;
+/// No twin is longer: the buffer of one who does not know the length.
+const LONGEST: usize = 232_576;
 
-fn started(set: &[u8], start: Start) -> ChartsRun {
-    let mut run = ChartsRun::ZERO;
-    assert_eq!(start(set, &mut run), 0);
-    run
+fn translated(input: &'static Input, work: &'static str, room: usize) -> Line {
+    let (set, table) = (&input.set, &input.table);
+    let (mut machine, (kept, _)) = (Set::default(), fresh::<Set>(set));
+    let start = (Answers::default(), vec![0; room]);
+    let mut twin = start.1.clone();
+    assert_eq!(translation::write(&kept, set, &mut twin), Ok(table.len()));
+    assert!(twin[..table.len()] == *table, "a twin differs");
+    Line {
+        input: input.name,
+        work,
+        units: input.calls,
+        proved: side(start.clone(), move |(answers, out), units| {
+            (0..units).for_each(|_| answers.add(monuvaleck::charts_translate(black_box(set), out)));
+        }),
+        tuned: side(start.clone(), move |(answers, out), units| {
+            for _ in 0..units {
+                let read = machine.read_into(black_box(set));
+                let written = read.and_then(|()| translation::write(&machine, set, out));
+                answers.add(code(written, |length| length as i32));
+            }
+        }),
+        kept: Some(side(start, move |(answers, out), units| {
+            for _ in 0..units {
+                let written = translation::write(black_box(&kept), set, out);
+                answers.add(code(written, |length| length as i32));
+            }
+        })),
+    }
 }
 
-fn check_files(input: &Rc<Input>, check: fn(&[u8]) -> u32) -> Box<dyn FnMut() -> Given> {
-    let input = Rc::clone(input);
-    Box::new(move || (0..input.calls).map(|_| u64::from(check(std::hint::black_box(&input.set)))).sum())
+fn led_back(input: &'static Input) -> Line {
+    let (set, path) = (&input.set, &input.path);
+    let (mut machine, (kept, _)) = (Set::default(), fresh::<Set>(set));
+    let start = (0, vec![0; 3 * path.len()]);
+    Line {
+        input: input.name,
+        work: "steps of a path led back",
+        units: path.len(),
+        proved: side(start.clone(), move |(answer, rows), units| {
+            *answer = monuvaleck::path_back(black_box(set), &path[..units], rows);
+            assert!(*answer >= 0, "a path is refused");
+        }),
+        tuned: side(start.clone(), move |(answer, rows), units| {
+            let read = machine.read_into(black_box(set));
+            let written = read.and_then(|()| path_back::write(&machine, &path[..units], rows));
+            *answer = code(written, |rows| rows as i32);
+        }),
+        kept: Some(side(start, move |(answer, rows), units| {
+            let written = path_back::write(black_box(&kept), &path[..units], rows);
+            *answer = code(written, |rows| rows as i32);
+        })),
+    }
 }
 
-fn cycle_by_cycle(input: &Rc<Input>, start: Start, cycle: Cycle) -> Box<dyn FnMut() -> Given> {
-    let input = Rc::clone(input);
-    Box::new(move || {
-        let mut run = started(&input.set, start);
-        for events in &input.masks[..input.calls] {
-            assert_eq!(cycle(&input.set, &mut run, *events), 0);
-        }
-        given(0, &run)
-    })
+/// The guard by itself. The proved side reads node records, the tuned one decoded nodes: neither checks them.
+fn worked_out(input: &'static Input) -> Line {
+    let bytes = inputs::nodes_of(&input.set);
+    let (machine, run) = fresh::<Set>(&input.set);
+    let (nodes, values) = (machine.nodes, run.shared.variables);
+    let node = nodes.len() as u16 - 1;
+    assert_eq!(nodes.truth(&values, node), Ok(false), "some nodes are not worked out");
+    Line {
+        input: input.name,
+        work: "guards worked out",
+        units: input.masks.len(),
+        proved: side(Answers::default(), move |answers, units| {
+            for _ in 0..units {
+                answers.add(code(comparison::truth(black_box(&bytes), &values, node), i32::from));
+            }
+        }),
+        tuned: side(Answers::default(), move |answers, units| {
+            for _ in 0..units {
+                answers.add(code(black_box(&nodes).truth(&values, node), i32::from));
+            }
+        }),
+        kept: None,
+    }
 }
 
-fn played(input: &Rc<Input>, start: Start, play: Play) -> Box<dyn FnMut() -> Given> {
-    let input = Rc::clone(input);
-    Box::new(move || {
-        let mut run = started(&input.set, start);
-        let answer = play(&input.set, &mut run, &input.masks);
-        assert_eq!(usize::try_from(answer), Ok(input.masks.len()));
-        given(answer, &run)
-    })
+/// What is done on a file of charts or of automata.
+struct Works {
+    checked: &'static str,
+    turns: &'static str,
+    cycles: &'static str,
+    played: &'static str,
 }
 
-fn chart_lines(input: Rc<Input>) -> Vec<Line> {
-    vec![
-        Line {
-            input: input.name,
-            work: "files checked",
-            units: input.calls,
-            proved: check_files(&input, |set| u32::from(comparison::chart_refusal(set))),
-            simulator: check_files(&input, charts::check),
-        },
-        Line {
-            input: input.name,
-            work: "cycles, the set checked by each call",
-            units: input.calls,
-            proved: cycle_by_cycle(&input, comparison::charts_start, comparison::charts_cycle),
-            simulator: cycle_by_cycle(&input, interface::charts_start, interface::charts_cycle),
-        },
-        Line {
-            input: input.name,
-            work: "cycles, the set checked once",
-            units: input.masks.len(),
-            proved: played(&input, comparison::charts_start, comparison::charts_play),
-            simulator: played(&input, interface::charts_start, interface::charts_play),
-        },
+const CHARTS: Works = Works {
+    checked: "sets checked",
+    turns: "chart turns, each call checks",
+    cycles: "chart cycles, each call checks",
+    played: "chart cycles, checked once",
+};
+const AUTOMATA: Works = Works {
+    checked: "tables checked",
+    turns: "automata turns, each call checks",
+    cycles: "automata cycles, each call checks",
+    played: "automata cycles, checked once",
+};
+
+fn machine_lines<M: Proved<Run: SameRun> + 'static>(
+    input: &'static Input,
+    file: &'static [u8],
+    works: &Works,
+) -> [Line; 4] {
+    [
+        checked::<M>(input, works.checked, file),
+        called((input, works.turns), file, &input.turns, M::Lent::turn, turn::<M>),
+        called((input, works.cycles), file, &input.masks, M::Lent::cycle, cycle::<M>),
+        played::<M>(input, works.played, file),
     ]
+}
+
+fn lines_of(input: &'static Input) -> Vec<Line> {
+    let mut lines = Vec::from(machine_lines::<Set>(input, &input.set, &CHARTS));
+    lines.extend(machine_lines::<Table>(input, &input.table, &AUTOMATA));
+    lines.extend([
+        translated(input, "sets translated", LONGEST),
+        translated(input, "sets translated, no room to spare", input.table.len()),
+        led_back(input),
+    ]);
+    lines
+}
+
+fn turn<M: Machine>(machine: &M, run: &mut M::Run, events: u32) -> i32 {
+    code(machine.turn(run, events), Answer::code)
+}
+
+fn cycle<M: Machine>(machine: &M, run: &mut M::Run, events: u32) -> i32 {
+    code(machine.cycle(run, events), |()| 0)
+}
+
+/// The lines whose name has the text, each with one part in so many of its units.
+pub fn all(text: &str, part: usize) -> Vec<Line> {
+    let mut lines: Vec<Line> = inputs::all(part).into_iter().flat_map(lines_of).collect();
+    let guard = inputs::guard(part);
+    lines.push(played::<Set>(guard, CHARTS.played, &guard.set));
+    lines.push(worked_out(guard));
+    lines.retain(|line| format!("{}, {}", line.input, line.work).contains(text));
+    lines
 }

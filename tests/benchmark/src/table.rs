@@ -1,31 +1,17 @@
-//! Lines of work for two sides, timed in turns.
+//! The sides timed in turns.
 
-use std::time::Instant;
+use crate::clock::processor_time;
+use crate::lines::Line;
+use crate::work::{Side, Work};
 
-/// What a side gives, so that the two can be compared and no work is left out.
-pub type Given = u64;
+/// How slow the proved code may be beside the tuned.
+const TARGET: f64 = 1.5;
 
-/// One kind of work on one input; `units` of it are done by each call of a side.
-pub struct Line {
-    pub input: &'static str,
-    pub work: &'static str,
-    pub units: usize,
-    pub proved: Box<dyn FnMut() -> Given>,
-    pub simulator: Box<dyn FnMut() -> Given>,
-}
-
-const REPETITIONS: usize = 11;
-
-/// Units per second of each side.
-struct Speed {
-    proved: f64,
-    simulator: f64,
-}
-
-fn seconds(side: &mut dyn FnMut() -> Given) -> (f64, Given) {
-    let start = Instant::now();
-    let given = side();
-    (start.elapsed().as_secs_f64(), given)
+fn nanoseconds(side: &mut dyn Work, units: usize) -> f64 {
+    side.reset();
+    let start = processor_time();
+    side.work(units);
+    (processor_time() - start) as f64 / units as f64
 }
 
 fn median(mut times: Vec<f64>) -> f64 {
@@ -33,27 +19,48 @@ fn median(mut times: Vec<f64>) -> f64 {
     times[times.len() / 2]
 }
 
-/// The first calls warm both sides up and are not counted.
-fn measure(line: &mut Line) -> Speed {
-    let (mut proved, mut simulator) = (Vec::new(), Vec::new());
-    for repetition in 0..=REPETITIONS {
-        let (one, right) = (seconds(&mut *line.proved), seconds(&mut *line.simulator));
-        assert_eq!(one.1, right.1, "{}, {}", line.input, line.work);
-        if repetition > 0 {
-            proved.push(one.0);
-            simulator.push(right.0);
+/// Nanoseconds a unit of each side. All sides must give the same; the first round warms up and is not counted.
+fn measure(line: &mut Line, repetitions: usize) -> Vec<f64> {
+    let mut sides: Vec<&mut Side> =
+        [&mut line.proved, &mut line.tuned].into_iter().chain(&mut line.kept).collect();
+    let mut times = vec![Vec::new(); sides.len()];
+    for repetition in 0..=repetitions {
+        for (side, times) in sides.iter_mut().zip(&mut times) {
+            let time = nanoseconds(&mut ***side, line.units);
+            if repetition > 0 {
+                times.push(time);
+            }
         }
+        let given = sides[0].given();
+        assert!(
+            sides.iter().all(|side| side.given() == given),
+            "{}, {}: results differ",
+            line.input,
+            line.work
+        );
     }
-    let units = line.units as f64;
-    Speed { proved: units / median(proved), simulator: units / median(simulator) }
+    times.into_iter().map(median).collect()
 }
 
-pub fn print(lines: &mut [Line]) {
-    println!("{:<12} {:<40} {:>14} {:>14} {:>8}", "input", "work", "proved /s", "simulator /s", "ratio");
-    for line in lines {
-        let Speed { proved, simulator } = measure(line);
-        let ratio = proved / simulator;
-        println!("{:<12} {:<40} {proved:>14.0} {simulator:>14.0} {ratio:>8.2}", line.input, line.work);
+pub fn print(lines: &mut [Line], repetitions: usize) {
+    let mut within = 0;
+    println!(
+        "{:<11} {:<34} {:>11} {:>11} {:>7}   {:>11}",
+        "input", "work", "proved", "tuned", "ratio", "kept"
+    );
+    for line in &mut *lines {
+        let times = measure(line, repetitions);
+        let ratio = times[0] / times[1];
+        let mark = if ratio > TARGET { '*' } else { ' ' };
+        let kept = times.get(2).map_or(String::new(), |time| format!("{time:.1}"));
+        println!(
+            "{:<11} {:<34} {:>11.1} {:>11.1} {ratio:>7.2} {mark} {kept:>11}",
+            line.input, line.work, times[0], times[1]
+        );
+        within += usize::from(ratio <= TARGET);
     }
-    println!("Medians of {REPETITIONS} repetitions in turns; ratio: proved / simulator, above 1 where the proved code is faster.");
+    println!("{within} of {} lines within {TARGET}; the others are marked *.", lines.len());
+    println!("Nanoseconds of processor time a unit, medians of {repetitions} repetitions in turns.");
+    println!("ratio: proved / tuned, which reads the file as often as the proved code does.");
+    println!("kept: tuned with the decoded file kept between calls.");
 }

@@ -1,0 +1,134 @@
+//! What the work is done on: chart sets with the events of a run from their start, in which no cycle is refused or faults.
+
+use simulator::assemble::{chart, constant, guarded, operation, state, transition, variable_value};
+use simulator::chart_sets::{zero_watch, SetParts};
+use simulator::expressions::Node;
+use simulator::generate::calls::{events_of_set, mask};
+use simulator::generate::sets::{valid_set, Size};
+use simulator::operators::{AND, AT_MOST, DIFFERENCE, NOT, PRODUCT, QUOTIENT, REMAINDER, SUM};
+use simulator::records::NODE;
+use simulator::variables::Variable;
+use simulator::{translation, ChartSet, Random};
+use std::collections::VecDeque;
+use tuned::automata::Table;
+use tuned::machine::Machine;
+
+pub struct Input {
+    pub name: &'static str,
+    pub set: Vec<u8>,
+    /// The set's twin.
+    pub table: Vec<u8>,
+    /// The events of each cycle, and of as many turns.
+    pub masks: Vec<u32>,
+    pub turns: Vec<u32>,
+    /// The path that the twin takes in these turns.
+    pub path: Vec<u16>,
+    /// How many files are checked, and how many calls made that check theirs.
+    pub calls: usize,
+}
+
+impl Input {
+    /// Kept to the end of the program, so that work can borrow it.
+    fn new(name: &'static str, set: Vec<u8>, masks: Vec<u32>, calls: usize) -> &'static Input {
+        let read = ChartSet::read(&set).expect("a valid set");
+        let table = translation::twin(&read);
+        let idle = vec![0; read.charts()];
+        let each = masks.iter().flat_map(|events| std::iter::once(events).chain(&idle));
+        let turns: Vec<u32> = each.copied().take(masks.len()).collect();
+        let path = path(&Table::read(&table).expect("a twin is accepted"), &turns);
+        Box::leak(Box::new(Input { name, set, table, masks, turns, path, calls }))
+    }
+}
+
+fn path(table: &Table, turns: &[u32]) -> Vec<u16> {
+    let mut run = table.start();
+    let mut step = |events: &u32| table.turn(&mut run, *events).expect("no turn faults").code();
+    turns.iter().map(|events| u16::try_from(step(events)).expect("16 bits")).collect()
+}
+
+/// The three sets, each with one part in so many of the whole work.
+pub fn all(part: usize) -> [&'static Input; 3] {
+    let mut random = Random::new(1);
+    let masks = (0..200_000 / part).map(|_| random.pick(&[0, 1, 2, 3])).collect();
+    [
+        Input::new("zero-watch", zero_watch(), masks, 10_000 / part),
+        generated("middling", Size::Middling, MIDDLING, 100_000 / part, 1_500 / part),
+        generated("largest", Size::Largest, LARGEST, 60_000 / part, 300 / part),
+    ]
+}
+
+/// Seeds of sets whose runs take many transitions and never fault.
+const MIDDLING: u64 = 182;
+const LARGEST: u64 = 40;
+
+fn generated(name: &'static str, size: Size, seed: u64, cycles: usize, calls: usize) -> &'static Input {
+    let mut random = Random::new(seed);
+    let set = valid_set(&mut random, size);
+    let known = events_of_set(&ChartSet::read(&set).expect("a valid set"));
+    let masks = (0..cycles).map(|_| mask(&mut random, known)).collect();
+    Input::new(name, set, masks, calls)
+}
+
+/// One chart that tries in each cycle a guard of 1,024 nodes, all worked out, which does not hold.
+pub fn guard(part: usize) -> &'static Input {
+    let nodes = guard_nodes();
+    let guard = u16::try_from(nodes.len() - 1).expect("at most 1,024");
+    let set = SetParts {
+        charts: vec![chart(0)],
+        states: vec![state(0), state(0)],
+        transitions: vec![transition(1, 0, 1), guarded(transition(1, 1, 1), guard)],
+        variables: vec![Variable { lowest: -100, highest: 100, start: 7 }; 64],
+        nodes,
+        ..SetParts::default()
+    };
+    Input::new("guard", set.bytes(), vec![0; 5_000 / part], 300 / part)
+}
+
+#[derive(Default)]
+struct Growing(Vec<Node>);
+
+impl Growing {
+    fn push(&mut self, node: Node) -> u16 {
+        self.0.push(node);
+        u16::try_from(self.0.len() - 1).expect("at most 1,024")
+    }
+
+    /// That a chain of 30 operations is at most 100, which its last, a remainder, sees to.
+    fn comparison(&mut self, place: u16) -> u16 {
+        let mut number = self.push(variable_value(place));
+        for round in 0..6 {
+            let operations = [
+                (SUM, variable_value(place + 8 * round)),
+                (PRODUCT, constant(3)),
+                (DIFFERENCE, variable_value(round)),
+                (QUOTIENT, constant(2)),
+                (REMAINDER, constant(100)),
+            ];
+            for (operator, leaf) in operations {
+                let leaf = self.push(leaf);
+                number = self.push(operation(operator, &[number, leaf]));
+            }
+        }
+        let most = self.push(constant(100));
+        self.push(operation(AT_MOST, &[number, most]))
+    }
+}
+
+/// Not the conjunction of 16 comparisons, all of which hold.
+fn guard_nodes() -> Vec<Node> {
+    let mut growing = Growing::default();
+    let mut truths: VecDeque<u16> = (0..16).map(|place| growing.comparison(place)).collect();
+    let mut first = truths.pop_front().expect("one of 16");
+    while let Some(second) = truths.pop_front() {
+        truths.push_back(growing.push(operation(AND, &[first, second])));
+        first = truths.pop_front().expect("at least the last");
+    }
+    growing.push(operation(NOT, &[first]));
+    assert_eq!(growing.0.len(), 1_024);
+    growing.0
+}
+
+/// The node records of a set.
+pub fn nodes_of(set: &[u8]) -> Vec<u8> {
+    set.chunks(16).filter(|record| record[0] == NODE).flatten().copied().collect()
+}

@@ -1,0 +1,39 @@
+//! The benchmark at work, with few units: its sides give the same on every line.
+
+use std::process::{Command, Output};
+
+const LINES: usize = 32;
+
+fn benchmark(arguments: &[&str]) -> Output {
+    Command::new(env!("CARGO_BIN_EXE_benchmark")).args(arguments).output().expect("it runs")
+}
+
+fn text(output: Output) -> String {
+    assert!(output.status.success(), "{output:?}");
+    String::from_utf8(output.stdout).expect("text")
+}
+
+#[test]
+fn times() {
+    let text = text(benchmark(&["--quick"]));
+    assert!(text.contains(&format!(" of {LINES} lines within 1.5")), "{text}");
+}
+
+/// Two works of each side, and a third side where the file can be kept.
+#[test]
+fn counts() {
+    let text = text(benchmark(&["--count"]));
+    let of = |side: &str| text.lines().filter(|line| line.split('\t').nth(2) == Some(side)).count();
+    assert_eq!((of("proved"), of("tuned"), of("kept")), (2 * LINES, 2 * LINES, 36), "{text}");
+}
+
+#[test]
+fn picked_lines() {
+    assert!(text(benchmark(&["--quick", "largest, sets"])).contains(" of 2 lines within 1.5"));
+}
+
+#[test]
+fn wrong_arguments() {
+    let output = benchmark(&["--quick", "largest", "sets"]);
+    assert_eq!((output.status.code(), output.stdout.len()), (Some(2), 0));
+}
