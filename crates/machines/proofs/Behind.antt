@@ -1,6 +1,6 @@
 -- A test of all places behind the first n, by a loop that counts up. Assumes nothing.
 use mathlib.Core.Path.{_≡_, sym, ap, _∙_}
-use mathlib.Core.Bool.{Bool, true, false, _&&_}
+use mathlib.Core.Bool.{Bool, true, false, _&&_, and-assoc, and-true}
 use mathlib.Core.List.{List}
 use Prim.Native.Nat.{ℕ, _+_, _≤_, _<_}
 use native.Mathlib.Numerals.{add-one}
@@ -26,3 +26,14 @@ module _ {A : Type 0} (p : A → Bool) (d : A) (n : ℕ) (l : List A) where
   pub behind-all : (k : ℕ) → Behind k → length l ≤ k → all p (drop n l) ≡ true
   unfolding all
   behind-all k b h = b ∙ ap (all p) (drop-of-length-le l {i = k} h)
+
+  -- a truth that those up to k came to
+  abbrev pub BehindBy : Bool → ℕ → Type 0
+  BehindBy b k = (b && all p (drop k l)) ≡ all p (drop n l)
+
+  pub by-more : (b : Bool) (k : ℕ) → BehindBy b k → k < length l → BehindBy (b && p (getD l k d)) (k + 1)
+  by-more b k h r = and-assoc b (p (getD l k d)) (all p (drop (k + 1) l)) ∙ ap (_&&_ b) (sym (one k r)) ∙ h
+
+  pub by-all : (b : Bool) (k : ℕ) → BehindBy b k → length l ≤ k → b ≡ all p (drop n l)
+  unfolding all
+  by-all b k h r = sym (and-true b) ∙ ap (λ x. b && all p x) (sym (drop-of-length-le l {i = k} r)) ∙ h

@@ -63,17 +63,17 @@ fn places_unused(parts: u16, at: [u16; 8]) -> bool
     true
 }
 
+// All are looked at, so that the compiler takes several at once.
 fn variables_unused(count: u16, variables: [i16; 64]) -> bool
     ensures { λ r. ⌜ r ≡ zeroValues count variables ⌝ }
 {
+    let mut unused = true;
     let mut k = count as usize;
     while k < 64 {
-        if variables[k] != 0 {
-            return false;
-        }
+        unused = unused & (variables[k] == 0);
         k += 1;
     }
-    true
+    unused
 }
 
 fn place_possible(s: &[u8], parts: u16, places: u16, part: u16, place: u16) -> bool
