@@ -24,7 +24,7 @@ use Rattle.charts.specs.Accepted.{Accepted}
 use Rattle.charts.proofs.Sound.{source-known}
 use Rattle.paths.specs.Along.{allFit, rowsAlong}
 use Rattle.paths.proofs.Along.{led-is}
-use Rattle.paths.proofs.Edges.{count-is, home-known, low-automaton, high-automaton}
+use Rattle.paths.proofs.Edges.{automaton-known}
 
 -- ---- the shape of a file that is not refused
 
@@ -52,20 +52,6 @@ module _ (s : List ℕ) where
 module _ (s : List ℕ) (sh : Shape) (ok : Accepted s sh) where
   abbrev cs : ChartSet
   cs = readCharts s
-
-  automaton-known : (e : ℕ) → e < length (twin cs .edges) → edge (twin cs) e .automaton < sh .charts
-  automaton-known e h = go (ltb e (sh .transitions)) refl
-    where
-      go : (b : Bool) → ltb e (sh .transitions) ≡ b → edge (twin cs) e .automaton < sh .charts
-      go true l =
-          let t = ltb-true e (sh .transitions) l in
-          omega (arith, low-automaton s sh ok e t, home-known s sh ok (transitionAt s sh e .source) (source-known s sh ok e t))
-      go false l =
-          let t = ltb-false e (sh .transitions) l in
-          let n = e - sh .transitions in
-          let back : sh .transitions + n ≡ e = omega (arith, t) in
-          let k : n < sh .states = omega (arith, t, count-is s sh ok) in
-          subst (λ e. edge (twin cs) e .automaton < sh .charts) back (omega (arith, high-automaton s sh ok n k, home-known s sh ok n k))
 
   -- the turns taken, and one more
   abbrev turns : Walk → ℕ
@@ -103,7 +89,7 @@ module _ (s : List ℕ) (sh : Shape) (ok : Accepted s sh) where
           let z = and-true (ltb e (length (twin cs .edges)) && eqb (edge (twin cs) e .automaton + 1) (w .position)) (eqb (edge (twin cs) e .source) (getD (w .locations) (edge (twin cs) e .automaton) 0)) t .0 in
           let y = and-true (ltb e (length (twin cs .edges))) (eqb (edge (twin cs) e .automaton + 1) (w .position)) z in
           let p : edge (twin cs) e .automaton + 1 ≡ w .position = eqb-true (edge (twin cs) e .automaton + 1) (w .position) (y .1) in
-          omega (arith, p, automaton-known e (ltb-true e (length (twin cs .edges)) (y .0)), most-charts s sh (ok .shape))
+          omega (arith, p, automaton-known s sh ok e (ltb-true e (length (twin cs .edges)) (y .0)), most-charts s sh (ok .shape))
 
       go : (b : Bool) → eqb e timeMark ≡ b → Leads (walked cs e w)
       go true q = subst Leads (sym (ap (λ b. cond b later onward) q)) (timed (by true q))

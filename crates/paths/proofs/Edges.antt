@@ -1,8 +1,10 @@
 -- The twin's edges as reads of the set's bytes. Assumes nothing.
-use mathlib.Core.Path.{_≡_, sym, ap, _∙_}
+use mathlib.Core.Path.{_≡_, refl, sym, ap, _∙_, subst}
+use mathlib.Core.Bool.{Bool, true, false}
 use mathlib.Core.List.{List}
-use Prim.Native.Nat.{ℕ, _+_, _<_}
+use Prim.Native.Nat.{ℕ, _+_, _-_, _<_}
 use native.Mathlib.Omega.{arith}
+use borrow.Author.Tests.{ltb-true, ltb-false}
 use lib.Dec.{ltb, ltb→lt}
 use lib.ListN.{length, getD}
 use Rattle.model.specs.ChartSet.{transition, readCharts}
@@ -59,3 +61,17 @@ module _ (s : List ℕ) (sh : Shape) (ok : Accepted s sh) where
 
     pub high-automaton : edge (twin (readCharts s)) (sh .transitions + n) .automaton ≡ homeAt s sh n
     high-automaton = ap (λ x. x .automaton) high-is ∙ home-is s sh (ok .shape) n h
+
+  pub automaton-known : (e : ℕ) → e < length (twin (readCharts s) .edges) → edge (twin (readCharts s)) e .automaton < sh .charts
+  automaton-known e h = go (ltb e (sh .transitions)) refl
+    where
+      go : (b : Bool) → ltb e (sh .transitions) ≡ b → edge (twin (readCharts s)) e .automaton < sh .charts
+      go true l =
+          let t = ltb-true e (sh .transitions) l in
+          omega (arith, low-automaton e t, home-known (transitionAt s sh e .source) (source-known s sh ok e t))
+      go false l =
+          let t = ltb-false e (sh .transitions) l in
+          let n = e - sh .transitions in
+          let back : sh .transitions + n ≡ e = omega (arith, t) in
+          let k : n < sh .states = omega (arith, t, count-is) in
+          subst (λ e. edge (twin (readCharts s)) e .automaton < sh .charts) back (omega (arith, high-automaton n k, home-known n k))

@@ -32,6 +32,11 @@ unfolding gather
 length-words [] = refl
 length-words (x ∷ xs) = let e = length-words xs in omega arith
 
+-- a step has one row or none
+pub at-most-one : (n : ℕ) (b : Bool) → n ≡ cond b 1 0 → n ≤ 1
+at-most-one n true e = omega arith
+at-most-one n false e = omega arith
+
 module _ (cs : ChartSet) (path : List ℕ) where
   abbrev before : ℕ → List ℕ
   before i = take i path
@@ -50,6 +55,11 @@ module _ (cs : ChartSet) (path : List ℕ) where
 
   next-step : (i : ℕ) → i < length path → take (i + 1) path ≡ take i path ++ (getD path i 0 ∷ [])
   next-step i h = ap (λ n. take n path) (add-one i) ∙ take-suc path i 0 h
+
+  -- the walk of one step more
+  pub walk-next : (i : ℕ) → i < length path → walkAlong cs (take (i + 1) path) (walkStart cs) ≡ walked cs (getD path i 0) (walkAlong cs (take i path) (walkStart cs))
+  unfolding walkAlong
+  walk-next i h = ap (λ p. walkAlong cs p (walkStart cs)) (next-step i h) ∙ walk-append cs (take i path) (getD path i 0 ∷ []) (walkStart cs)
 
   few-rows : (e : ℕ) (w : Walk) → length (rowsOf cs e w) ≤ 1
   few-rows e w = go (ltb e (size cs))
@@ -76,7 +86,7 @@ module _ (cs : ChartSet) (path : List ℕ) where
     here =
         ev
         ∙ ap (walked cs (getD path i 0)) (f .here)
-        ∙ sym (ap (λ p. walkAlong cs p (walkStart cs)) (next-step i h) ∙ walk-append cs (take i path) (getD path i 0 ∷ []) (walkStart cs));
+        ∙ sym (walk-next i h);
     fit =
         ap (λ p. allFit cs p (walkStart cs)) (next-step i h)
         ∙ fit-append cs (take i path) (getD path i 0 ∷ []) (walkStart cs)

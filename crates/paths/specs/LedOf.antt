@@ -3,7 +3,7 @@ use mathlib.Core.Path.{_≡_}
 use mathlib.Core.Bool.{true, cond}
 use mathlib.Core.List.{List, [], _∷_}
 use Prim.Native.Nat.{ℕ, _+_, _-_, _*_, _≤_, _<_}
-use lib.Dec.{ltb}
+use lib.Dec.{ltb, eqb}
 use lib.ListN.{length, getD, take}
 use Rattle.records.specs.Refusal.{broken-path, short-rows, Out, val, fault, _>>=_}
 use Rattle.model.specs.Outcome.{Outcome, settled}
@@ -14,14 +14,20 @@ use Rattle.model.specs.PathBack as M
 use Rattle.chart_files.specs.declared.Shape.{Shape}
 use Rattle.chart_files.specs.Shape.{refusalFor}
 use Rattle.paths.specs.declared.Edge.{Edge}
-use Rattle.paths.specs.declared.Walk.{Walk}
 use Rattle.paths.specs.declared.Count as declared-count
 use Rattle.paths.specs.declared.Led as declared-led
 use Rattle.paths.specs.Along.{allFit, rowsAlong}
 
--- of so many charts
-abbrev pub walkOf : ℕ → Walk → M.Walk
-walkOf charts w = record { locations = take charts (w .locations); position = w .position; cycles = w .cycles }
+-- a walk of so many charts, the locations in the first places
+abbrev pub walkIn : ℕ → List ℕ → ℕ → ℕ → M.Walk
+walkIn charts locations position cycles = record { locations = take charts locations; position = position; cycles = cycles }
+
+-- position and count of cycles after a step
+abbrev pub nextPosition : ℕ → ℕ → ℕ
+nextPosition e position = cond (eqb e M.timeMark) 1 (position + 1)
+
+abbrev pub nextCycles : ℕ → ℕ → ℕ
+nextCycles e cycles = cond (eqb e M.timeMark) (cycles + 1) cycles
 
 -- the ends of an edge of the twin, and whose it is, of so many charts
 pub record IsEdge (s : List ℕ) (charts e : ℕ) (x : Edge) : Type 0 where
@@ -44,8 +50,8 @@ abbrev pub counted : Out (List M.Row) → Out ℕ
 counted o = o >>= λ rows. val (length rows)
 
 -- the words of a step's row, if it has one, of so many transitions
-abbrev pub stepWords : ℕ → ℕ → Walk → List ℕ
-stepWords transitions e w = cond (ltb e transitions) (w .cycles ∷ (w .position - 1) ∷ e ∷ []) []
+abbrev pub stepWords : ℕ → ℕ → ℕ → ℕ → List ℕ
+stepWords transitions e position cycles = cond (ltb e transitions) (cycles ∷ (position - 1) ∷ e ∷ []) []
 
 -- a path that can be written: its steps fit, and there is room for its rows
 pub record Writable (s path lent : List ℕ) : Type 0 where

@@ -2,7 +2,7 @@
 ghost use mathlib.Core.Path.{_≡_};
 ghost use mathlib.Core.Bool.{true, cond};
 ghost use mathlib.Core.List.{[], _∷_};
-ghost use Prim.Native.Nat.{_+_, _*_, _≤_, _<_};
+ghost use Prim.Native.Nat.{ℕ, _+_, _*_, _≤_, _<_};
 ghost use lib.Dec.{ltb};
 ghost use lib.ListN.{length};
 ghost use lib.Seq.{sets};
@@ -10,7 +10,7 @@ ghost use Rattle.model.specs.ChartSet.{readCharts};
 ghost use Rattle.model.specs.PathBack.{walkStart, edgeFits, stepFits, walked as walkedOn, ledBack, rowWords, pathBack};
 ghost use Rattle.charts.specs.Accepted.{Accepted};
 ghost use Rattle.paths.specs.Along.{rowsAlong};
-ghost use Rattle.paths.specs.LedOf.{walkOf, IsEdge, HasEdges, countOf, counted, Writable, stepWords, ledOf, led};
+ghost use Rattle.paths.specs.LedOf.{walkIn, IsEdge, HasEdges, nextPosition, nextCycles, countOf, counted, Writable, stepWords, ledOf, led};
 use chart_files::Checked;
 use chart_files::Shape;
 use chart_files::check;
@@ -30,13 +30,6 @@ pub struct EdgeTable {
     pub automata: [u8; 384],
     pub sources: [u16; 384],
     pub targets: [u16; 384],
-}
-
-// Where a path stands.
-pub struct Walk {
-    pub locations: [u16; 8],
-    pub position: u32,
-    pub cycles: u32,
 }
 
 // How many rows a path has, if its steps fit.
@@ -101,18 +94,13 @@ fn edges_of(s: &[u8], shape: Shape) -> EdgeTable
     }
 }
 
-// A path starts where a run does.
-fn start(s: &[u8], shape: Shape) -> Walk
+// A path starts where a run does, at position 1 of cycle 0.
+fn start_locations(s: &[u8], shape: Shape) -> [u16; 8]
     requires { ⌜ Accepted (now s) shape ⌝ }
-    ensures { λ r. ⌜ walkOf (shape .charts) r ≡ walkStart (readCharts (now (s .entry))) ⌝ }
+    ensures { λ r. ⌜ walkIn (shape .charts) r 1 0 ≡ walkStart (readCharts (now (s .entry))) ⌝ }
 {
     let run = charts::runs::start(s, shape);
-    let locations = run.states;
-    Walk {
-        locations,
-        position: 1,
-        cycles: 0,
-    }
+    run.states
 }
 
 fn edge_fits(
@@ -122,10 +110,11 @@ fn edge_fits(
     sources: &[u16; 384],
     targets: &[u16; 384],
     e: u16,
-    walk: Walk,
+    locations: &[u16; 8],
+    position: u32,
 ) -> bool
     requires { ⌜ Accepted (now s) shape × HasEdges (now s) shape (now automata) (now sources) (now targets) ⌝ }
-    ensures { λ r. ⌜ r ≡ edgeFits (readCharts (now (s .entry))) e (walkOf (shape .charts) walk) ⌝ }
+    ensures { λ r. ⌜ ((cycles : ℕ) → r ≡ edgeFits (readCharts (now (s .entry))) e (walkIn (shape .charts) (now (locations .entry)) position cycles)) ⌝ }
 {
     if shape.transitions + shape.states <= e {
         return false;
@@ -133,8 +122,8 @@ fn edge_fits(
     let i = e as usize;
     let automaton = automata[i];
     let a = automaton as usize;
-    if (automaton as u32) + 1 == walk.position {
-        sources[i] == walk.locations[a]
+    if (automaton as u32) + 1 == position {
+        sources[i] == locations[a]
     } else {
         false
     }
@@ -148,52 +137,57 @@ fn step_fits(
     sources: &[u16; 384],
     targets: &[u16; 384],
     e: u16,
-    walk: Walk,
+    locations: &[u16; 8],
+    position: u32,
+    cycles: u32,
 ) -> bool
     requires { ⌜ Accepted (now s) shape × HasEdges (now s) shape (now automata) (now sources) (now targets) ⌝ }
-    ensures { λ r. ⌜ r ≡ stepFits (readCharts (now (s .entry))) e (walkOf (shape .charts) walk) ⌝ }
+    ensures { λ r. ⌜ r ≡ stepFits (readCharts (now (s .entry))) e (walkIn (shape .charts) (now (locations .entry)) position cycles) ⌝ }
 {
-    if 1000000 <= walk.cycles {
+    if 1000000 <= cycles {
         return false;
     }
     if e == 65535 {
-        walk.position == (shape.charts as u32) + 1
+        position == (shape.charts as u32) + 1
     } else {
-        edge_fits(s, shape, automata, sources, targets, e, walk)
+        edge_fits(s, shape, automata, sources, targets, e, locations, position)
     }
 }
 
-fn walked(
+fn next_position(e: u16, position: u32) -> u32
+    requires { ⌜ position ≤ 1_000_000 ⌝ }
+    ensures { λ r. ⌜ r ≡ nextPosition e position ⌝ }
+{
+    if e == 65535 { 1 } else { position + 1 }
+}
+
+fn next_cycles(e: u16, cycles: u32) -> u32
+    requires { ⌜ cycles ≤ 1_000_000 ⌝ }
+    ensures { λ r. ⌜ r ≡ nextCycles e cycles ⌝ }
+{
+    if e == 65535 { cycles + 1 } else { cycles }
+}
+
+// A step that fits leads an automaton to its edge's target; time moves none.
+fn follow_step(
     s: &[u8],
     shape: Shape,
     automata: &[u8; 384],
     sources: &[u16; 384],
     targets: &[u16; 384],
     e: u16,
-    walk: Walk,
-) -> Walk
+    locations: &mut [u16; 8],
+    position: u32,
+    cycles: u32,
+)
     requires { ⌜ Accepted (now s) shape × HasEdges (now s) shape (now automata) (now sources) (now targets) ⌝ }
-    requires { ⌜ stepFits (readCharts (now s)) e (walkOf (shape .charts) walk) ≡ true ⌝ }
-    ensures { λ r. ⌜ walkOf (shape .charts) r ≡ walkedOn (readCharts (now (s .entry))) e (walkOf (shape .charts) walk) ⌝ }
+    requires { ⌜ stepFits (readCharts (now s)) e (walkIn (shape .charts) (now locations) position cycles) ≡ true ⌝ }
+    ensures { λ _. ⌜ walkIn (shape .charts) (now (locations .exit)) (nextPosition e position) (nextCycles e cycles) ≡ walkedOn (readCharts (now (s .entry))) e (walkIn (shape .charts) (now (locations .entry)) position cycles) ⌝ }
 {
-    let mut locations = walk.locations;
-    if e == 65535 {
-        let cycles = walk.cycles + 1;
-        return Walk {
-            locations,
-            position: 1,
-            cycles,
-        };
-    }
-    let i = e as usize;
-    let a = automata[i] as usize;
-    locations[a] = targets[i];
-    let position = walk.position + 1;
-    let cycles = walk.cycles;
-    Walk {
-        locations,
-        position,
-        cycles,
+    if e != 65535 {
+        let i = e as usize;
+        let a = automata[i] as usize;
+        locations[a] = targets[i];
     }
 }
 
@@ -216,16 +210,40 @@ fn count_rows(
     requires { ⌜ Accepted (now s) shape × HasEdges (now s) shape (now automata) (now sources) (now targets) ⌝ }
     ensures { λ r. ⌜ countOf r ≡ counted (ledBack (readCharts (now (s .entry))) (now (path .entry)) (walkStart (readCharts (now (s .entry))))) ⌝ }
 {
-    let mut walk = start(s, shape);
+    let mut locations = start_locations(s, shape);
+    let mut position: u32 = 1;
+    let mut cycles: u32 = 0;
     let mut rows: usize = 0;
     let mut i: usize = 0;
     while i < path.len() {
         let e = path[i];
-        if !step_fits(s, shape, automata, sources, targets, e, walk) {
+        if !step_fits(
+            s,
+            shape,
+            automata,
+            sources,
+            targets,
+            e,
+            &locations,
+            position,
+            cycles,
+        ) {
             return Count::Broken;
         }
         rows += rows_of_step(shape, e);
-        walk = walked(s, shape, automata, sources, targets, e, walk);
+        follow_step(
+            s,
+            shape,
+            automata,
+            sources,
+            targets,
+            e,
+            &mut locations,
+            position,
+            cycles,
+        );
+        position = next_position(e, position);
+        cycles = next_cycles(e, cycles);
         i += 1;
     }
     Count::Rows(rows)
@@ -242,38 +260,32 @@ fn put_row(rows: &mut [u32], k: usize, cycle: u32, chart: u32, transition: u16)
 }
 
 // The row of a step, as row k, if it has one.
-fn put_step(shape: Shape, e: u16, walk: Walk, rows: &mut [u32], k: usize)
-    requires { ⌜ (e < shape .transitions → (3 * k + 3 ≤ length (now rows)) × (1 ≤ walk .position)) ⌝ }
-    ensures { λ _. ⌜ now (rows .exit) ≡ sets (now (rows .entry)) (3 * k) (stepWords (shape .transitions) e walk) ⌝ }
+fn put_step(shape: Shape, e: u16, position: u32, cycles: u32, rows: &mut [u32], k: usize)
+    requires { ⌜ (e < shape .transitions → (3 * k + 3 ≤ length (now rows)) × (1 ≤ position)) ⌝ }
+    ensures { λ _. ⌜ now (rows .exit) ≡ sets (now (rows .entry)) (3 * k) (stepWords (shape .transitions) e position cycles) ⌝ }
 {
     if shape.transitions <= e {
         return;
     }
-    put_row(rows, k, walk.cycles, walk.position - 1, e);
+    put_row(rows, k, cycles, position - 1, e);
 }
 
-// The rows of a path that is known to fit, and to have room.
-fn put_rows(
-    s: &[u8],
-    shape: Shape,
-    automata: &[u8; 384],
-    sources: &[u16; 384],
-    targets: &[u16; 384],
-    path: &[u16],
-    rows: &mut [u32],
-)
-    requires { ⌜ Accepted (now s) shape × HasEdges (now s) shape (now automata) (now sources) (now targets) ⌝ }
+// The rows of a path that is known to fit, and to have room: where the automata stand no longer matters.
+fn put_rows(s: &[u8], shape: Shape, path: &[u16], rows: &mut [u32])
+    requires { ⌜ Accepted (now s) shape ⌝ }
     requires { ⌜ Writable (now s) (now path) (now rows) ⌝ }
     ensures { λ _. ⌜ now (rows .exit) ≡ sets (now (rows .entry)) 0 (rowWords (rowsAlong (readCharts (now (s .entry))) (now (path .entry)) (walkStart (readCharts (now (s .entry)))))) ⌝ }
 {
-    let mut walk = start(s, shape);
+    let mut position: u32 = 1;
+    let mut cycles: u32 = 0;
     let mut k: usize = 0;
     let mut i: usize = 0;
     while i < path.len() {
         let e = path[i];
-        put_step(shape, e, walk, rows, k);
+        put_step(shape, e, position, cycles, rows, k);
         k += rows_of_step(shape, e);
-        walk = walked(s, shape, automata, sources, targets, e, walk);
+        position = next_position(e, position);
+        cycles = next_cycles(e, cycles);
         i += 1;
     }
 }
@@ -293,7 +305,7 @@ fn led_back(s: &[u8], shape: Shape, path: &[u16], rows: &mut [u32]) -> Led
             if rows.len() / 3 < n {
                 return Led::Short;
             }
-            put_rows(s, shape, &automata, &sources, &targets, path, rows);
+            put_rows(s, shape, path, rows);
             Led::Rows(n)
         }
     }

@@ -22,9 +22,9 @@ add-if1 c =
     omega (arith, most-transitions s (b .args .shape) is, most-states s (b .args .shape) is)
 
 returns : tie.Need-returns
-returns c =
+returns c cycles =
     let b = c .before .before in
-    sym (edge-out (now (b .args .s)) (b .args .shape) (b .pre .0) (b .args .e) (b .args .t7) (c .if1 .taken))
+    sym (edge-out (now (b .args .s)) (b .args .shape) (b .pre .0) (b .args .e) (now (b .args .locations)) (b .args .position) cycles (c .if1 .taken))
 
 element-copy-out-automaton : tie.Need-element-copy-out-automaton
 element-copy-out-automaton c =
@@ -63,22 +63,22 @@ element-copy-out-result-2 : tie.Need-element-copy-out-result-2
 element-copy-out-result-2 c = few (c .before .before)
 
 returns-2 : tie.Need-returns-2
-returns-2 c =
+returns-2 c cycles =
     let b = c .before .before .before .before .before .before in
     let a = b .args in
     let h = c .before .before .before .before .if1 .left in
-    sym (edge-there (now (a .s)) (a .shape) (b .pre .0) (a .e) (a .t7)
+    sym (edge-there (now (a .s)) (a .shape) (b .pre .0) (a .e) (now (a .locations)) (a .position) cycles
     (held (now (a .s)) (a .shape) (b .pre .0) (now (a .automata)) (now (a .sources)) (now (a .targets)) (b .pre .1) (a .e) h) (b .pre .1 (a .e) h) h
-    (eq-eqb (getD (now (a .automata)) (a .e) 0 + 1) (a .t7 .position) (c .before .before .if2 .taken)))
+    (eq-eqb (getD (now (a .automata)) (a .e) 0 + 1) (a .position) (c .before .before .if2 .taken)))
 
 returns-3 : tie.Need-returns-3
-returns-3 c =
+returns-3 c cycles =
     let b = c .before .before .before .before in
     let a = b .args in
     let h = c .before .before .if1 .left in
-    sym (edge-other (now (a .s)) (a .shape) (b .pre .0) (a .e) (a .t7)
+    sym (edge-other (now (a .s)) (a .shape) (b .pre .0) (a .e) (now (a .locations)) (a .position) cycles
     (held (now (a .s)) (a .shape) (b .pre .0) (now (a .automata)) (now (a .sources)) (now (a .targets)) (b .pre .1) (a .e) h) (b .pre .1 (a .e) h) h
-    (ne-eqb (getD (now (a .automata)) (a .e) 0 + 1) (a .t7 .position) (c .if2 .left)))
+    (ne-eqb (getD (now (a .automata)) (a .e) 0 + 1) (a .position) (c .if2 .left)))
 
 pub edge-fits-spec : {M : Type 1} → statement M
 edge-fits-spec =

@@ -43,12 +43,12 @@ returns c =
 
 put-rows-requires : tie.Need-put-rows-requires
 put-rows-requires c κs =
-    let b = c .before .before .before .before .before .before .before .before .before .before .before .before .before .before .before .before .before .before .before in
+    let b = c .before .before .before .before .before .before .before .before .before .before .before .before .before .before .before .before in
     let a = b .args in
     let cs = readCharts (now (a .s)) in
-    let n = c .before .before .before .before .before .before .n .given in
-    let m = led-many cs (now (a .path)) (now (a .rows)) (n .0 .0) (sym (ap countOf (n .1)) ∙ c .before .before .before .before .before .before .before .before .count-rows .ensures) in
-    ((b .pre, c .before .before .before .before .before .before .before .before .before .before .before .before .before .before .before .edges-of .ensures), record { fits = m .0; room = led-room cs (now (a .path)) (now (a .rows)) (n .0 .0) (m .0) (m .1) (c .before .before .before .before .if1 .left) })
+    let n = c .before .before .before .n .given in
+    let m = led-many cs (now (a .path)) (now (a .rows)) (n .0 .0) (sym (ap countOf (n .1)) ∙ c .before .before .before .before .before .count-rows .ensures) in
+    (b .pre, record { fits = m .0; room = led-room cs (now (a .path)) (now (a .rows)) (n .0 .0) (m .0) (m .1) (c .before .if1 .left) })
 
 returns-2 : tie.Need-returns-2
 returns-2 c =
@@ -60,13 +60,13 @@ same-length c = search needs
 
 returns-3 : tie.Need-returns-3
 returns-3 c =
-    let b = c .before .before .before .before .before .before .before .before .before .before .before .before .before .before .before .before .before .before .before .before .before .before in
+    let b = c .before .before .before .before .before .before .before .before .before .before .before .before .before .before .before .before .before .before .before in
     let a = b .args in
     let cs = readCharts (now (a .s)) in
-    let n = c .before .before .before .before .before .before .before .before .before .n .given in
-    let m = led-many cs (now (a .path)) (now (a .rows)) (n .0 .0) (sym (ap countOf (n .1)) ∙ c .before .before .before .before .before .before .before .before .before .before .before .count-rows .ensures) in
+    let n = c .before .before .before .before .before .before .n .given in
+    let m = led-many cs (now (a .path)) (now (a .rows)) (n .0 .0) (sym (ap countOf (n .1)) ∙ c .before .before .before .before .before .before .before .before .count-rows .ensures) in
     ap (λ l. record { answer = answerOf (Rows (n .0 .0)); lent = l }) (c .before .before .put-rows .ensures)
-    ∙ sym (led-written cs (now (a .path)) (now (a .rows)) (n .0 .0) (m .0) (m .1) (c .before .before .before .before .before .before .before .if1 .left))
+    ∙ sym (led-written cs (now (a .path)) (now (a .rows)) (n .0 .0) (m .0) (m .1) (c .before .before .before .before .if1 .left))
 
 pub led-back-spec : {M : Type 1} → statement M
 led-back-spec =

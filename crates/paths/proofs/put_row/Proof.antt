@@ -10,8 +10,6 @@ use lib.ListN.{length, length-set, set}
 use Rattle.model.specs.ChartSet.{readCharts}
 use Rattle.model.specs.PathBack.{edgeFits, stepFits}
 use Rattle.chart_files.proofs.Readings.{most-charts, most-states, most-transitions}
-use Rattle.paths.specs.LedOf.{walkOf}
-use Rattle.paths.proofs.Steps.{edge-out, edge-other, edge-there, led-edge, fitting, step-late, step-time, step-edge, in-time, led-time}
 use borrow.Author.Needs.{needs}
 use Rattle.paths.proofs.put_row.Statement.{statement}
 use Rattle.paths.proofs.put_row.Tie as tie

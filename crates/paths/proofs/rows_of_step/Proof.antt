@@ -10,8 +10,6 @@ use lib.ListN.{length, getD, take}
 use Rattle.model.specs.ChartSet.{readCharts}
 use Rattle.model.specs.PathBack.{edgeFits, stepFits}
 use Rattle.chart_files.proofs.Readings.{most-charts, most-states, most-transitions}
-use Rattle.paths.specs.LedOf.{walkOf}
-use Rattle.paths.proofs.Steps.{edge-out, edge-other, edge-there, led-edge, fitting, step-late, step-time, step-edge, in-time, led-time}
 use Rattle.paths.proofs.rows_of_step.Statement.{statement}
 use Rattle.paths.proofs.rows_of_step.Tie as tie
 use Rattle.paths.proofs.rows_of_step.Reads as reads
