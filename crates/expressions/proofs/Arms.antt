@@ -1,16 +1,16 @@
 -- What the arms of the two evaluators show, from what their calls ensure. Assumes nothing.
-use mathlib.Core.Path.{_≡_, refl, sym, ap, _∙_, subst}
-use mathlib.Core.Bool.{Bool, true, false, cond, Bool·beq}
+use mathlib.Core.Path.{_≡_, refl, sym, ap, _∙_}
+use mathlib.Core.Bool.{Bool, true, false, cond}
 use mathlib.Core.List.{List}
 use Prim.Native.Nat.{ℕ, _+_, _*_, _≤_, _<_}
-use lib.Dec.{T, eqb}
+use lib.Dec.{eqb}
 use lib.ListN.{getD}
 use lib.IntN.{ℤ, pos}
-use Rattle.records.specs.Refusal.{Refusal, Out, val, fault, _>>=_, choose}
+use Rattle.records.specs.Refusal.{Out, val, choose}
 use Rattle.records.specs.Lists.{caseOf}
 use Rattle.records.specs.Bytes.{byte, two, four±}
 use Rattle.expressions.specs.Nodes.{Node, nodeBy, nodeAt}
-use Rattle.expressions.specs.Values.{compute, compare, computePair, comparePair, numberBy, truthBy, decide, number, truth, operandNumber, operandTruth, operandPair}
+use Rattle.expressions.specs.Values.{numberBy, truthBy, decide, number, truth, operandNumber, operandTruth, computeOperands, compareOperands}
 use Rattle.expressions.specs.Coded.{HasFields, codedNode, arithmeticOf, comparisonOf}
 use Rattle.expressions.specs.declared.nodes.Fields.{Fields}
 use Rattle.expressions.proofs.Codes.{arithmetic-codes, comparison-codes, decided-codes, no-number, no-truth}
@@ -19,32 +19,9 @@ use Rattle.expressions.proofs.Depth.{number-rule, truth-rule}
 
 -- ---- outcomes
 
--- two numbers as a pair, or one by one
-pair-bind : {B : Type 0} (f : ℤ → ℤ → Out B) (x y : Out ℤ) →
-    _>>=_ {A = ℤ × ℤ} (x >>= λ u. (y >>= λ v. val (u, v))) (λ p. f (p .0) (p .1)) ≡ (x >>= λ u. (y >>= λ v. f u v))
-pair-bind f (val u) (val v) = refl
-pair-bind f (val u) (fault w) = refl
-pair-bind f (fault w) y = refl
-
 pub picked-one : {A : Type 0} (f : ℕ → Out A) (first : Bool) (a b : ℕ) → f (cond first a b) ≡ choose (val first) (f a) (f b)
 picked-one f true a b = refl
 picked-one f false a b = refl
-
-pub decide-fault : (d : Bool) {x : Out Bool} (y : Out Bool) {w : Refusal} → fault w ≡ x → fault w ≡ decide d x y
-decide-fault true y e = λ i. choose (e i) (val true) y
-decide-fault false y e = λ i. choose (e i) y (val false)
-
-pub decide-first : (t d : Bool) {x : Out Bool} (y : Out Bool) → Bool·beq t d ≡ true → val t ≡ x → val t ≡ decide d x y
-decide-first true true y h e = λ i. choose (e i) (val true) y
-decide-first true false y h e = absurd (subst T (sym h) tt)
-decide-first false true y h e = absurd (subst T (sym h) tt)
-decide-first false false y h e = λ i. choose (e i) y (val false)
-
-pub decide-second : (t d : Bool) {x y : Out Bool} → Bool·beq t d ≡ false → val t ≡ x → y ≡ decide d x y
-decide-second true true h e = absurd (subst T h tt)
-decide-second true false {x} {y} h e = λ i. choose (e i) y (val false)
-decide-second false true {x} {y} h e = λ i. choose (e i) (val true) y
-decide-second false false h e = absurd (subst T h tt)
 
 -- ---- nodes
 
@@ -80,18 +57,14 @@ module _ (s : List ℕ) (vars : List ℤ) (n : ℕ) (f : Fields) (h : HasFields 
   unfolding caseOf
   choice-arm e = number-arm (coded e)
 
-  pub arithmetic-arm : 2 < f .code → f .code < 8 → computePair (arithmeticOf (f .code)) (operandPair (nodeAt s) vars n (f .a) (f .b)) ≡ number (nodeAt s) vars n
-  arithmetic-arm l m =
-      pair-bind (compute (arithmeticOf (f .code))) (N (f .a)) (N (f .b))
-      ∙ number-arm (arithmetic-codes (f .code) (f .a) (f .b) (f .c) (four± s (16 * n + 8)) l m)
+  pub arithmetic-arm : 2 < f .code → f .code < 8 → computeOperands (nodeAt s) vars (arithmeticOf (f .code)) n (f .a) (f .b) ≡ number (nodeAt s) vars n
+  arithmetic-arm l m = number-arm (arithmetic-codes (f .code) (f .a) (f .b) (f .c) (four± s (16 * n + 8)) l m)
 
   pub no-truth-arm : (16 ≤ f .code → f .code ≤ 21 → ⊥) → val false ≡ truth (nodeAt s) vars n
   no-truth-arm o = no-truth N B vars (f .code) (f .a) (f .b) (f .c) (four± s (16 * n + 8)) o ∙ truth-arm refl
 
-  pub comparison-arm : 15 < f .code → f .code < 19 → comparePair (comparisonOf (f .code)) (operandPair (nodeAt s) vars n (f .a) (f .b)) ≡ truth (nodeAt s) vars n
-  comparison-arm l m =
-      pair-bind (λ x y. val (compare (comparisonOf (f .code)) x y)) (N (f .a)) (N (f .b))
-      ∙ truth-arm (comparison-codes (f .code) (f .a) (f .b) (f .c) (four± s (16 * n + 8)) l m)
+  pub comparison-arm : 15 < f .code → f .code < 19 → compareOperands (nodeAt s) vars (comparisonOf (f .code)) n (f .a) (f .b) ≡ truth (nodeAt s) vars n
+  comparison-arm l m = truth-arm (comparison-codes (f .code) (f .a) (f .b) (f .c) (four± s (16 * n + 8)) l m)
 
   pub negation-arm : f .code ≡ 19 → choose (B (f .a)) (val false) (val true) ≡ truth (nodeAt s) vars n
   unfolding caseOf

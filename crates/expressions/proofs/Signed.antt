@@ -12,6 +12,7 @@ use mir.Facts.{toZ-ofZ, sfits-widen}
 use mir.Syntax.{w32, w64}
 use mir.Val.{SFits, toZ, ofZ}
 use Rattle.expressions.specs.Values.{isZero}
+use Rattle.expressions.specs.Outcomes.{BothNarrow}
 
 -- ---- the range of 32 bits by two comparisons
 
@@ -87,50 +88,35 @@ quotient-narrow a b p q = let l : mag (quotZ a b) ≤ natAbs a = mag-quotient a 
 pub remainder-narrow : Narrow remZ
 remainder-narrow a b p q = let l : mag (remZ a b) ≤ mag a = mag-rem a b in omega arith
 
--- ---- the same of bits: x and y are what 64 bits hold of a and b
+-- ---- the same of bits: what 64 bits hold of a and b
 
-abbrev pub Held : ℤ → ℤ → Type 0
-Held x a = SFits w32 a × (x ≡ toZ w32 (ofZ w32 a))
+wider : {a : ℤ} → mag a < 2 ^ 31 → SFits w64 a
+wider l = sfits-widen {w = w32} tt (record { sfits = l })
 
-held : {x a : ℤ} → Held x a → x ≡ a
-held h = h .1 ∙ toZ-ofZ (h .0)
+pub read : (a : ℤ) → mag a < 2 ^ 31 → toZ w64 (ofZ w64 a) ≡ a
+read a l = toZ-ofZ (wider l)
 
-wider : {a : ℤ} → SFits w32 a → SFits w64 a
-wider = sfits-widen tt
-
-read : {x a : ℤ} → Held x a → toZ w64 (ofZ w64 x) ≡ a
-read {x} {a} h = ap (λ u. toZ w64 (ofZ w64 u)) (held h) ∙ toZ-ofZ (wider (h .0))
-
-module _ (f : ℤ → ℤ → ℤ) {a b x y : ℤ} (p : Held x a) (q : Held y b) where
+module _ (f : ℤ → ℤ → ℤ) {a b : ℤ} (p : BothNarrow a b) where
   abbrev worked : ℤ
-  worked = f (toZ w64 (ofZ w64 x)) (toZ w64 (ofZ w64 y))
+  worked = f (toZ w64 (ofZ w64 a)) (toZ w64 (ofZ w64 b))
 
   same : worked ≡ f a b
-  same i = f (read p i) (read q i)
+  same i = f (read a (p .first) i) (read b (p .second) i)
 
   pub fits-wide : Narrow f → SFits w64 worked
-  fits-wide narrow = record { sfits = subst (λ z. mag z < 2 ^ 63) (sym same) (narrow a b (p .0 .sfits) (q .0 .sfits)) }
+  fits-wide narrow = record { sfits = subst (λ z. mag z < 2 ^ 63) (sym same) (narrow a b (p .first) (p .second)) }
 
   pub wide-result : Narrow f → toZ w64 (ofZ w64 worked) ≡ f a b
   wide-result narrow = toZ-ofZ (fits-wide narrow) ∙ same
 
 -- ---- a divisor that is 0, and one that is not
 
-zero-of : {z : ℤ} → SFits w32 z → ofZ w32 z ≡ 0 → z ≡ pos 0
-zero-of s e = sym (toZ-ofZ s) ∙ ap (toZ w32) e
+pub zero-bits : {z : ℤ} → SFits w64 z → ofZ w64 z ≡ 0 → isZero z ≡ true
+zero-bits s e = ap isZero (sym (toZ-ofZ s) ∙ ap (toZ w64) e)
 
-pub zero-bits : {z : ℤ} → SFits w32 z → ofZ w32 z ≡ 0 → isZero z ≡ true
-zero-bits s e = ap isZero (zero-of s e)
-
-pub other-bits : (z : ℤ) → (ofZ w32 z ≡ 0 → ⊥) → isZero z ≡ false
+pub other-bits : (z : ℤ) → (ofZ w64 z ≡ 0 → ⊥) → isZero z ≡ false
 other-bits (pos n) h = ne-eqb n 0 h
 other-bits (negsuc n) h = eqb·suc-zero n
-
-pub wide-divisor : {z y : ℤ} → Held y z → (ofZ w32 z ≡ 0 → ⊥) → 0 < ofZ w64 y
-wide-divisor {z} {y} p h = positive (ofZ w64 y) (λ o. h (ap (ofZ w32) (sym (read p) ∙ ap (toZ w64) o)))
-  where
-    positive : (n : ℕ) → (n ≡ 0 → ⊥) → 0 < n
-    positive n f = omega arith
 
 -- ---- equality of bits
 
@@ -149,10 +135,10 @@ le-both : (a : ℤ) → leZ a a && leZ a a ≡ true
 le-both (pos a) = rw (le-leb a a (le-refl a))
 le-both (negsuc a) = rw (le-leb a a (le-refl a))
 
-pub equal-bits : {a b : ℤ} → SFits w32 a → SFits w32 b → eqb (ofZ w32 a) (ofZ w32 b) ≡ leZ a b && leZ b a
-equal-bits {a} {b} fa fb = go (eqb (ofZ w32 a) (ofZ w32 b)) refl (leZ a b && leZ b a) refl
+pub equal-bits : {a b : ℤ} → SFits w64 a → SFits w64 b → eqb (ofZ w64 a) (ofZ w64 b) ≡ leZ a b && leZ b a
+equal-bits {a} {b} fa fb = go (eqb (ofZ w64 a) (ofZ w64 b)) refl (leZ a b && leZ b a) refl
   where
-    go : (s : Bool) → eqb (ofZ w32 a) (ofZ w32 b) ≡ s → (t : Bool) → leZ a b && leZ b a ≡ t → s ≡ t
-    go true p t q = sym (le-both a) ∙ ap (λ z. leZ a z && leZ z a) (sym (toZ-ofZ fa) ∙ ap (toZ w32) (eqb-true (ofZ w32 a) (ofZ w32 b) p) ∙ toZ-ofZ fb) ∙ q
+    go : (s : Bool) → eqb (ofZ w64 a) (ofZ w64 b) ≡ s → (t : Bool) → leZ a b && leZ b a ≡ t → s ≡ t
+    go true p t q = sym (le-both a) ∙ ap (λ z. leZ a z && leZ z a) (sym (toZ-ofZ fa) ∙ ap (toZ w64) (eqb-true (ofZ w64 a) (ofZ w64 b) p) ∙ toZ-ofZ fb) ∙ q
     go false p false q = refl
-    go false p true q = absurd (eqb-false (ofZ w32 a) (ofZ w32 b) p (ap (ofZ w32) (both-le a b q)))
+    go false p true q = absurd (eqb-false (ofZ w64 a) (ofZ w64 b) p (ap (ofZ w64) (both-le a b q)))

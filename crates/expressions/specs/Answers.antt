@@ -10,7 +10,6 @@ use Rattle.expressions.specs.declared.arithmetic.Reason.{Reason}
 use Rattle.expressions.specs.declared.arithmetic.Reason.the-variants.{Range, Divisor}
 use Rattle.expressions.specs.declared.arithmetic.Number as declared-number
 use Rattle.expressions.specs.declared.arithmetic.Truth as declared-truth
-use Rattle.expressions.specs.declared.arithmetic.Pair as declared-pair
 use Rattle.expressions.specs.declared.nodes.Operator.{Operator}
 use Rattle.expressions.specs.declared.nodes.Operator.the-variants.{Sum, Difference, Product, Quotient, Remainder}
 use Rattle.expressions.specs.declared.nodes.Relation.{Relation}
@@ -31,10 +30,6 @@ numberOf (declared-number.the-variants.Fault w) = fault (reasonOf w)
 abbrev pub truthOf : declared-truth.Truth → Out Bool
 truthOf (declared-truth.the-variants.Value t) = val t
 truthOf (declared-truth.the-variants.Fault w) = fault (reasonOf w)
-
-abbrev pub pairOf : declared-pair.Pair → Out (ℤ × ℤ)
-pairOf (declared-pair.the-variants.Values a b) = val (a, b)
-pairOf (declared-pair.the-variants.Fault w) = fault (reasonOf w)
 
 abbrev pub operatorOf : Operator → Arithmetic
 operatorOf Sum = sum

@@ -36,13 +36,6 @@ compare equal a b = leZ a b && leZ b a
 compare less a b = ltZ a b
 compare at-most a b = leZ a b
 
--- The same of two operands' numbers.
-abbrev pub computePair : Arithmetic → Out (ℤ × ℤ) → Out ℤ
-computePair o p = p >>= λ x. compute o (x .0) (x .1)
-
-abbrev pub comparePair : Comparison → Out (ℤ × ℤ) → Out Bool
-comparePair o p = p >>= λ x. val (compare o (x .0) (x .1))
-
 -- And, or: the first that is the truth that decides, false or true, else the second.
 abbrev pub decide : Bool → Out Bool → Out Bool → Out Bool
 decide true x y = choose x (val true) y
@@ -99,18 +92,25 @@ module _ (node : ℕ → Node) (vars : List ℤ) where
   abbrev pub truth : ℕ → Out Bool
   truth n = truthAt (suc n) n
 
-  -- operand a of node n, as a number, and as a truth; and two, left to right
+  -- operand a of node n, as a number, and as a truth
   abbrev pub operandNumber : ℕ → ℕ → Out ℤ
   operandNumber n a = cond (ltb a n) (number a) (val (pos 0))
 
   abbrev pub operandTruth : ℕ → ℕ → Out Bool
   operandTruth n a = cond (ltb a n) (truth a) (val false)
 
-  abbrev pub operandPair : ℕ → ℕ → ℕ → Out (ℤ × ℤ)
-  operandPair n a b = do
+  -- operands a and b of node n, left to right, under an operator, and under a relation
+  abbrev pub computeOperands : Arithmetic → ℕ → ℕ → ℕ → Out ℤ
+  computeOperands o n a b = do
     x ← operandNumber n a
     y ← operandNumber n b
-    val (x, y)
+    compute o x y
+
+  abbrev pub compareOperands : Comparison → ℕ → ℕ → ℕ → Out Bool
+  compareOperands o n a b = do
+    x ← operandNumber n a
+    y ← operandNumber n b
+    val (compare o x y)
 
 unfoldable pub Values : Type 0
 unfolding numberAt

@@ -1,8 +1,9 @@
-// Sums, products and comparisons of 32-bit numbers, worked out in 64 bits.
+// Sums, products and comparisons of 32-bit numbers, worked out in 64 bits. An outcome is one number, so that a register holds it: a number of 32 bits is
+// itself, and a fault is above them.
 ghost use mathlib.Core.Path.{_≡_};
 ghost use Rattle.expressions.specs.Nodes.{sum, difference, product, quotient, remainder};
 ghost use Rattle.expressions.specs.Values.{inRange, compute, compare};
-ghost use Rattle.expressions.specs.Answers.{numberOf};
+ghost use Rattle.expressions.specs.Outcomes.{StandsFor, BothNarrow};
 ghost use Rattle.expressions.specs.Coded.{arithmeticOf, comparisonOf};
 
 // Why there is no value.
@@ -21,70 +22,74 @@ pub enum Truth {
     Fault(Reason),
 }
 
-// Two numbers, or the first fault.
-pub enum Pair {
-    Values(i32, i32),
-    Fault(Reason),
-}
+// The outcomes that are faults, above the highest number.
+pub const HIGHEST: i64 = 2147483647;
 
-fn wide(x: i32) -> i64
+pub const OUT_OF_RANGE: i64 = 4294967296;
+
+pub const ZERO_DIVISOR: i64 = 4294967297;
+
+pub fn wide(x: i32) -> i64
     ensures { λ r. ⌜ r ≡ x ⌝ }
 {
     x as i64
 }
 
-// The end of every operation: the one place where a number is refused for its size.
-fn in_range(z: i64) -> Number
-    ensures { λ r. ⌜ numberOf r ≡ inRange z ⌝ }
+// The one place where a number is refused for its size.
+fn in_range(z: i64) -> i64
+    ensures { λ r. ⌜ StandsFor r (inRange z) ⌝ }
 {
-    if -2147483648 <= z && z <= 2147483647 {
-        Number::Value(z as i32)
+    if -2147483648 <= z && z <= HIGHEST {
+        z
     } else {
-        Number::Fault(Reason::Range)
+        OUT_OF_RANGE
     }
 }
 
-pub fn add(a: i32, b: i32) -> Number
-    ensures { λ r. ⌜ numberOf r ≡ compute sum a b ⌝ }
+fn add(a: i64, b: i64) -> i64
+    requires { ⌜ BothNarrow a b ⌝ }
+    ensures { λ r. ⌜ StandsFor r (compute sum a b) ⌝ }
 {
-    in_range(wide(a) + wide(b))
+    in_range(a + b)
 }
 
-pub fn subtract(a: i32, b: i32) -> Number
-    ensures { λ r. ⌜ numberOf r ≡ compute difference a b ⌝ }
+fn subtract(a: i64, b: i64) -> i64
+    requires { ⌜ BothNarrow a b ⌝ }
+    ensures { λ r. ⌜ StandsFor r (compute difference a b) ⌝ }
 {
-    in_range(wide(a) - wide(b))
+    in_range(a - b)
 }
 
-pub fn multiply(a: i32, b: i32) -> Number
-    ensures { λ r. ⌜ numberOf r ≡ compute product a b ⌝ }
+fn multiply(a: i64, b: i64) -> i64
+    requires { ⌜ BothNarrow a b ⌝ }
+    ensures { λ r. ⌜ StandsFor r (compute product a b) ⌝ }
 {
-    in_range(wide(a) * wide(b))
+    in_range(a * b)
 }
 
-pub fn divide(a: i32, b: i32) -> Number
-    ensures { λ r. ⌜ numberOf r ≡ compute quotient a b ⌝ }
+fn divide(a: i64, b: i64) -> i64
+    requires { ⌜ BothNarrow a b ⌝ }
+    ensures { λ r. ⌜ StandsFor r (compute quotient a b) ⌝ }
 {
     if b == 0 {
-        Number::Fault(Reason::Divisor)
+        ZERO_DIVISOR
     } else {
-        in_range(wide(a) / wide(b))
+        in_range(a / b)
     }
 }
 
-pub fn remainder(a: i32, b: i32) -> Number
-    ensures { λ r. ⌜ numberOf r ≡ compute remainder a b ⌝ }
+// No remainder is out of range: it is no further from 0 than the dividend.
+fn remainder(a: i64, b: i64) -> i64
+    requires { ⌜ BothNarrow a b ⌝ }
+    ensures { λ r. ⌜ StandsFor r (compute remainder a b) ⌝ }
 {
-    if b == 0 {
-        Number::Fault(Reason::Divisor)
-    } else {
-        in_range(wide(a) % wide(b))
-    }
+    if b == 0 { ZERO_DIVISOR } else { a % b }
 }
 
 // By the operator's code, of 3 to 7.
-pub fn compute(code: u8, a: i32, b: i32) -> Number
-    ensures { λ r. ⌜ numberOf r ≡ compute (arithmeticOf code) a b ⌝ }
+pub fn compute(code: u8, a: i64, b: i64) -> i64
+    requires { ⌜ BothNarrow a b ⌝ }
+    ensures { λ r. ⌜ StandsFor r (compute (arithmeticOf code) a b) ⌝ }
 {
     match code {
         3 => add(a, b),
@@ -96,7 +101,7 @@ pub fn compute(code: u8, a: i32, b: i32) -> Number
 }
 
 // By the operator's code, of 16 to 18.
-pub fn compare(code: u8, a: i32, b: i32) -> bool
+pub fn compare(code: u8, a: i64, b: i64) -> bool
     ensures { λ r. ⌜ r ≡ compare (comparisonOf code) a b ⌝ }
 {
     match code {

@@ -1,56 +1,61 @@
-// What a node comes to, as a number and as a truth. Operands are lower than their node, so the node's number bounds the calls.
+// What a node comes to, as a number and as a truth. Operands are lower than their node, so the node's number bounds the calls. Outcomes are plain numbers
+// until the end: what a call hands back then stays in a register.
 ghost use mathlib.Core.Path.{_≡_};
 ghost use mathlib.Core.Bool.{true, false, cond};
+ghost use lib.Dec.{eqb};
 ghost use lib.ListN.{getD};
 ghost use lib.IntN.{pos};
-ghost use Rattle.records.specs.Refusal.{val, choose};
+ghost use lib.Signed.{leZ};
+ghost use Rattle.records.specs.Refusal.{val, fault, choose};
 ghost use Rattle.expressions.specs.Nodes.{nodeAt};
-ghost use Rattle.expressions.specs.Values.{number, truth, computePair, comparePair, decide};
-ghost use Rattle.expressions.specs.Values.{operandNumber, operandTruth, operandPair};
-ghost use Rattle.expressions.specs.Answers.{numberOf, truthOf, pairOf};
+ghost use Rattle.expressions.specs.Values.{number, truth, decide, operandNumber, operandTruth, computeOperands, compareOperands};
+ghost use Rattle.expressions.specs.Answers.{reasonOf, numberOf, truthOf};
+ghost use Rattle.expressions.specs.Outcomes.{faultIf, truthOutcome, StandsFor};
 ghost use Rattle.expressions.specs.Coded.{arithmeticOf, comparisonOf};
+use super::arithmetic::HIGHEST;
 use super::arithmetic::Number;
-use super::arithmetic::Pair;
+use super::arithmetic::OUT_OF_RANGE;
+use super::arithmetic::Reason;
 use super::arithmetic::Truth;
+use super::arithmetic::ZERO_DIVISOR;
 use super::arithmetic::compare;
 use super::arithmetic::compute;
+use super::arithmetic::wide;
 use super::nodes::fields_at;
 use records::i32_at;
 use records::i32_within;
 use records::u16_within;
 
-fn variable(vars: &[i16], v: u16) -> i32
-    ensures { λ r. ⌜ r ≡ getD (now (vars .entry)) v (pos 0) ⌝ }
+fn variable(vars: &[i16], v: u16) -> i64
+    ensures { λ r. ⌜ StandsFor r (val (getD (now (vars .entry)) v (pos 0))) ⌝ }
 {
     let i = v as usize;
-    if i < vars.len() { vars[i] as i32 } else { 0 }
+    if i < vars.len() { vars[i] as i64 } else { 0 }
 }
 
-fn computed(code: u8, p: Pair) -> Number
-    ensures { λ r. ⌜ numberOf r ≡ computePair (arithmeticOf code) (pairOf p) ⌝ }
+fn truth_value(t: bool) -> u8
+    ensures { λ r. ⌜ r ≡ cond t 1 0 ⌝ }
 {
-    match p {
-        Pair::Fault(w) => Number::Fault(w),
-        Pair::Values(x, y) => compute(code, x, y),
-    }
+    if t { 1 } else { 0 }
 }
 
-fn compared(code: u8, p: Pair) -> Truth
-    ensures { λ r. ⌜ truthOf r ≡ comparePair (comparisonOf code) (pairOf p) ⌝ }
+// A fault that a truth comes to, of a number, and the other way round.
+fn number_fault(t: u8) -> i64
+    ensures { λ r. ⌜ StandsFor r (fault (faultIf (eqb t 2))) ⌝ }
 {
-    match p {
-        Pair::Fault(w) => Truth::Fault(w),
-        Pair::Values(x, y) => Truth::Value(compare(code, x, y)),
-    }
+    if t == 2 { OUT_OF_RANGE } else { ZERO_DIVISOR }
 }
 
-fn negated(t: Truth) -> Truth
-    ensures { λ r. ⌜ truthOf r ≡ choose (truthOf t) (val false) (val true) ⌝ }
+fn truth_fault(z: i64) -> u8
+    ensures { λ r. ⌜ truthOutcome r ≡ fault (faultIf (leZ z (pos 4294967296))) ⌝ }
 {
-    match t {
-        Truth::Fault(w) => Truth::Fault(w),
-        Truth::Value(v) => Truth::Value(!v),
-    }
+    if z <= OUT_OF_RANGE { 2 } else { 3 }
+}
+
+fn negated(t: u8) -> u8
+    ensures { λ r. ⌜ truthOutcome r ≡ choose (truthOutcome t) (val false) (val true) ⌝ }
+{
+    if t < 2 { 1 - t } else { t }
 }
 
 fn picked(first: bool, a: u16, b: u16) -> u16
@@ -60,104 +65,122 @@ fn picked(first: bool, a: u16, b: u16) -> u16
 }
 
 // Operand a of node n; one that is not lower counts as 0. A leaf is read here, without a call.
-fn operand_number(nodes: &[u8], vars: &[i16; 64], n: u16, a: u16) -> Number
-    ensures { λ r. ⌜ numberOf r ≡ operandNumber (nodeAt (now (nodes .entry))) (now (vars .entry)) n a ⌝ }
+fn operand_number(nodes: &[u8], vars: &[i16; 64], n: u16, a: u16) -> i64
+    ensures { λ r. ⌜ StandsFor r (operandNumber (nodeAt (now (nodes .entry))) (now (vars .entry)) n a) ⌝ }
 {
-    if a < n {
-        let at = 16 * (a as usize);
-        if nodes.len() < at + 12 {
-            return number_of(nodes, vars, a);
-        }
+    if n <= a {
+        return 0;
+    }
+    let at = 16 * (a as usize);
+    if at + 12 <= nodes.len() {
         let code = nodes[at + 1];
         if code == 2 {
-            return Number::Value(variable(vars, u16_within(nodes, at + 2)));
+            return variable(vars, u16_within(nodes, at + 2));
         }
         if code == 1 {
-            return Number::Value(i32_within(nodes, at + 8));
+            return wide(i32_within(nodes, at + 8));
         }
-        number_of(nodes, vars, a)
-    } else {
-        Number::Value(0)
     }
+    number_outcome(nodes, vars, a)
 }
 
-fn operand_truth(nodes: &[u8], vars: &[i16; 64], n: u16, a: u16) -> Truth
-    ensures { λ r. ⌜ truthOf r ≡ operandTruth (nodeAt (now (nodes .entry))) (now (vars .entry)) n a ⌝ }
+fn operand_truth(nodes: &[u8], vars: &[i16; 64], n: u16, a: u16) -> u8
+    ensures { λ r. ⌜ truthOutcome r ≡ operandTruth (nodeAt (now (nodes .entry))) (now (vars .entry)) n a ⌝ }
 {
     if a < n {
-        truth_of(nodes, vars, a)
+        truth_outcome(nodes, vars, a)
     } else {
-        Truth::Value(false)
+        0
     }
 }
 
 // Operands a and b of node n, left to right: the first fault ends it.
-fn operand_pair(nodes: &[u8], vars: &[i16; 64], n: u16, a: u16, b: u16) -> Pair
-    ensures { λ r. ⌜ pairOf r ≡ operandPair (nodeAt (now (nodes .entry))) (now (vars .entry)) n a b ⌝ }
+fn computed(nodes: &[u8], vars: &[i16; 64], n: u16, code: u8, a: u16, b: u16) -> i64
+    ensures { λ r. ⌜ StandsFor r (computeOperands (nodeAt (now (nodes .entry))) (now (vars .entry)) (arithmeticOf code) n a b) ⌝ }
 {
-    match operand_number(nodes, vars, n, a) {
-        Number::Fault(w) => Pair::Fault(w),
-        Number::Value(x) => match operand_number(nodes, vars, n, b) {
-            Number::Fault(w) => Pair::Fault(w),
-            Number::Value(y) => Pair::Values(x, y),
-        },
+    let x = operand_number(nodes, vars, n, a);
+    if HIGHEST < x {
+        return x;
     }
+    let y = operand_number(nodes, vars, n, b);
+    if HIGHEST < y {
+        return y;
+    }
+    compute(code, x, y)
 }
 
-// Operand a of node n where it is the truth that decides, else operand b.
-fn decided(nodes: &[u8], vars: &[i16; 64], n: u16, a: u16, b: u16, decides: bool) -> Truth
-    ensures { λ r. ⌜ truthOf r ≡ decide decides (operandTruth (nodeAt (now (nodes .entry))) (now (vars .entry)) n a) (operandTruth (nodeAt (now (nodes .entry))) (now (vars .entry)) n b) ⌝ }
+fn compared(nodes: &[u8], vars: &[i16; 64], n: u16, code: u8, a: u16, b: u16) -> u8
+    ensures { λ r. ⌜ truthOutcome r ≡ compareOperands (nodeAt (now (nodes .entry))) (now (vars .entry)) (comparisonOf code) n a b ⌝ }
 {
-    match operand_truth(nodes, vars, n, a) {
-        Truth::Fault(w) => Truth::Fault(w),
-        Truth::Value(t) => {
-            if t == decides {
-                Truth::Value(t)
-            } else {
-                operand_truth(nodes, vars, n, b)
-            }
-        }
+    let x = operand_number(nodes, vars, n, a);
+    if HIGHEST < x {
+        return truth_fault(x);
+    }
+    let y = operand_number(nodes, vars, n, b);
+    if HIGHEST < y {
+        return truth_fault(y);
+    }
+    truth_value(compare(code, x, y))
+}
+
+// The truth of operand t of node n picks operand a or b.
+fn chosen(nodes: &[u8], vars: &[i16; 64], n: u16, t: u16, a: u16, b: u16) -> i64
+    ensures { λ r. ⌜ StandsFor r (choose (operandTruth (nodeAt (now (nodes .entry))) (now (vars .entry)) n t) (operandNumber (nodeAt (now (nodes .entry))) (now (vars .entry)) n a) (operandNumber (nodeAt (now (nodes .entry))) (now (vars .entry)) n b)) ⌝ }
+{
+    let first = operand_truth(nodes, vars, n, t);
+    if 1 < first {
+        return number_fault(first);
+    }
+    operand_number(nodes, vars, n, picked(first == 1, a, b))
+}
+
+// Operand a of node n where it is a fault or the truth that decides, else operand b.
+fn decided(nodes: &[u8], vars: &[i16; 64], n: u16, a: u16, b: u16, decides: bool) -> u8
+    ensures { λ r. ⌜ truthOutcome r ≡ decide decides (operandTruth (nodeAt (now (nodes .entry))) (now (vars .entry)) n a) (operandTruth (nodeAt (now (nodes .entry))) (now (vars .entry)) n b) ⌝ }
+{
+    let t = operand_truth(nodes, vars, n, a);
+    if t == truth_value(!decides) {
+        operand_truth(nodes, vars, n, b)
+    } else {
+        t
     }
 }
 
 // By the code: 1 a constant, 2 a variable, 3 to 7 two numbers, 8 a choice.
-pub fn number_of(nodes: &[u8], vars: &[i16; 64], n: u16) -> Number
-    ensures { λ r. ⌜ numberOf r ≡ number (nodeAt (now (nodes .entry))) (now (vars .entry)) n ⌝ }
+fn number_outcome(nodes: &[u8], vars: &[i16; 64], n: u16) -> i64
+    ensures { λ r. ⌜ StandsFor r (number (nodeAt (now (nodes .entry))) (now (vars .entry)) n) ⌝ }
 {
     let f = fields_at(nodes, n);
     let code = f.code;
     if 8 < code {
-        return Number::Value(0);
+        return 0;
     }
     if code == 8 {
-        return match operand_truth(nodes, vars, n, f.a) {
-            Truth::Fault(w) => Number::Fault(w),
-            Truth::Value(first) => operand_number(nodes, vars, n, picked(first, f.b, f.c)),
-        };
+        return chosen(nodes, vars, n, f.a, f.b, f.c);
     }
     if 2 < code {
-        return computed(code, operand_pair(nodes, vars, n, f.a, f.b));
+        return computed(nodes, vars, n, code, f.a, f.b);
     }
     if code == 2 {
-        return Number::Value(variable(vars, f.a));
+        return variable(vars, f.a);
     }
     if code == 1 {
-        return Number::Value(i32_at(nodes, 16 * (n as usize) + 8));
+        return wide(i32_at(nodes, 16 * (n as usize) + 8));
     }
-    Number::Value(0)
+    0
 }
 
 // By the code: 16 to 18 two numbers compared, 19 not, 20 and, 21 or.
-pub fn truth_of(nodes: &[u8], vars: &[i16; 64], n: u16) -> Truth
-    ensures { λ r. ⌜ truthOf r ≡ truth (nodeAt (now (nodes .entry))) (now (vars .entry)) n ⌝ }
+fn truth_outcome(nodes: &[u8], vars: &[i16; 64], n: u16) -> u8
+    ensures { λ r. ⌜ truthOutcome r ≡ truth (nodeAt (now (nodes .entry))) (now (vars .entry)) n ⌝ }
 {
     let f = fields_at(nodes, n);
     let code = f.code;
     if code < 16 {
-        return Truth::Value(false);
+        return 0;
     }
     if code < 19 {
-        return compared(code, operand_pair(nodes, vars, n, f.a, f.b));
+        return compared(nodes, vars, n, code, f.a, f.b);
     }
     if code == 19 {
         return negated(operand_truth(nodes, vars, n, f.a));
@@ -165,5 +188,37 @@ pub fn truth_of(nodes: &[u8], vars: &[i16; 64], n: u16) -> Truth
     if code < 22 {
         return decided(nodes, vars, n, f.a, f.b, code == 21);
     }
-    Truth::Value(false)
+    0
+}
+
+fn reason(range: bool) -> Reason
+    ensures { λ r. ⌜ reasonOf r ≡ faultIf range ⌝ }
+{
+    if range {
+        Reason::Range
+    } else {
+        Reason::Divisor
+    }
+}
+
+pub fn number_of(nodes: &[u8], vars: &[i16; 64], n: u16) -> Number
+    ensures { λ r. ⌜ numberOf r ≡ number (nodeAt (now (nodes .entry))) (now (vars .entry)) n ⌝ }
+{
+    let z = number_outcome(nodes, vars, n);
+    if HIGHEST < z {
+        Number::Fault(reason(z <= OUT_OF_RANGE))
+    } else {
+        Number::Value(z as i32)
+    }
+}
+
+pub fn truth_of(nodes: &[u8], vars: &[i16; 64], n: u16) -> Truth
+    ensures { λ r. ⌜ truthOf r ≡ truth (nodeAt (now (nodes .entry))) (now (vars .entry)) n ⌝ }
+{
+    let t = truth_outcome(nodes, vars, n);
+    match t {
+        0 => Truth::Value(false),
+        1 => Truth::Value(true),
+        _ => Truth::Fault(reason(t == 2)),
+    }
 }

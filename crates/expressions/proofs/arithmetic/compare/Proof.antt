@@ -1,4 +1,4 @@
--- `arithmetic::compare` meets its contract: what 32 bits hold of two numbers compares as the numbers do. Assumes nothing.
+-- `arithmetic::compare` meets its contract: what 64 bits hold of two numbers compares as the numbers do. Assumes nothing.
 use mathlib.Core.Path.{_≡_, sym, ap, _∙_}
 use lib.Signed.{ltZ, leZ}
 use mir.Facts.{toZ-ofZ}

@@ -1,52 +1,58 @@
 -- `arithmetic::compute` meets its contract: each code has its operator's function. Assumes nothing.
-use mathlib.Core.Path.{_≡_, sym, ap, _∙_}
+use mathlib.Core.Path.{_≡_, sym, ap, subst}
+use Prim.Native.Nat.{_<_, _^_}
 use lib.IntN.{ℤ}
-use mir.Facts.{toZ-ofZ}
-use mir.Syntax.{w32}
-use mir.Val.{SFits, toZ, ofZ}
+use lib.Signed.{mag}
+use mir.Syntax.{w64}
+use mir.Val.{toZ, ofZ}
 use borrow.Author.Tests.{ne-eqb}
 use Rattle.records.specs.Lists.{caseOf}
 use Rattle.expressions.specs.Nodes.{Arithmetic, remainder}
 use Rattle.expressions.specs.Values.{compute}
 use Rattle.expressions.specs.Coded.{arithmeticOf}
-use borrow.Author.Needs.{needs}
+use Rattle.expressions.specs.Outcomes.{BothNarrow}
+use Rattle.expressions.proofs.Signed.{read}
+use Rattle.expressions.proofs.Outcomes.{handed}
 use Rattle.expressions.proofs.arithmetic.compute.Statement.{statement}
 use Rattle.expressions.proofs.arithmetic.compute.Tie as tie
 
 -- what the operator's function is given stands for the two numbers
-carried : {a b : ℤ} {o p : Arithmetic} → SFits w32 a → SFits w32 b → p ≡ o → compute o (toZ w32 (ofZ w32 a)) (toZ w32 (ofZ w32 b)) ≡ compute p a b
-carried fa fb e i = compute (sym e i) (toZ-ofZ fa i) (toZ-ofZ fb i)
+carried : {a b : ℤ} {o p : Arithmetic} → BothNarrow a b → p ≡ o → compute o (toZ w64 (ofZ w64 a)) (toZ w64 (ofZ w64 b)) ≡ compute p a b
+carried {a} {b} l e i = compute (sym e i) (read a (l .first) i) (read b (l .second) i)
+
+both-held : {a b : ℤ} → BothNarrow a b → BothNarrow (toZ w64 (ofZ w64 a)) (toZ w64 (ofZ w64 b))
+both-held {a} {b} l = record { first = subst (λ z. mag z < 2 ^ 31) (sym (read a (l .first))) (l .first); second = subst (λ z. mag z < 2 ^ 31) (sym (read b (l .second))) (l .second) }
 
 add-requires : tie.Need-add-requires
-add-requires c κs = search needs
+add-requires c κs = both-held (c .before .pre)
 
 subtract-requires : tie.Need-subtract-requires
-subtract-requires c κs = search needs
+subtract-requires c κs = both-held (c .before .pre)
 
 multiply-requires : tie.Need-multiply-requires
-multiply-requires c κs = search needs
+multiply-requires c κs = both-held (c .before .pre)
 
 divide-requires : tie.Need-divide-requires
-divide-requires c κs = search needs
+divide-requires c κs = both-held (c .before .pre)
 
 remainder-requires : tie.Need-remainder-requires
-remainder-requires c κs = search needs
+remainder-requires c κs = both-held (c .before .pre)
 
 returns : tie.Need-returns
 unfolding caseOf
-returns c = c .add .ensures ∙ carried (c .before .before .fits .a) (c .before .before .fits .b) (ap arithmeticOf (c .before .match .keys1))
+returns c = handed (c .add .ok) (c .add .ensures) (carried (c .before .before .pre) (ap arithmeticOf (c .before .match .keys1)))
 
 returns-2 : tie.Need-returns-2
 unfolding caseOf
-returns-2 c = c .subtract .ensures ∙ carried (c .before .before .fits .a) (c .before .before .fits .b) (ap arithmeticOf (c .before .match .keys2))
+returns-2 c = handed (c .subtract .ok) (c .subtract .ensures) (carried (c .before .before .pre) (ap arithmeticOf (c .before .match .keys2)))
 
 returns-3 : tie.Need-returns-3
 unfolding caseOf
-returns-3 c = c .multiply .ensures ∙ carried (c .before .before .fits .a) (c .before .before .fits .b) (ap arithmeticOf (c .before .match .keys3))
+returns-3 c = handed (c .multiply .ok) (c .multiply .ensures) (carried (c .before .before .pre) (ap arithmeticOf (c .before .match .keys3)))
 
 returns-4 : tie.Need-returns-4
 unfolding caseOf
-returns-4 c = c .divide .ensures ∙ carried (c .before .before .fits .a) (c .before .before .fits .b) (ap arithmeticOf (c .before .match .keys4))
+returns-4 c = handed (c .divide .ok) (c .divide .ensures) (carried (c .before .before .pre) (ap arithmeticOf (c .before .match .keys4)))
 
 returns-5 : tie.Need-returns-5
 unfolding caseOf
@@ -54,7 +60,7 @@ returns-5 c =
     let k = c .before .before .args .code in
     let r = c .before .match .rest in
     let e : arithmeticOf k ≡ remainder = rw (ne-eqb k 3 (r .0 .0 .0 .1), ne-eqb k 4 (r .0 .0 .1), ne-eqb k 5 (r .0 .1), ne-eqb k 6 (r .1)) in
-    c .remainder .ensures ∙ carried (c .before .before .fits .a) (c .before .before .fits .b) e
+    handed (c .remainder .ok) (c .remainder .ensures) (carried (c .before .before .pre) e)
 
 pub compute-spec : {M : Type 1} → statement M
 compute-spec =

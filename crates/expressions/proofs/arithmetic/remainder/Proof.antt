@@ -1,35 +1,30 @@
--- `arithmetic::remainder` meets its contract: a divisor of 0 is told apart, and the remainder of two 32-bit numbers fits 64 bits. Assumes nothing.
-use mathlib.Core.Path.{_≡_, ap, _∙_}
+-- `arithmetic::remainder` meets its contract: a divisor of 0 is told apart, and the remainder of two 32-bit numbers has 32 bits. Assumes nothing.
+use mathlib.Core.Path.{_≡_}
 use mathlib.Core.Bool.{false}
-use borrow.Author.Needs.{needs}
-use lib.Signed.{quotZ, remZ}
-use Rattle.expressions.specs.Values.{inRange, isZero}
-use Rattle.expressions.proofs.Signed.{quotient-narrow, remainder-narrow, fits-wide, wide-result, zero-bits, other-bits, wide-divisor}
+use Prim.Native.Nat.{_≤_, _<_, _^_}
+use native.Mathlib.Omega.{arith}
+use borrow.Author.Tests.{lt-ltb}
+use lib.Signed.{mag, quotZ, remZ, mag-rem}
+use Rattle.expressions.specs.Values.{isZero}
+use Rattle.expressions.proofs.Signed.{quotient-narrow, remainder-narrow, fits-wide, wide-result, zero-bits, other-bits}
+use Rattle.expressions.proofs.Outcomes.{stands-at, of-number, of-divisor}
 use Rattle.expressions.proofs.arithmetic.remainder.Statement.{statement}
 use Rattle.expressions.proofs.arithmetic.remainder.Tie as tie
 
-wide-requires : tie.Need-wide-requires
-wide-requires c κs = search needs
-
-wide-requires-2 : tie.Need-wide-requires-2
-wide-requires-2 c κs = search needs
-
-rem-in-range : tie.Need-rem-in-range
-rem-in-range c =
-    let k = c .before .before .before .fits in
-    (wide-divisor (k .b, c .wide2 .ensures) (c .before .before .if1 .left), fits-wide quotZ (k .a, c .before .wide .ensures) (k .b, c .wide2 .ensures) quotient-narrow)
-
-in-range-requires : tie.Need-in-range-requires
-in-range-requires c κs = search needs
+rem-result : tie.Need-rem-result
+rem-result c = (omega (arith, c .if1 .left), fits-wide quotZ (c .before .pre) quotient-narrow)
 
 returns : tie.Need-returns
-returns c = rw (zero-bits (c .before .fits .b) (c .if1 .taken))
+returns c = rw (zero-bits (c .before .fits .b) (c .if1 .taken)) of-divisor
 
 returns-2 : tie.Need-returns-2
 returns-2 c =
-    let k = c .before .before .before .before in
-    let other : isZero (k .args .b) ≡ false = other-bits (k .args .b) (c .before .before .before .if1 .left) in
-    rw other (c .in-range .ensures ∙ ap inRange (wide-result remZ (k .fits .a, c .before .before .wide .ensures) (k .fits .b, c .before .wide2 .ensures) remainder-narrow))
+    let k = c .before in
+    let z = remZ (k .args .a) (k .args .b) in
+    let other : isZero (k .args .b) ≡ false = other-bits (k .args .b) (c .if1 .left) in
+    let m : mag z ≤ mag (k .args .a) = mag-rem (k .args .a) (k .args .b) in
+    let l : mag z < 2 ^ 31 = omega (arith, k .pre .first) in
+    rw (other, lt-ltb (mag z) (2 ^ 31) l) (stands-at (wide-result remZ (k .pre) remainder-narrow) (of-number z l))
 
 pub remainder-spec : {M : Type 1} → statement M
-remainder-spec = tie.close (tie.spec wide-requires wide-requires-2 rem-in-range in-range-requires returns returns-2)
+remainder-spec = tie.close (tie.spec rem-result returns returns-2)

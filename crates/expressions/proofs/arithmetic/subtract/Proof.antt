@@ -1,30 +1,21 @@
 -- `arithmetic::subtract` meets its contract: the difference of two 32-bit numbers fits 64 bits. Assumes nothing.
-use mathlib.Core.Path.{ap, _∙_}
+use mathlib.Core.Path.{ap}
 use borrow.Author.Needs.{needs}
 use lib.IntN.{_-ℤ_}
 use Rattle.expressions.specs.Values.{inRange}
 use Rattle.expressions.proofs.Signed.{difference-narrow, fits-wide, wide-result}
+use Rattle.expressions.proofs.Outcomes.{handed}
 use Rattle.expressions.proofs.arithmetic.subtract.Statement.{statement}
 use Rattle.expressions.proofs.arithmetic.subtract.Tie as tie
 
-wide-requires : tie.Need-wide-requires
-wide-requires c κs = search needs
-
-wide-requires-2 : tie.Need-wide-requires-2
-wide-requires-2 c κs = search needs
-
 sub-in-range : tie.Need-sub-in-range
-sub-in-range c =
-    let k = c .before .before .fits in
-    fits-wide _-ℤ_ (k .a, c .before .wide .ensures) (k .b, c .wide2 .ensures) difference-narrow
+sub-in-range c = fits-wide _-ℤ_ (c .pre) difference-narrow
 
 in-range-requires : tie.Need-in-range-requires
 in-range-requires c κs = search needs
 
 returns : tie.Need-returns
-returns c =
-    let k = c .before .before .before .fits in
-    c .in-range .ensures ∙ ap inRange (wide-result _-ℤ_ (k .a, c .before .before .wide .ensures) (k .b, c .before .wide2 .ensures) difference-narrow)
+returns c = handed (c .in-range .ok) (c .in-range .ensures) (ap inRange (wide-result _-ℤ_ (c .before .pre) difference-narrow))
 
 pub subtract-spec : {M : Type 1} → statement M
-subtract-spec = tie.close (tie.spec wide-requires wide-requires-2 sub-in-range in-range-requires returns)
+subtract-spec = tie.close (tie.spec sub-in-range in-range-requires returns)

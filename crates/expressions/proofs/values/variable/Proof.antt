@@ -1,12 +1,17 @@
--- `values::variable` meets its contract: 32 bits hold what 16 hold, and past the end is 0. Assumes nothing.
-use mathlib.Core.Path.{sym, _∙_}
+-- `values::variable` meets its contract: 16 bits are within 32, and past the end is 0. Assumes nothing.
+use mathlib.Core.Path.{sym, ap, _∙_}
+use Prim.Native.Nat.{_<_, _^_}
+use native.Mathlib.Omega.{arith}
 use borrow.Author.Needs.{needs}
 use denote.Ref.{now}
 use lib.IntN.{pos}
 use lib.ListN.{getD, List·getD-eq-default}
+use lib.Signed.{mag}
 use mir.Facts.{toZ-ofZ, sfits-widen, sfits-toZ, fits-ofZ}
 use mir.Syntax.{w16}
 use mir.Val.{SFits}
+use Rattle.records.specs.Refusal.{val}
+use Rattle.expressions.proofs.Outcomes.{stands-same, stands-at, of-number, of-zero}
 use Rattle.expressions.proofs.values.variable.Statement.{statement}
 use Rattle.expressions.proofs.values.variable.Tie as tie
 
@@ -23,10 +28,13 @@ cast-result : tie.Need-cast-result
 cast-result c = sfits-widen tt (sfits-toZ (fits-ofZ (held c)))
 
 returns : tie.Need-returns
-returns c = toZ-ofZ (cast-result c) ∙ toZ-ofZ (held c)
+returns c =
+    let k = c .before .before .args in
+    let l : mag (getD (now (k .vars)) (k .v) (pos 0)) < 2 ^ 31 = omega (arith, c .result .given) in
+    stands-at (toZ-ofZ (cast-result c) ∙ toZ-ofZ (held c)) (of-number (getD (now (k .vars)) (k .v) (pos 0)) l)
 
 returns-2 : tie.Need-returns-2
-returns-2 c = sym (List·getD-eq-default (now (c .before .args .vars)) (pos 0) (c .if1 .left))
+returns-2 c = stands-same of-zero (ap val (sym (List·getD-eq-default (now (c .before .args .vars)) (pos 0) (c .if1 .left))))
 
 pub variable-spec : {M : Type 1} → statement M
 variable-spec = tie.close (tie.spec mul-result shared-slice-copy-out-result cast-result returns returns-2)

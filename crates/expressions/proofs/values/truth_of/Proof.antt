@@ -1,0 +1,31 @@
+-- `values::truth_of` meets its contract: 0 and 1 are the truths, and the rest are faults. Assumes nothing.
+use mathlib.Core.Path.{sym, ap, _∙_}
+use Prim.Native.Nat.{_<_}
+use native.Mathlib.Omega.{arith}
+use borrow.Author.Needs.{needs}
+use Rattle.records.specs.Refusal.{fault}
+use Rattle.expressions.specs.Outcomes.{truthOutcome}
+use Rattle.expressions.proofs.Outcomes.{truth-fault-in}
+use Rattle.expressions.proofs.values.truth_of.Statement.{statement}
+use Rattle.expressions.proofs.values.truth_of.Tie as tie
+
+truth-outcome-requires : tie.Need-truth-outcome-requires
+truth-outcome-requires c κs = search needs
+
+reason-requires : tie.Need-reason-requires
+reason-requires c κs = search needs
+
+returns : tie.Need-returns
+returns c = ap truthOutcome (sym (c .match .keys1)) ∙ c .before .truth-outcome .ensures
+
+returns-2 : tie.Need-returns-2
+returns-2 c = ap truthOutcome (sym (c .match .keys2)) ∙ c .before .truth-outcome .ensures
+
+returns-3 : tie.Need-returns-3
+returns-3 c =
+    let r = c .before .match .rest in
+    let l : 1 < c .before .before .truth-outcome .result = omega (arith, r .0 .1, r .1) in
+    ap fault (c .reason .ensures) ∙ truth-fault-in (c .before .before .truth-outcome .ensures) l
+
+pub truth-of-spec : {M : Type 1} → statement M
+truth-of-spec = tie.close (tie.spec truth-outcome-requires reason-requires returns returns-2 returns-3)
