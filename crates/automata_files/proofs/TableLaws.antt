@@ -1,16 +1,17 @@
 -- The tests of refusal 11 on what a framed file says, by the numbers of its things. Assumes nothing.
 use mathlib.Core.Path.{_≡_, ap, _∙_}
 use mathlib.Core.Bool.{not, _&&_, _||_}
-use mathlib.Core.List.{List, map}
+use mathlib.Core.List.{List}
 use Prim.Native.Nat.{ℕ, min, _≤_}
 use native.Mathlib.Omega.{arith}
 use lib.Dec.{leb, ltb, eqb}
-use lib.ListN.{length, getD}
+use lib.ListN.{length, getD, replicate}
 use Rattle.records.specs.Lists.{all, gather, upto}
 use Rattle.expressions.specs.Nodes.{Node, nodeOf, nodeAt}
 use Rattle.expressions.specs.Sorts.{sortOf, isNumber, isTruth, nodesNamed, operandsFit, operandUses}
+use Rattle.expressions.specs.Uses.{addUses, allOperands}
 use Rattle.records.proofs.FramingLaws.{getD-upto}
-use Rattle.expressions.proofs.Uses.{at-most-once}
+use Rattle.expressions.proofs.Uses.{counted, at-most-once}
 use Rattle.model.specs.AutomataTable.{readAutomata}
 use Rattle.model.specs.ChartFile.{between, guardNamed, deedNamed, guardNodes, assignedNodes}
 use Rattle.model.specs.AutomataFile.{causeNamed, tableNamed, clocksTick, homeOf, insideAutomata, idleEdgesStay, tableNodesFit}
@@ -133,11 +134,11 @@ module _ (s : List ℕ) (sh : Shape) (is : IsShape s sh) where
       && all (λ n. leb (operandUses (lookup-is s sh is j) (length-nodes s sh is j) n) 1) (upto (length-nodes s sh is j))
 
 -- uses counted up to 2 tell which nodes are used twice
-pub used-is : (node : ℕ → Node) (size : ℕ) (uses : List ℕ) → size ≤ 1024 → uses ≡ map (λ k. min 2 (operandUses node size k)) (upto 1024) →
+pub used-is : (node : ℕ → Node) (size : ℕ) (uses : List ℕ) → size ≤ 1024 → uses ≡ addUses (replicate 1024 0) (allOperands node size) →
     all (λ n. leb (getD uses n 0) 1) (upto size) ≡ all (λ n. leb (operandUses node size n) 1) (upto size)
 used-is node size uses l e =
     all-alike (λ n. leb (getD uses n 0) 1) (λ n. leb (operandUses node size n) 1) size
     (λ n h.
-    ap (λ u. leb (getD u n 0) 1) e
+    ap (λ u. leb (getD u n 0) 1) (e ∙ counted 1024 (allOperands node size))
     ∙ ap (λ m. leb m 1) (getD-upto (λ k. min 2 (operandUses node size k)) 0 1024 n (omega arith))
     ∙ at-most-once (operandUses node size n))

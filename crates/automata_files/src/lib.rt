@@ -18,6 +18,8 @@ pub mod structure;
 pub mod unused;
 
 use codes::in_code;
+use expressions::sorts::test_nodes;
+use fields::node_records;
 use names::table_named;
 use nodes::table_nodes_fit;
 use records::Framing;
@@ -104,12 +106,15 @@ fn passes(s: &[u8], shape: Shape) -> bool
     requires { ⌜ IsShape (now s) shape ⌝ }
     ensures { λ r. ⌜ r ≡ passes (now (s .entry)) ⌝ }
 {
+    let mut uses = [0u8; 1024];
+    let nodes = node_records(s, shape);
+    let found = test_nodes(nodes, shape.nodes, shape.variables, &mut uses);
     all_sound(s)
-        & table_named(s, shape)
+        & table_named(s, shape, found)
         & clocks_tick(s, shape)
         & inside_automata(s, shape)
         & idle_edges_stay(s, shape)
-        & table_nodes_fit(s, shape)
+        & table_nodes_fit(s, shape, found, &uses)
 }
 
 // The reader: refusal 11, or the file's shape.

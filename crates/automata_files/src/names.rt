@@ -1,9 +1,12 @@
 // Refusal 6, read for an automata file: numbers that name nothing.
 ghost use mathlib.Core.Path.{_≡_};
 ghost use Rattle.records.specs.Lists.{all, upto};
+ghost use Rattle.expressions.specs.Nodes.{nodeAt};
+ghost use Rattle.expressions.specs.Sorts.{verdictOf};
 ghost use Rattle.model.specs.AutomataTable.{readAutomata};
 ghost use Rattle.model.specs.AutomataFile.{causeNamed, tableNamed};
 ghost use Rattle.automata_files.specs.Shape.{IsShape};
+ghost use Rattle.automata_files.specs.Places.{nodePart};
 ghost use Rattle.automata_files.specs.Parts.{causeFor};
 ghost use Rattle.automata_files.specs.Names.{initialNamed, homeNamed, edgeNamed, literalNamed, updateNamed, resetNamed};
 use super::Shape;
@@ -15,7 +18,6 @@ use super::fields::guard_of;
 use super::fields::home_of;
 use super::fields::initial_of;
 use super::fields::literal_edge;
-use super::fields::node_records;
 use super::fields::reset_clock;
 use super::fields::reset_edge;
 use super::fields::source_of;
@@ -23,7 +25,7 @@ use super::fields::target_of;
 use super::fields::update_edge;
 use chart_files::names::deed_named;
 use chart_files::names::guard_named;
-use expressions::sorts::nodes_named;
+use expressions::sorts::says_named;
 
 fn initial_named(s: &[u8], shape: Shape, a: u16) -> bool
     ensures { λ r. ⌜ r ≡ initialNamed (now (s .entry)) shape a ⌝ }
@@ -160,15 +162,16 @@ fn resets_named(s: &[u8], shape: Shape) -> bool
     true
 }
 
-pub fn table_named(s: &[u8], shape: Shape) -> bool
-    requires { ⌜ IsShape (now s) shape ⌝ }
+// Of the nodes it is known by what `test_nodes` found.
+pub fn table_named(s: &[u8], shape: Shape, found: u8) -> bool
+    requires { ⌜ IsShape (now s) shape × (found ≡ verdictOf (nodeAt (nodePart (now s) shape)) (shape .nodes) (shape .variables)) ⌝ }
     ensures { λ r. ⌜ r ≡ tableNamed (readAutomata (now (s .entry))) ⌝ }
 {
     initials_named(s, shape)
         & homes_named(s, shape)
         & edges_named(s, shape)
         & literals_named(s, shape)
-        & nodes_named(node_records(s, shape), shape.nodes, shape.variables)
+        & says_named(found)
         & updates_named(s, shape)
         & resets_named(s, shape)
 }

@@ -2,10 +2,11 @@
 ghost use mathlib.Core.Path.{_≡_};
 ghost use Prim.Native.Nat.{_≤_};
 ghost use lib.Dec.{leb};
-ghost use lib.ListN.{length, getD};
+ghost use lib.ListN.{length, getD, replicate};
 ghost use Rattle.records.specs.Lists.{all, upto};
 ghost use Rattle.expressions.specs.Nodes.{nodeAt};
-ghost use Rattle.expressions.specs.Sorts.{operandUses};
+ghost use Rattle.expressions.specs.Sorts.{verdictOf};
+ghost use Rattle.expressions.specs.Uses.{addUses, allOperands};
 ghost use Rattle.model.specs.AutomataTable.{readAutomata};
 ghost use Rattle.model.specs.AutomataFile.{tableNodesFit};
 ghost use Rattle.chart_files.specs.Used.{truths, numbers};
@@ -18,8 +19,7 @@ use super::fields::guard_of;
 use super::fields::node_records;
 use chart_files::uses::deed_sorted;
 use chart_files::uses::guard_sorted;
-use expressions::sorts::operand_uses;
-use expressions::sorts::operands_fit;
+use expressions::sorts::says_fit;
 
 fn guards_fit(s: &[u8], shape: Shape) -> bool
     requires { ⌜ IsShape (now s) shape ⌝ }
@@ -68,20 +68,10 @@ fn none_twice(uses: &[u8], size: u16) -> bool
     true
 }
 
-fn used_once(s: &[u8], shape: Shape) -> bool
-    requires { ⌜ IsShape (now s) shape ⌝ }
-    ensures { λ r. ⌜ r ≡ all (λ n. leb (operandUses (nodeAt (nodePart (now (s .entry)) shape)) (shape .nodes) n) 1) (upto (shape .nodes)) ⌝ }
-{
-    let uses = operand_uses(node_records(s, shape), shape.nodes);
-    none_twice(&uses, shape.nodes)
-}
-
-pub fn table_nodes_fit(s: &[u8], shape: Shape) -> bool
-    requires { ⌜ IsShape (now s) shape ⌝ }
+// By what `test_nodes` found of the nodes.
+pub fn table_nodes_fit(s: &[u8], shape: Shape, found: u8, uses: &[u8]) -> bool
+    requires { ⌜ IsShape (now s) shape × (found ≡ verdictOf (nodeAt (nodePart (now s) shape)) (shape .nodes) (shape .variables)) × (now uses ≡ addUses (replicate 1024 0) (allOperands (nodeAt (nodePart (now s) shape)) (shape .nodes))) ⌝ }
     ensures { λ r. ⌜ r ≡ tableNodesFit (readAutomata (now (s .entry))) ⌝ }
 {
-    operands_fit(node_records(s, shape), shape.nodes)
-        & guards_fit(s, shape)
-        & assigned_fit(s, shape)
-        & used_once(s, shape)
+    says_fit(found) & guards_fit(s, shape) & assigned_fit(s, shape) & none_twice(uses, shape.nodes)
 }

@@ -8,6 +8,7 @@ use lib.ListN.{length}
 use Rattle.records.specs.Lists.{all, upto}
 use Rattle.expressions.specs.Nodes.{nodeOf, nodeAt}
 use Rattle.expressions.specs.Sorts.{nodesNamed}
+use Rattle.expressions.proofs.Loops.{and-assoc}
 use Rattle.model.specs.ChartSet.{readActions, readCharts}
 use Rattle.model.specs.ChartFile.{guardNamed, deedNamed, allNamed}
 use Rattle.chart_files.specs.declared.Shape.{Shape}
@@ -16,7 +17,7 @@ use Rattle.chart_files.specs.Places.{initialAt, homeAt, transitionAt, pl
 use Rattle.chart_files.specs.Names.{initialNamed, homeNamed, transitionNamed, actionNamed}
 use Rattle.records.proofs.FramingLaws.{and-true}
 use Rattle.chart_files.proofs.ListLaws.{all-map}
-use Rattle.chart_files.proofs.Numbers.{all-both, and-assoc}
+use Rattle.chart_files.proofs.Numbers.{all-both}
 use Rattle.chart_files.proofs.Readings.{length-initial, length-homes, length-transitions, length-variables, length-nodes, initial-are, homes-are, transitions-are, lookup-is, all-actions}
 
 module _ (s : List ℕ) (sh : Shape) (is : IsShape s sh) where

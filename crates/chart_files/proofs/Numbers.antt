@@ -7,7 +7,7 @@ use native.Mathlib.Nat.{zero-add, sub-zero}
 use native.Mathlib.Omega.{arith}
 use Rattle.records.specs.Lists.{all, any, count, from, upto}
 use Rattle.records.proofs.FramingLaws.{impossible, and-true}
-use Rattle.expressions.proofs.Loops.{left-more, left-none}
+use Rattle.expressions.proofs.Loops.{and-assoc, left-more, left-none}
 use Rattle.chart_files.proofs.ListLaws.{all-map, count-map, alike-upto}
 
 -- two tests are one where each passes with the other
@@ -18,10 +18,6 @@ same-truth false false f g = refl
 
 pub both-true : {a b : Bool} → a ≡ true → b ≡ true → (a && b) ≡ true
 both-true p q = λ i. p i && q i
-
-pub and-assoc : (a b c : Bool) → (a && (b && c)) ≡ (a && b && c)
-and-assoc true b c = refl
-and-assoc false b c = refl
 
 -- ---- all numbers below n
 

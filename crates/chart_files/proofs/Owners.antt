@@ -9,9 +9,10 @@ use lib.Dec.{leb, eqb}
 use lib.ListN.{replicate}
 use Rattle.records.specs.Lists.{all, count, from, upto}
 use Rattle.expressions.proofs.Uses.{times}
+use Rattle.expressions.proofs.Loops.{and-assoc}
 use Rattle.chart_files.specs.Tallies.{within}
 use Rattle.chart_files.proofs.ListLaws.{count-map}
-use Rattle.chart_files.proofs.Numbers.{and-assoc, all-alike, count-alike}
+use Rattle.chart_files.proofs.Numbers.{all-alike, count-alike}
 use Rattle.chart_files.proofs.Tallies.{within-is}
 
 -- the numbers below a + b: those below a, and those from a on

@@ -9,9 +9,8 @@ use lib.ListN.{length, take, drop, length-take, length-drop}
 use lib.Seq.{take-nil, drop-nil}
 use Rattle.records.specs.Lists.{all}
 use Rattle.records.specs.Bytes.{byte, records}
-use Rattle.expressions.proofs.Loops.{and-one, and-two}
+use Rattle.expressions.proofs.Loops.{and-one, and-two, and-assoc}
 use Rattle.model.specs.ChartFile.{zeros, unusedAreZero}
-use Rattle.chart_files.proofs.Numbers.{and-assoc}
 use Rattle.records.proofs.Records.{recordAt, rest, rest-all, rest-none, rest-one}
 
 -- the part of a file from 16 i on, of 16 bytes

@@ -11,6 +11,7 @@ use Rattle.records.specs.Lists.{all, any, count, keep, upto, distinct}
 use Rattle.records.specs.Bytes.{records}
 use Rattle.records.proofs.FramingLaws.{length-keep, and-true}
 use Rattle.expressions.proofs.Uses.{times}
+use Rattle.expressions.proofs.Loops.{and-assoc}
 use Rattle.model.specs.ChartSet.{Transition, readCharts, readActions}
 use Rattle.model.specs.ChartFile.{between, home, inCode, insideCharts, leavingState, unconditional, initialFits, prioritiesDiffer, atMostEight}
 use Rattle.chart_files.specs.declared.Shape.{Shape}
@@ -21,7 +22,7 @@ use Rattle.chart_files.specs.Tallies.{within}
 use Rattle.chart_files.specs.Structure.{insideChart, apart, idle, leftOnce, sourceAt, pairAt, ownerAt}
 use Rattle.chart_files.proofs.ListLaws.{all-map, count-map, keep-map, map-map, all-keep}
 use Rattle.chart_files.proofs.Readings.{length-homes, length-transitions, initial-is, transitions-are, all-actions, count-actions, most-states}
-use Rattle.chart_files.proofs.Numbers.{and-assoc, all-at, all-by, all-alike, all-append, count-append, not-any, all-both, count-either}
+use Rattle.chart_files.proofs.Numbers.{all-at, all-by, all-alike, all-append, count-append, not-any, all-both, count-either}
 use Rattle.chart_files.proofs.Initials.{marks, apart-once, idle-once, left-once}
 use Rattle.chart_files.proofs.InCode.{place-in-code}
 use Rattle.chart_files.proofs.Owners.{owners-within}

@@ -9,9 +9,8 @@ use borrow.Author.Tests.{lt-ltb, le-leb, leb-true, eqb-true, eqb-false, eq-eqb, 
 use lib.Dec.{leb, ltb, eqb}
 use Rattle.records.specs.Lists.{all, caseOf}
 use Rattle.records.specs.Bytes.{byte, two, four}
-use Rattle.expressions.proofs.Loops.{and-one}
+use Rattle.expressions.proofs.Loops.{and-one, and-assoc}
 use Rattle.model.specs.ChartFile.{zeros, unusedAreZero, between}
-use Rattle.chart_files.proofs.Numbers.{and-assoc}
 use Rattle.chart_files.proofs.RecordLoops.{zerosFrom, zeros-next, unused-one, unused-two}
 
 -- a number of two parts is 0 where both are

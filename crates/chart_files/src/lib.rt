@@ -14,6 +14,8 @@ pub mod unused;
 pub mod uses;
 
 use codes::in_code;
+use expressions::sorts::test_nodes;
+use fields::node_records;
 use names::all_named;
 use records::Framing;
 use records::frame_of;
@@ -117,13 +119,16 @@ fn check_framed(s: &[u8], shape: Shape) -> Checked
     if !tested.coded {
         return Checked::Refused(Refusal::BrokenCode);
     }
-    if !all_named(s, shape) {
+    let mut uses = [0u8; 1024];
+    let nodes = node_records(s, shape);
+    let found = test_nodes(nodes, shape.nodes, shape.variables, &mut uses);
+    if !all_named(s, shape, found) {
         return Checked::Refused(Refusal::DanglingNumber);
     }
     if !structured(s, shape) {
         return Checked::Refused(Refusal::BrokenStructure);
     }
-    if !nodes_fit(s, shape) {
+    if !nodes_fit(s, shape, found, &mut uses) {
         return Checked::Refused(Refusal::BrokenNode);
     }
     if !all_ticking(s, shape) {

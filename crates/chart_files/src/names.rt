@@ -1,9 +1,12 @@
 // Refusal 6: numbers that name nothing.
 ghost use mathlib.Core.Path.{_≡_};
 ghost use Rattle.records.specs.Lists.{all, upto};
+ghost use Rattle.expressions.specs.Nodes.{nodeAt};
+ghost use Rattle.expressions.specs.Sorts.{verdictOf};
 ghost use Rattle.model.specs.ChartSet.{readCharts};
 ghost use Rattle.model.specs.ChartFile.{guardNamed, deedNamed, allNamed};
 ghost use Rattle.chart_files.specs.Shape.{IsShape};
+ghost use Rattle.chart_files.specs.Places.{nodePart};
 ghost use Rattle.chart_files.specs.Parts.{guardFor, deedFor};
 ghost use Rattle.chart_files.specs.Names.{initialNamed, homeNamed, transitionNamed, actionNamed};
 use super::Shape;
@@ -13,12 +16,11 @@ use super::fields::deed_of;
 use super::fields::guard_of;
 use super::fields::home_of;
 use super::fields::initial_of;
-use super::fields::node_records;
 use super::fields::owner_of;
 use super::fields::place_of;
 use super::fields::source_of;
 use super::fields::target_of;
-use expressions::sorts::nodes_named;
+use expressions::sorts::says_named;
 
 fn initials_named(s: &[u8], shape: Shape) -> bool
     ensures { λ r. ⌜ r ≡ all (initialNamed (now (s .entry)) shape) (upto (shape .charts)) ⌝ }
@@ -109,13 +111,14 @@ fn actions_named(s: &[u8], shape: Shape) -> bool
     true
 }
 
-pub fn all_named(s: &[u8], shape: Shape) -> bool
-    requires { ⌜ IsShape (now s) shape ⌝ }
+// Of the nodes it is known by what `test_nodes` found.
+pub fn all_named(s: &[u8], shape: Shape, found: u8) -> bool
+    requires { ⌜ IsShape (now s) shape × (found ≡ verdictOf (nodeAt (nodePart (now s) shape)) (shape .nodes) (shape .variables)) ⌝ }
     ensures { λ r. ⌜ r ≡ allNamed (readCharts (now (s .entry))) ⌝ }
 {
     initials_named(s, shape)
         & homes_named(s, shape)
         & transitions_named(s, shape)
-        & nodes_named(node_records(s, shape), shape.nodes, shape.variables)
+        & says_named(found)
         & actions_named(s, shape)
 }

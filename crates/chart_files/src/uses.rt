@@ -3,14 +3,16 @@ ghost use mathlib.Core.Path.{_≡_};
 ghost use mathlib.Core.Bool.{true};
 ghost use Prim.Native.Nat.{_≤_};
 ghost use lib.Dec.{eqb};
-ghost use lib.ListN.{length, getD};
+ghost use lib.ListN.{length, getD, replicate};
 ghost use Rattle.records.specs.Lists.{all, gather, upto};
 ghost use Rattle.records.specs.Bytes.{records};
 ghost use Rattle.expressions.specs.Nodes.{nodeOf, nodeAt};
-ghost use Rattle.expressions.specs.Uses.{addUses};
+ghost use Rattle.expressions.specs.Sorts.{verdictOf};
+ghost use Rattle.expressions.specs.Uses.{addUses, allOperands};
 ghost use Rattle.model.specs.ChartSet.{readCharts};
 ghost use Rattle.model.specs.ChartFile as file;
 ghost use Rattle.chart_files.specs.Shape.{IsShape};
+ghost use Rattle.chart_files.specs.Places.{nodePart};
 ghost use Rattle.chart_files.specs.Parts.{guardFor, deedFor};
 ghost use Rattle.chart_files.specs.Used.{guardAt, assignedAt, truths, numbers};
 use super::Shape;
@@ -20,10 +22,9 @@ use super::fields::deed_of;
 use super::fields::guard_of;
 use super::fields::node_records;
 use expressions::sorts::add_use;
-use expressions::sorts::count_operands;
 use expressions::sorts::is_number;
 use expressions::sorts::is_truth;
-use expressions::sorts::operands_fit;
+use expressions::sorts::says_fit;
 
 // A guard is a truth.
 pub fn guard_sorted(guard: Guard, nodes: &[u8]) -> bool
@@ -145,24 +146,20 @@ fn all_once(uses: &[u8], size: u16) -> bool
     true
 }
 
-fn used_once(s: &[u8], shape: Shape) -> bool
-    requires { ⌜ IsShape (now s) shape × (all file.inCode (records (now s)) ≡ true) ⌝ }
+// `uses` has those as operands.
+fn used_once(s: &[u8], shape: Shape, uses: &mut [u8]) -> bool
+    requires { ⌜ IsShape (now s) shape × (all file.inCode (records (now s)) ≡ true) × (now uses ≡ addUses (replicate 1024 0) (allOperands (nodeAt (nodePart (now s) shape)) (shape .nodes))) ⌝ }
     ensures { λ r. ⌜ r ≡ all (λ n. eqb (file.uses (readCharts (now (s .entry))) n) 1) (upto (length (readCharts (now (s .entry)) .nodes))) ⌝ }
 {
-    let mut uses = [0u8; 1024];
-    count_operands(node_records(s, shape), shape.nodes, &mut uses);
-    count_guards(s, shape, &mut uses);
-    count_assignments(s, shape, &mut uses);
-    all_once(&uses, shape.nodes)
+    count_guards(s, shape, uses);
+    count_assignments(s, shape, uses);
+    all_once(uses, shape.nodes)
 }
 
-// Of a framed file whose codes and ranges are kept.
-pub fn nodes_fit(s: &[u8], shape: Shape) -> bool
-    requires { ⌜ IsShape (now s) shape × (all file.inCode (records (now s)) ≡ true) ⌝ }
+// Of a framed file whose codes and ranges are kept, by what `test_nodes` found of its nodes.
+pub fn nodes_fit(s: &[u8], shape: Shape, found: u8, uses: &mut [u8]) -> bool
+    requires { ⌜ IsShape (now s) shape × (all file.inCode (records (now s)) ≡ true) × (found ≡ verdictOf (nodeAt (nodePart (now s) shape)) (shape .nodes) (shape .variables)) × (now uses ≡ addUses (replicate 1024 0) (allOperands (nodeAt (nodePart (now s) shape)) (shape .nodes))) ⌝ }
     ensures { λ r. ⌜ r ≡ file.nodesFit (readCharts (now (s .entry))) ⌝ }
 {
-    operands_fit(node_records(s, shape), shape.nodes)
-        & guards_fit(s, shape)
-        & assigned_fit(s, shape)
-        & used_once(s, shape)
+    says_fit(found) & guards_fit(s, shape) & assigned_fit(s, shape) & used_once(s, shape, uses)
 }

@@ -18,6 +18,10 @@ pub and-three : (a b c : Bool) → (a && b && c) ≡ a && (b && (c && true))
 and-three true b c = and-two b c
 and-three false b c = refl
 
+pub and-assoc : (a b c : Bool) → (a && (b && c)) ≡ (a && b && c)
+and-assoc true b c = refl
+and-assoc false b c = refl
+
 -- what is left of the numbers below a size, from i on
 pub left-more : (i size : ℕ) → i < size → from i (size - i) ≡ i ∷ from (i + 1) (size - (i + 1))
 unfolding from
@@ -51,3 +55,20 @@ module _ (p : ℕ → Bool) (size : ℕ) where
 
   pub passed-not : (i : ℕ) → Passed i → i < size → p i ≡ false → all p (upto size) ≡ false
   passed-not i h l e = h .1 ∙ step i l ∙ ap (λ b. b && all p (from (i + 1) (size - (i + 1)))) e
+
+  -- ---- a loop that is not left early: the flag says of those below i whether they passed
+
+  abbrev pub Flagged : Bool → ℕ → Type 0
+  Flagged f i = all p (upto size) ≡ (f && all p (from i (size - i)))
+
+  pub flagged-none : Flagged true 0
+  flagged-none = passed-none .1
+
+  pub flagged-more : (f : Bool) {b : Bool} (i : ℕ) → Flagged f i → i < size → b ≡ p i → Flagged (f && b) (i + 1)
+  flagged-more f i h l e =
+      let others = all p (from (i + 1) (size - (i + 1))) in
+      h ∙ ap (λ x. f && x) (step i l) ∙ and-assoc f (p i) others ∙ ap (λ x. f && x && others) (sym e)
+
+  pub flagged-all : (f : Bool) (i : ℕ) → Flagged f i → size ≤ i → f ≡ all p (upto size)
+  unfolding all
+  flagged-all f i h l = and-one f ∙ sym (h ∙ ap (λ r. f && all p r) (left-none i size l))

@@ -1,13 +1,14 @@
 // Sorts, order and use of nodes, which the checks of a file ask of.
 ghost use mathlib.Core.Path.{_≡_};
+ghost use mathlib.Core.Bool.{Bool};
 ghost use mathlib.Core.List.{map};
 ghost use Prim.Native.Nat.{_+_, min};
 ghost use lib.Dec.{ltb};
 ghost use lib.IntN.{ℤ};
-ghost use Rattle.records.specs.Lists.{all, upto};
+ghost use Rattle.records.specs.Lists.{all};
 ghost use Rattle.expressions.specs.Nodes.{nodeAt};
-ghost use Rattle.expressions.specs.Sorts.{sortOf, isNumber, isTruth, sameSort, operands, variablesOf, nodeNamed, nodesNamed, operandFits, nodeFits, operandsFit, operandUses};
-ghost use Rattle.expressions.specs.Uses.{operandNumbers, allOperands, addUse, addUses};
+ghost use Rattle.expressions.specs.Sorts.{sortOf, isNumber, isTruth, sameSort, operands, variablesOf, nodesNamed, operandFits, operandsFit, verdict, verdictOf};
+ghost use Rattle.expressions.specs.Uses.{allOperands, addUse, addUses};
 ghost use Rattle.expressions.specs.Answers.{sortFor, operandsFor};
 ghost use Rattle.expressions.specs.Coded.{codedNode};
 use super::nodes::Fields;
@@ -96,37 +97,16 @@ fn variable_below(f: Fields, variables: u16) -> bool
     if f.code == 2 { f.a < variables } else { true }
 }
 
-fn node_named(nodes: &[u8], n: u16, size: u16, variables: u16) -> bool
-    ensures { λ r. ⌜ r ≡ nodeNamed (nodeAt (now (nodes .entry))) size variables n ⌝ }
-{
-    let f = fields_at(nodes, n);
-    all_below(operands_of(f), size) & variable_below(f, variables)
-}
-
-// Each operand is one of `size` nodes, and each variable one of `variables`.
-pub fn nodes_named(nodes: &[u8], size: u16, variables: u16) -> bool
-    ensures { λ r. ⌜ r ≡ nodesNamed (nodeAt (now (nodes .entry))) size variables ⌝ }
-{
-    let mut n = 0;
-    while n < size {
-        if !node_named(nodes, n, size, variables) {
-            return false;
-        }
-        n += 1;
-    }
-    true
-}
-
 fn operand_fits(nodes: &[u8], n: u16, k: u16, sort: Sort) -> bool
     ensures { λ r. ⌜ r ≡ operandFits (nodeAt (now (nodes .entry))) n (k, sortFor sort) ⌝ }
 {
     (k < n) & has_sort(nodes, k, sort)
 }
 
-fn node_fits(nodes: &[u8], n: u16) -> bool
-    ensures { λ r. ⌜ r ≡ nodeFits (nodeAt (now (nodes .entry))) n ⌝ }
+fn all_fit(nodes: &[u8], n: u16, o: Operands) -> bool
+    ensures { λ r. ⌜ r ≡ all (operandFits (nodeAt (now (nodes .entry))) n) (operandsFor o) ⌝ }
 {
-    match operands_of(fields_at(nodes, n)) {
+    match o {
         Operands::Leaf => true,
         Operands::One(s, a) => operand_fits(nodes, n, a, s),
         Operands::Two(s, a, b) => operand_fits(nodes, n, a, s) & operand_fits(nodes, n, b, s),
@@ -136,20 +116,6 @@ fn node_fits(nodes: &[u8], n: u16) -> bool
                 & operand_fits(nodes, n, b, Sort::Number)
         }
     }
-}
-
-// Each operand of `size` nodes is lower than its node, and of the right sort.
-pub fn operands_fit(nodes: &[u8], size: u16) -> bool
-    ensures { λ r. ⌜ r ≡ operandsFit (nodeAt (now (nodes .entry))) size ⌝ }
-{
-    let mut n = 0;
-    while n < size {
-        if !node_fits(nodes, n) {
-            return false;
-        }
-        n += 1;
-    }
-    true
 }
 
 // A count stops at 2: tests ask for none, once or more, and the count then fits its byte.
@@ -170,10 +136,10 @@ pub fn add_use(uses: &mut [u8], k: u16)
     }
 }
 
-fn count_node(nodes: &[u8], n: u16, uses: &mut [u8])
-    ensures { λ _. ⌜ now (uses .exit) ≡ addUses (now (uses .entry)) (operandNumbers (nodeAt (now (nodes .entry)) n)) ⌝ }
+fn count_uses(uses: &mut [u8], o: Operands)
+    ensures { λ _. ⌜ now (uses .exit) ≡ addUses (now (uses .entry)) (map (λ k. k .0) (operandsFor o)) ⌝ }
 {
-    match operands_of(fields_at(nodes, n)) {
+    match o {
         Operands::Leaf => {}
         Operands::One(_, a) => add_use(uses, a),
         Operands::Two(_, a, b) => {
@@ -188,22 +154,65 @@ fn count_node(nodes: &[u8], n: u16, uses: &mut [u8])
     }
 }
 
-// The uses of nodes as operands of the first `size` nodes.
-pub fn count_operands(nodes: &[u8], size: u16, uses: &mut [u8])
-    ensures { λ _. ⌜ now (uses .exit) ≡ addUses (now (uses .entry)) (allOperands (nodeAt (now (nodes .entry))) size) ⌝ }
+// Two answers as one number, which stays in a register.
+fn verdict(named: bool, fit: bool) -> u8
+    ensures { λ r. ⌜ r ≡ verdict named fit ⌝ }
 {
-    let mut n = 0;
-    while n < size {
-        count_node(nodes, n, uses);
-        n += 1;
+    if named {
+        if fit { 3 } else { 1 }
+    } else {
+        if fit { 2 } else { 0 }
     }
 }
 
-// The uses of nodes as operands, up to 2, of each node that a file may have.
-pub fn operand_uses(nodes: &[u8], size: u16) -> [u8; 1024]
-    ensures { λ r. ⌜ r ≡ map (λ k. min 2 (operandUses (nodeAt (now (nodes .entry))) size k)) (upto 1024) ⌝ }
+pub fn says_named(found: u8) -> bool
+    ensures { λ r. ⌜ ((named fit : Bool) → found ≡ verdict named fit → r ≡ named) ⌝ }
 {
-    let mut uses = [0u8; 1024];
-    count_operands(nodes, size, &mut uses);
-    uses
+    (found == 1) | (found == 3)
+}
+
+pub fn says_fit(found: u8) -> bool
+    ensures { λ r. ⌜ ((named fit : Bool) → found ≡ verdict named fit → r ≡ fit) ⌝ }
+{
+    2 <= found
+}
+
+// One pass over `size` nodes, each read once: whether each operand is one of them and each variable one of `variables`, whether each operand is
+// lower than its node and of the right sort, and the uses of nodes as operands.
+pub fn test_nodes(nodes: &[u8], size: u16, variables: u16, uses: &mut [u8]) -> u8
+    ensures { λ r. ⌜ (r ≡ verdictOf (nodeAt (now (nodes .entry))) size variables) × (now (uses .exit) ≡ addUses (now (uses .entry)) (allOperands (nodeAt (now (nodes .entry))) size)) ⌝ }
+{
+    let mut named = true;
+    let mut fit = true;
+    let mut n = 0;
+    while n < size {
+        let f = fields_at(nodes, n);
+        let o = operands_of(f);
+        named = named & (all_below(o, size) & variable_below(f, variables));
+        fit = fit & all_fit(nodes, n, o);
+        count_uses(uses, o);
+        n += 1;
+    }
+    verdict(named, fit)
+}
+
+// Its parts, where one alone is asked for.
+pub fn nodes_named(nodes: &[u8], size: u16, variables: u16) -> bool
+    ensures { λ r. ⌜ r ≡ nodesNamed (nodeAt (now (nodes .entry))) size variables ⌝ }
+{
+    let mut uses = [0u8; 1];
+    says_named(test_nodes(nodes, size, variables, &mut uses))
+}
+
+pub fn operands_fit(nodes: &[u8], size: u16) -> bool
+    ensures { λ r. ⌜ r ≡ operandsFit (nodeAt (now (nodes .entry))) size ⌝ }
+{
+    let mut uses = [0u8; 1];
+    says_fit(test_nodes(nodes, size, 0, &mut uses))
+}
+
+pub fn count_operands(nodes: &[u8], size: u16, uses: &mut [u8])
+    ensures { λ _. ⌜ now (uses .exit) ≡ addUses (now (uses .entry)) (allOperands (nodeAt (now (nodes .entry))) size) ⌝ }
+{
+    test_nodes(nodes, size, 0, uses);
 }

@@ -1,10 +1,14 @@
 -- `check_framed` meets its contract: the tests that passed, and the one that did not. Assumes nothing.
-use mathlib.Core.Path.{_≡_, refl, sym, _∙_}
+use mathlib.Core.Path.{_≡_, refl, sym, ap, _∙_}
 use mathlib.Core.Bool.{true}
 use borrow.Author.Tests.{not-true, not-false}
+use lib.ListN.{replicate}
 use Rattle.records.specs.Lists.{all}
 use Rattle.records.specs.Refusal.{lowest}
 use Rattle.records.specs.Bytes.{records}
+use Rattle.expressions.specs.Nodes.{nodeAt}
+use Rattle.expressions.specs.Sorts.{verdictOf}
+use Rattle.expressions.specs.Uses.{addUses, allOperands}
 use Rattle.model.specs.ChartSet.{readCharts}
 use Rattle.model.specs.ChartFile.{unused, unusedAreZero, inCode, allNamed, structured, nodesFit, ticking}
 use Rattle.chart_files.specs.declared.Refusal.the-variants.{StrayByte, BrokenCode, DanglingNumber, BrokenStructure, BrokenNode, ZeroTicks}
@@ -19,16 +23,16 @@ zeros-hold c = sym (c .before .before .test-records .ensures .0) ∙ not-false _
 codes-hold : (c : tie.Else2) → all inCode (records (c .before .before .before .before .before .before .args .s .now)) ≡ true
 codes-hold c = sym (c .before .before .before .before .test-records .ensures .1) ∙ not-false _ (c .if2 .left)
 
-names-hold : (c : tie.Else3) → allNamed (readCharts (c .before .before .before .before .before .before .before .before .args .s .now)) ≡ true
+names-hold : (c : tie.Else3) → allNamed (readCharts (c .before .before .before .before .before .before .before .before .before .before .before .before .args .s .now)) ≡ true
 names-hold c = sym (c .before .all-named .ensures) ∙ not-false _ (c .if3 .left)
 
-shaped-hold : (c : tie.Else4) → structured (readCharts (c .before .before .before .before .before .before .before .before .before .before .args .s .now)) ≡ true
+shaped-hold : (c : tie.Else4) → structured (readCharts (c .before .before .before .before .before .before .before .before .before .before .before .before .before .before .args .s .now)) ≡ true
 shaped-hold c = sym (c .before .structured .ensures) ∙ not-false _ (c .if4 .left)
 
-nodes-hold : (c : tie.Else5) → nodesFit (readCharts (c .before .before .before .before .before .before .before .before .before .before .before .before .args .s .now)) ≡ true
-nodes-hold c = sym (c .before .nodes-fit .ensures) ∙ not-false _ (c .if5 .left)
+nodes-hold : (c : tie.Else5) → nodesFit (readCharts (c .before .before .before .before .before .before .before .before .before .before .before .before .before .before .before .before .before .before .args .s .now)) ≡ true
+nodes-hold c = sym (c .before .before .nodes-fit .ensures) ∙ not-false _ (c .if5 .left)
 
-ticks-hold : (c : tie.Else6) → all (λ t. ticking (t .trigger)) (readCharts (c .before .before .before .before .before .before .before .before .before .before .before .before .before .before .args .s .now) .transitions) ≡ true
+ticks-hold : (c : tie.Else6) → all (λ t. ticking (t .trigger)) (readCharts (c .before .before .before .before .before .before .before .before .before .before .before .before .before .before .before .before .before .before .before .before .args .s .now) .transitions) ≡ true
 ticks-hold c = sym (c .before .all-ticking .ensures) ∙ not-false _ (c .if6 .left)
 
 test-records-requires : tie.Need-test-records-requires
@@ -60,52 +64,76 @@ returns-2 c =
     refl
     refl)
 
+node-records-requires : tie.Need-node-records-requires
+node-records-requires c κs = search needs
+
+slice-aggregate-test-nodes : tie.Need-slice-aggregate-test-nodes
+slice-aggregate-test-nodes c = search needs
+
+test-nodes-requires : tie.Need-test-nodes-requires
+test-nodes-requires c κs = search needs
+
 all-named-requires : tie.Need-all-named-requires
-all-named-requires c κs = search needs
+all-named-requires c κs =
+    let k = c .before .before .before .before .before .before .before .before .before .before in
+    let sh = k .args .shape in
+    (k .pre, c .before .test-nodes .ensures .0 ∙ ap (λ x. verdictOf (nodeAt x) (sh .nodes) (sh .variables)) (c .before .before .before .node-records .ensures))
 
 returns-3 : tie.Need-returns-3
 unfolding lowest
 returns-3 c =
-    let k = c .before .before .before .before .before .before .before .before in
+    let k = c .before .before .before .before .before .before .before .before .before .before .before .before in
     refused (k .args .s .now) DanglingNumber
     (refusal-is (k .args .s .now) (k .pre .framed)
-    (zeros-hold (c .before .before .before .before))
-    (codes-hold (c .before .before))
+    (zeros-hold (c .before .before .before .before .before .before .before .before))
+    (codes-hold (c .before .before .before .before .before .before))
     (sym (c .before .all-named .ensures) ∙ not-true _ (c .if3 .taken))
     refl
     refl
     refl)
 
 structured-requires : tie.Need-structured-requires
-structured-requires c κs = (c .before .before .before .before .before .before .before .before .pre, codes-hold (c .before .before), names-hold c)
+structured-requires c κs = (c .before .before .before .before .before .before .before .before .before .before .before .before .pre, codes-hold (c .before .before .before .before .before .before), names-hold c)
 
 returns-4 : tie.Need-returns-4
 unfolding lowest
 returns-4 c =
-    let k = c .before .before .before .before .before .before .before .before .before .before in
+    let k = c .before .before .before .before .before .before .before .before .before .before .before .before .before .before in
     refused (k .args .s .now) BrokenStructure
     (refusal-is (k .args .s .now) (k .pre .framed)
-    (zeros-hold (c .before .before .before .before .before .before))
-    (codes-hold (c .before .before .before .before))
+    (zeros-hold (c .before .before .before .before .before .before .before .before .before .before))
+    (codes-hold (c .before .before .before .before .before .before .before .before))
     (names-hold (c .before .before))
     (sym (c .before .structured .ensures) ∙ not-true _ (c .if4 .taken))
     refl
     refl)
 
+slice-aggregate-nodes-fit : tie.Need-slice-aggregate-nodes-fit
+slice-aggregate-nodes-fit c = search needs
+
 nodes-fit-requires : tie.Need-nodes-fit-requires
-nodes-fit-requires c κs = (c .before .before .before .before .before .before .before .before .before .before .pre, codes-hold (c .before .before .before .before))
+nodes-fit-requires c κs =
+    let k = c .before .before .before .before .before .before .before .before .before .before .before .before .before .before .before in
+    let sh = k .args .shape in
+    let nodes = c .before .before .before .before .before .before .before .before .node-records .ensures in
+    let found = c .before .before .before .before .before .before .test-nodes .ensures in (
+      k .pre,
+      codes-hold (c .before .before .before .before .before .before .before .before .before),
+      found .0 ∙ ap (λ x. verdictOf (nodeAt x) (sh .nodes) (sh .variables)) nodes,
+      found .1 ∙ ap (λ x. addUses (replicate 1024 0) (allOperands (nodeAt x) (sh .nodes))) nodes,
+    )
 
 returns-5 : tie.Need-returns-5
 unfolding lowest
 returns-5 c =
-    let k = c .before .before .before .before .before .before .before .before .before .before .before .before in
+    let k = c .before .before .before .before .before .before .before .before .before .before .before .before .before .before .before .before .before .before in
     refused (k .args .s .now) BrokenNode
     (refusal-is (k .args .s .now) (k .pre .framed)
-    (zeros-hold (c .before .before .before .before .before .before .before .before))
-    (codes-hold (c .before .before .before .before .before .before))
-    (names-hold (c .before .before .before .before))
-    (shaped-hold (c .before .before))
-    (sym (c .before .nodes-fit .ensures) ∙ not-true _ (c .if5 .taken))
+    (zeros-hold (c .before .before .before .before .before .before .before .before .before .before .before .before .before .before))
+    (codes-hold (c .before .before .before .before .before .before .before .before .before .before .before .before))
+    (names-hold (c .before .before .before .before .before .before))
+    (shaped-hold (c .before .before .before .before))
+    (sym (c .before .before .nodes-fit .ensures) ∙ not-true _ (c .if5 .taken))
     refl)
 
 all-ticking-requires : tie.Need-all-ticking-requires
@@ -114,26 +142,26 @@ all-ticking-requires c κs = search needs
 returns-6 : tie.Need-returns-6
 unfolding lowest
 returns-6 c =
-    let k = c .before .before .before .before .before .before .before .before .before .before .before .before .before .before in
+    let k = c .before .before .before .before .before .before .before .before .before .before .before .before .before .before .before .before .before .before .before .before in
     refused (k .args .s .now) ZeroTicks
     (refusal-is (k .args .s .now) (k .pre .framed)
-    (zeros-hold (c .before .before .before .before .before .before .before .before .before .before))
-    (codes-hold (c .before .before .before .before .before .before .before .before))
-    (names-hold (c .before .before .before .before .before .before))
-    (shaped-hold (c .before .before .before .before))
+    (zeros-hold (c .before .before .before .before .before .before .before .before .before .before .before .before .before .before .before .before))
+    (codes-hold (c .before .before .before .before .before .before .before .before .before .before .before .before .before .before))
+    (names-hold (c .before .before .before .before .before .before .before .before))
+    (shaped-hold (c .before .before .before .before .before .before))
     (nodes-hold (c .before .before))
     (sym (c .before .all-ticking .ensures) ∙ not-true _ (c .if6 .taken)))
 
 returns-7 : tie.Need-returns-7
 unfolding lowest
 returns-7 c =
-    let k = c .before .before .before .before .before .before .before .before .before .before .before .before .before .before in
+    let k = c .before .before .before .before .before .before .before .before .before .before .before .before .before .before .before .before .before .before .before .before in
     accepted (k .args .s .now) (k .args .shape) (k .pre)
     (refusal-is (k .args .s .now) (k .pre .framed)
-    (zeros-hold (c .before .before .before .before .before .before .before .before .before .before))
-    (codes-hold (c .before .before .before .before .before .before .before .before))
-    (names-hold (c .before .before .before .before .before .before))
-    (shaped-hold (c .before .before .before .before))
+    (zeros-hold (c .before .before .before .before .before .before .before .before .before .before .before .before .before .before .before .before))
+    (codes-hold (c .before .before .before .before .before .before .before .before .before .before .before .before .before .before))
+    (names-hold (c .before .before .before .before .before .before .before .before))
+    (shaped-hold (c .before .before .before .before .before .before))
     (nodes-hold (c .before .before))
     (ticks-hold c))
 
@@ -144,10 +172,14 @@ check-framed-spec =
     test-records-requires
     returns
     returns-2
+    node-records-requires
+    slice-aggregate-test-nodes
+    test-nodes-requires
     all-named-requires
     returns-3
     structured-requires
     returns-4
+    slice-aggregate-nodes-fit
     nodes-fit-requires
     returns-5
     all-ticking-requires

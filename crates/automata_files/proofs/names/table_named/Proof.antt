@@ -1,8 +1,9 @@
 -- `names::table_named` meets its contract: each part by the numbers of its things. Assumes nothing.
-use mathlib.Core.Path.{sym, ap, _∙_}
+use mathlib.Core.Path.{sym, _∙_}
 use mathlib.Core.Bool.{_&&_}
 use Rattle.expressions.specs.Nodes.{nodeAt}
-use Rattle.expressions.specs.Sorts.{nodesNamed}
+use Rattle.expressions.specs.Sorts.{nodesNamed, operandsFit}
+use Rattle.automata_files.specs.Places.{nodePart}
 use Rattle.automata_files.proofs.TableLaws.{named-is}
 use borrow.Author.Needs.{needs}
 use Rattle.automata_files.proofs.names.table_named.Statement.{statement}
@@ -20,11 +21,8 @@ edges-named-requires c κs = search needs
 literals-named-requires : tie.Need-literals-named-requires
 literals-named-requires c κs = search needs
 
-node-records-requires : tie.Need-node-records-requires
-node-records-requires c κs = search needs
-
-nodes-named-requires : tie.Need-nodes-named-requires
-nodes-named-requires c κs = search needs
+says-named-requires : tie.Need-says-named-requires
+says-named-requires c κs = search needs
 
 updates-named-requires : tie.Need-updates-named-requires
 updates-named-requires c κs = search needs
@@ -34,17 +32,19 @@ resets-named-requires c κs = search needs
 
 returns : tie.Need-returns
 returns c =
-    let k = c .before .before .before .before .before .before .before .before .before in
+    let k = c .before .before .before .before .before .before .before .before in
+    let s = k .args .s .now in
     let sh = k .args .shape in
+    let nodes = c .before .before .says-named .ensures (nodesNamed (nodeAt (nodePart s sh)) (sh .nodes) (sh .variables)) (operandsFit (nodeAt (nodePart s sh)) (sh .nodes)) (k .pre .1) in
     (λ i.
-    c .before .before .before .before .before .before .before .initials-named .ensures i
-    && c .before .before .before .before .before .before .homes-named .ensures i
-    && c .before .before .before .before .before .edges-named .ensures i
-    && c .before .before .before .before .literals-named .ensures i
-    && (c .before .before .nodes-named .ensures ∙ ap (λ l. nodesNamed (nodeAt l) (sh .nodes) (sh .variables)) (c .before .before .before .node-records .ensures)) i
+    c .before .before .before .before .before .before .initials-named .ensures i
+    && c .before .before .before .before .before .homes-named .ensures i
+    && c .before .before .before .before .edges-named .ensures i
+    && c .before .before .before .literals-named .ensures i
+    && nodes i
     && c .before .updates-named .ensures i
     && c .resets-named .ensures i)
-    ∙ sym (named-is (k .args .s .now) sh (k .pre))
+    ∙ sym (named-is s sh (k .pre .0))
 
 pub table-named-spec : {M : Type 1} → statement M
 table-named-spec =
@@ -54,8 +54,7 @@ table-named-spec =
     homes-named-requires
     edges-named-requires
     literals-named-requires
-    node-records-requires
-    nodes-named-requires
+    says-named-requires
     updates-named-requires
     resets-named-requires
     returns)

@@ -1,19 +1,23 @@
--- `nodes::table_nodes_fit` meets its contract: a test for each part. Assumes nothing.
+-- `nodes::table_nodes_fit` meets its contract: a test for each part, and no count of uses is 2. Assumes nothing.
 use mathlib.Core.Path.{sym, ap, _∙_}
 use mathlib.Core.Bool.{_&&_}
+use Prim.Native.Nat.{ℕ}
+use native.Mathlib.Omega.{arith}
 use denote.Ref.{now}
+use lib.ListN.{length, replicate, length-replicate}
 use Rattle.expressions.specs.Nodes.{nodeAt}
-use Rattle.expressions.specs.Sorts.{operandsFit}
-use Rattle.automata_files.proofs.TableLaws.{nodes-is}
+use Rattle.expressions.specs.Sorts.{nodesNamed, operandsFit}
+use Rattle.expressions.specs.Uses.{allOperands}
+use Rattle.expressions.proofs.Uses.{adds-length}
+use Rattle.automata_files.specs.Places.{nodePart}
+use Rattle.automata_files.proofs.Readings.{most-nodes}
+use Rattle.automata_files.proofs.TableLaws.{nodes-is, used-is}
 use borrow.Author.Needs.{needs}
 use Rattle.automata_files.proofs.nodes.table_nodes_fit.Statement.{statement}
 use Rattle.automata_files.proofs.nodes.table_nodes_fit.Tie as tie
 
-node-records-requires : tie.Need-node-records-requires
-node-records-requires c κs = search needs
-
-operands-fit-requires : tie.Need-operands-fit-requires
-operands-fit-requires c κs = search needs
+says-fit-requires : tie.Need-says-fit-requires
+says-fit-requires c κs = search needs
 
 guards-fit-requires : tie.Need-guards-fit-requires
 guards-fit-requires c κs = search needs
@@ -21,26 +25,29 @@ guards-fit-requires c κs = search needs
 assigned-fit-requires : tie.Need-assigned-fit-requires
 assigned-fit-requires c κs = search needs
 
-used-once-requires : tie.Need-used-once-requires
-used-once-requires c κs = search needs
+none-twice-requires : tie.Need-none-twice-requires
+none-twice-requires c κs =
+    let b = c .before .before .before .before .before in
+    let s = now (b .args .s) in
+    let sh = b .args .shape in
+    omega (arith, most-nodes s sh (b .pre .0), ap length (b .pre .2) ∙ adds-length (replicate 1024 0) (allOperands (nodeAt (nodePart s sh)) (sh .nodes)) ∙ length-replicate {A = ℕ} 1024 0)
 
 returns : tie.Need-returns
 returns c =
     let b = c .before .before .before .before .before .before in
-    (λ j.
-    (c .before .before .before .operands-fit .ensures ∙ ap (λ x. operandsFit (nodeAt x) (b .args .shape .nodes)) (c .before .before .before .before .node-records .ensures)) j
-    && c .before .before .guards-fit .ensures j
-    && c .before .assigned-fit .ensures j
-    && c .used-once .ensures j)
-    ∙ sym (nodes-is (now (b .args .s)) (b .args .shape) (b .pre))
+    let s = now (b .args .s) in
+    let sh = b .args .shape in
+    let node = nodeAt (nodePart s sh) in
+    let operands = c .before .before .before .says-fit .ensures (nodesNamed node (sh .nodes) (sh .variables)) (operandsFit node (sh .nodes)) (b .pre .1) in
+    let used = c .none-twice .ensures ∙ used-is node (sh .nodes) (now (b .args .uses)) (most-nodes s sh (b .pre .0)) (b .pre .2) in
+    (λ j. operands j && c .before .before .guards-fit .ensures j && c .before .assigned-fit .ensures j && used j) ∙ sym (nodes-is s sh (b .pre .0))
 
 pub table-nodes-fit-spec : {M : Type 1} → statement M
 table-nodes-fit-spec =
     tie.close
     (tie.spec
-    node-records-requires
-    operands-fit-requires
+    says-fit-requires
     guards-fit-requires
     assigned-fit-requires
-    used-once-requires
+    none-twice-requires
     returns)

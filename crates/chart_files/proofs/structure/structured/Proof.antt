@@ -6,9 +6,9 @@ use borrow.Author.Needs.{needs}
 use denote.Ref.{now}
 use lib.ListN.{length}
 use Rattle.records.specs.Lists.{all, upto}
+use Rattle.expressions.proofs.Loops.{and-assoc}
 use Rattle.model.specs.ChartSet.{readCharts}
 use Rattle.model.specs.ChartFile.{insideCharts, initialFits, prioritiesDiffer, atMostEight}
-use Rattle.chart_files.proofs.Numbers.{and-assoc}
 use Rattle.chart_files.proofs.NameLaws.{initials-known}
 use Rattle.chart_files.proofs.Readings.{length-initial}
 use Rattle.chart_files.proofs.structure.structured.Statement.{statement}

@@ -1,43 +1,26 @@
--- `sorts::operands_fit` meets its contract: the invariant is that the nodes below n passed. Assumes nothing.
-use mathlib.Core.Path.{sym, _∙_}
-use Prim.Native.Nat.{_-_}
-use native.Mathlib.Omega.{arith}
-use borrow.Author.Tests.{not-true, not-false}
+-- `sorts::operands_fit` meets its contract: it is one answer of the pass. Assumes nothing.
 use denote.Ref.{now}
 use Rattle.expressions.specs.Nodes.{nodeAt}
-use Rattle.expressions.specs.Sorts.{nodeFits}
-use Rattle.expressions.proofs.Loops.{Passed, passed-none, passed-more, passed-all, passed-not}
+use Rattle.expressions.specs.Sorts.{nodesNamed, operandsFit}
+use borrow.Author.Needs.{needs}
 use Rattle.expressions.proofs.sorts.operands_fit.Statement.{statement}
 use Rattle.expressions.proofs.sorts.operands_fit.Tie as tie
 
-abbrev Inv-loop : tie.InvT-loop
-Inv-loop nodes size n₀ n = Passed (nodeFits (nodeAt nodes)) size n
+slice-aggregate-test-nodes : tie.Need-slice-aggregate-test-nodes
+slice-aggregate-test-nodes c = search needs
 
-abbrev μ-loop : tie.MeasureT-loop
-μ-loop nodes size n₀ n = size - n
+test-nodes-requires : tie.Need-test-nodes-requires
+test-nodes-requires c κs = search needs
 
-loop-holds : tie.Need-loop-holds Inv-loop μ-loop
-loop-holds c = passed-none (nodeFits (nodeAt (now (c .before .args .nodes)))) (c .before .args .size)
+says-fit-requires : tie.Need-says-fit-requires
+says-fit-requires c κs = search needs
 
-node-fits-requires : tie.Need-node-fits-requires Inv-loop μ-loop
-node-fits-requires c κs = tt
-
-returns : tie.Need-returns Inv-loop μ-loop
+returns : tie.Need-returns
 returns c =
-    sym (passed-not (nodeFits (nodeAt (now (c .before .before .before .before .before .args .nodes)))) (c .before .before .before .before .before .args .size) (c .before .before .before .loop .n) (c .before .before .before .loop .inv) (c .before .before .loop-test .taken) (sym (c .before .node-fits .ensures) ∙ not-true _ (c .if1 .taken)))
-
-add-n : tie.Need-add-n Inv-loop μ-loop
-add-n c = omega arith
-
-loop-less : tie.Need-loop-less Inv-loop μ-loop
-loop-less c = omega arith
-
-loop-again : tie.Need-loop-again Inv-loop μ-loop
-loop-again c =
-    passed-more (nodeFits (nodeAt (now (c .before .before .before .before .before .args .nodes)))) (c .before .before .before .before .before .args .size) (c .before .before .before .loop .n) (c .before .before .before .loop .inv) (c .before .before .loop-test .taken) (sym (c .before .node-fits .ensures) ∙ not-false _ (c .if1 .left))
-
-returns-2 : tie.Need-returns-2 Inv-loop μ-loop
-returns-2 c = sym (passed-all (nodeFits (nodeAt (now (c .before .before .before .args .nodes)))) (c .before .before .before .args .size) (c .before .loop .n) (c .before .loop .inv) (c .loop-test .left))
+    let k = c .before .before .before .before .before .args in
+    let s = now (k .nodes) in
+    c .says-fit .ensures (nodesNamed (nodeAt s) (k .size) 0) (operandsFit (nodeAt s) (k .size)) (c .before .before .test-nodes .ensures .0)
 
 pub operands-fit-spec : {M : Type 1} → statement M
-operands-fit-spec = tie.close (tie.spec Inv-loop μ-loop loop-holds node-fits-requires returns add-n loop-less loop-again returns-2)
+operands-fit-spec =
+    tie.close (tie.spec slice-aggregate-test-nodes test-nodes-requires says-fit-requires returns)
