@@ -16,9 +16,8 @@ use Rattle.records.specs.Lists.{all, any, count, keep, from, upto, mapFr
 use Rattle.records.specs.Bytes.{byte, records, kind}
 use Rattle.records.specs.Framing.{known, howMany, firstOf, kinds, oddLength, unorderedKinds, wrongAmounts, framing, counts, firsts}
 use Rattle.records.specs.Refusal.{Refusal, odd-length, unordered-kinds, wrong-amounts, lowest}
-use Rattle.records.specs.Frame.{framingOf, unlessRefused, IsFrame, IsTally, exceeds, sumTo}
+use Rattle.records.specs.Frame.{framingOf, unlessRefused, IsFrame, exceeds, sumTo}
 use Rattle.records.specs.declared.Frame.{Frame}
-use Rattle.records.specs.declared.Tally.{Tally}
 use Rattle.records.proofs.Records.{recordAt, byte-record, rest, rest-one, rest-none, length-records}
 
 pub impossible : {A : Type 0} → true ≡ false → A
@@ -44,9 +43,6 @@ module _ {A : Type 0} (p : A → Bool) where
       go : (b : Bool) → length (keep p xs) ≡ count p xs → length (cond b (x ∷ keep p xs) (keep p xs)) ≡ cond b (suc (count p xs)) (count p xs)
       go true h = ap suc h
       go false h = h
-
-pub howMany-le : (k : ℕ) (s : List ℕ) → howMany k s ≤ length s / 16
-howMany-le k s = rw length-records at (count-le (λ r. eqb (kind r) k) (records s))
 
 -- ---- kinds, known and ascending
 
@@ -86,25 +82,6 @@ module _ (first : ℕ) (most : List ℕ) where
           by true ea true eb = refl
           by true ea false eb = impossible (sym ea ∙ rw eb)
 
--- ---- the counts, one record at a time
-
-pub counted : (first k j : ℕ) (ns r : List ℕ) (rs : List (List ℕ)) (n : ℕ) → kind r ≡ first + k → k < length ns →
-    getD ns j 0 + count (λ r. eqb (kind r) (first + j)) (r ∷ rs) ≡ n →
-    getD (set ns k (getD ns k 0 + 1)) j 0 + count (λ r. eqb (kind r) (first + j)) rs ≡ n
-unfolding count
-counted first k j ns r rs n e h before = go (eqb (kind r) (first + j)) refl before
-  where
-    go : (b : Bool) → eqb (kind r) (first + j) ≡ b → getD ns j 0 + cond b (suc (count (λ r. eqb (kind r) (first + j)) rs)) (count (λ r. eqb (kind r) (first + j)) rs) ≡ n →
-        getD (set ns k (getD ns k 0 + 1)) j 0 + count (λ r. eqb (kind r) (first + j)) rs ≡ n
-    go true t m =
-        let at : kind r ≡ first + j = eqb-true (kind r) (first + j) t in
-        let here : j ≡ k = omega arith in
-        let m' : getD ns k 0 + suc (count (λ r. eqb (kind r) (first + k)) rs) ≡ n = rw here at m in
-        rw (here, getD-set-same ns k (getD ns k 0 + 1) 0 h) (omega arith)
-    go false t m =
-        let apart : j ≡ k → ⊥ = λ here. eqb-false (kind r) (first + j) t (e ∙ ap (λ i. first + i) (sym here)) in
-        rw (getD-set-other ns k j (getD ns k 0 + 1) 0 apart) m
-
 -- ---- tables of the numbers below n
 
 module _ {A : Type 0} (f : ℕ → A) where
@@ -137,13 +114,10 @@ module _ {A : Type 0} (f : ℕ → A) where
 pub kind-record : (s : List ℕ) (i : ℕ) → kind (recordAt s i) ≡ byte s (16 * i)
 kind-record s i = byte-record s i 0 (omega arith) ∙ ap (byte s) (add-zero (16 * i))
 
-kinds-one : (s : List ℕ) (i : ℕ) → i < length s / 16 → map kind (rest s i) ≡ byte s (16 * i) ∷ map kind (rest s (i + 1))
+pub kinds-one : (s : List ℕ) (i : ℕ) → i < length s / 16 → map kind (rest s i) ≡ byte s (16 * i) ∷ map kind (rest s (i + 1))
 kinds-one s i h = ap (map kind) (rest-one s i h) ∙ ap (λ k. k ∷ map kind (rest s (i + 1))) (kind-record s i)
 
 module _ (first : ℕ) (most : List ℕ) (k : ℕ) where
-  pub known-not-below : k < first → known first most k ≡ false
-  known-not-below h = rw (lt-leb first k h)
-
   pub known-not-above : first + length (take 9 most) ≤ k → known first most k ≡ false
   known-not-above h = rw (le-leb first k (omega arith), le-ltb k (first + length (take 9 most)) h)
 
@@ -164,20 +138,6 @@ module _ (first : ℕ) (most s : List ℕ) (latest i : ℕ) (so-far : unorderedK
   pub at-end : i ≡ length s / 16 → unorderedKinds first most s ≡ false
   unfolding all ascending
   at-end e = so-far ∙ ap (λ rs. disorder first most latest (map kind rs)) (ap (rest s) e ∙ rest-none s)
-
-pub counted-next : (first i j n : ℕ) (s ns : List ℕ) → i < length s / 16 → first ≤ byte s (16 * i) → byte s (16 * i) - first < length ns →
-    getD ns j 0 + count (λ r. eqb (kind r) (first + j)) (rest s i) ≡ n →
-    getD (set ns (byte s (16 * i) - first) (getD ns (byte s (16 * i) - first) 0 + 1)) j 0 + count (λ r. eqb (kind r) (first + j)) (rest s (i + 1)) ≡ n
-counted-next first i j n s ns h l b e =
-    counted first (byte s (16 * i) - first) j ns (recordAt s i) (rest s (i + 1)) n
-    (kind-record s i ∙ (let m : byte s (16 * i) ≡ first + (byte s (16 * i) - first) = omega arith in m)) b
-    (sym (ap (λ rs. getD ns j 0 + count (λ r. eqb (kind r) (first + j)) rs) (rest-one s i h)) ∙ e)
-
-pub counted-all : (first i j n m : ℕ) (s : List ℕ) → i ≡ length s / 16 → m + count (λ r. eqb (kind r) (first + j)) (rest s i) ≡ n → m ≡ n
-unfolding count
-counted-all first i j n m s e h =
-    let r : m + 0 ≡ n = sym (ap (λ rs. m + count (λ r. eqb (kind r) (first + j)) rs) (ap (rest s) e ∙ rest-none s)) ∙ h in
-    omega arith
 
 -- ---- a pass over the limits
 
@@ -293,9 +253,6 @@ exceeds-is first most s =
 -- ---- the answers
 
 module _ (first : ℕ) (most s : List ℕ) where
-  pub is-disordered : (r : Tally) → r .unordered ≡ true → unorderedKinds first most s ≡ true → IsTally first most s r
-  is-disordered r a e = record { unordered = a ∙ sym e; counts = λ b. impossible (sym a ∙ b) }
-
   framing-tests : (a b c : Bool) → oddLength first most s ≡ a → unorderedKinds first most s ≡ b → wrongAmounts first most s ≡ c →
       framing first most s ≡ lowest ((odd-length, a) ∷ (unordered-kinds, b) ∷ (wrong-amounts, c) ∷ [])
   framing-tests a b c ea eb ec = λ i. lowest ((odd-length, ea i) ∷ (unordered-kinds, eb i) ∷ (wrong-amounts, ec i) ∷ [])

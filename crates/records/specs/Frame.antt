@@ -3,11 +3,12 @@ use mathlib.Core.Path.{_≡_}
 use mathlib.Core.Bool.{Bool, false, _||_}
 use mathlib.Core.Option.{Option, some, none}
 use mathlib.Core.List.{List}
-use Prim.Native.Nat.{ℕ, zero, suc, _+_}
+use Prim.Native.Nat.{ℕ, zero, suc, _+_, _*_, _/_, _≤_, _<_}
 use lib.Dec.{ltb, eqb}
-use lib.ListN.{getD, take, replicate}
+use lib.ListN.{length, getD, take, replicate}
 use Rattle.records.specs.Lists.{any, mapFrom}
 use Rattle.records.specs.Refusal.{Refusal, odd-length, unordered-kinds, wrong-amounts}
+use Rattle.records.specs.Bytes.{byte}
 use Rattle.records.specs.Framing as F
 use Rattle.records.specs.declared.Framing.{Framing}
 use Rattle.records.specs.declared.Framing.the-variants.{Framed, OddLength, UnorderedKinds, WrongAmounts}
@@ -31,6 +32,13 @@ pub record IsFrame (first : ℕ) (most s : List ℕ) (r : Frame) : Type 0 where
   pub answer : framingOf (r .answer) ≡ F.framing first most s
   pub counts : r .counts ≡ unlessRefused (F.framing first most s) (F.counts first most s)
   pub firsts : r .firsts ≡ unlessRefused (F.framing first most s) (F.firsts first most s)
+
+-- Records of one kind from one on, and the number of the first that is of another or is none.
+pub record IsRun (s : List ℕ) (start k end : ℕ) : Type 0 where
+  pub after : start ≤ end
+  pub within : end ≤ length s / 16
+  pub same : (i : ℕ) → start ≤ i → i < end → byte s (16 * i) ≡ k
+  pub other : end < length s / 16 → byte s (16 * end) ≡ k → ⊥
 
 -- One pass over the kinds: refusal 2, and how many of each where it does not apply.
 pub record IsTally (first : ℕ) (most s : List ℕ) (r : Tally) : Type 0 where

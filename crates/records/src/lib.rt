@@ -1,13 +1,12 @@
 // Fields of byte slices, and the framing of files of 16-byte records.
 ghost use mathlib.Core.Path.{_≡_};
-ghost use mathlib.Core.Bool.{true};
 ghost use mathlib.Core.List.{map};
-ghost use Prim.Native.Nat.{_+_, _-_, _*_, _≤_, _<_, _^_};
+ghost use Prim.Native.Nat.{_+_, _-_, _*_, _/_, _≤_, _<_, _^_};
 ghost use lib.ListN.{length, take, set, replicate};
 ghost use lib.Seq.{sets};
 ghost use Rattle.records.specs.Lists.{upto};
 ghost use Rattle.records.specs.Bytes.{byte, two, four, signed, two±, four±, bytes2, bytes4, unsigned, bytes2±, bytes4±};
-ghost use Rattle.records.specs.Frame.{IsFrame, IsTally, exceeds, sumTo};
+ghost use Rattle.records.specs.Frame.{IsFrame, IsRun, IsTally, exceeds, sumTo};
 
 // The byte at a place, 0 past the end.
 pub fn byte_at(s: &[u8], at: usize) -> u8
@@ -192,15 +191,6 @@ struct Tally {
     counts: [usize; 9],
 }
 
-fn disordered() -> Tally
-    ensures { λ r. ⌜ r .unordered ≡ true ⌝ }
-{
-    Tally {
-        unordered: true,
-        counts: [0usize; 9],
-    }
-}
-
 // A format has nine kinds at most.
 fn kinds_of(most: &[u16]) -> usize
     ensures { λ r. ⌜ (r ≡ length (take 9 (now (most .entry)))) × (r ≤ 9) × (r ≤ length (now (most .entry))) ⌝ }
@@ -208,32 +198,37 @@ fn kinds_of(most: &[u16]) -> usize
     if most.len() < 9 { most.len() } else { 9 }
 }
 
-// One pass over the records' kinds, which are counted from the format's first; `last` is the latest one met.
+// The end of the run of a kind's records that starts at a record.
+fn run_end(s: &[u8], start: usize, kind: usize) -> usize
+    requires { ⌜ start ≤ length (now s) / 16 ⌝ }
+    ensures { λ r. ⌜ IsRun (now (s .entry)) start kind r ⌝ }
+{
+    let mut i = start;
+    while i < s.len() / 16 {
+        if (s[16 * i] as usize) != kind {
+            return i;
+        }
+        i += 1;
+    }
+    i
+}
+
+// One pass over the records: a run of each kind in turn. What is left is of no kind, or of one that had its run.
 fn tally_of(s: &[u8], first: u8, most: &[u16]) -> Tally
     ensures { λ r. ⌜ IsTally first (now (most .entry)) (now (s .entry)) r ⌝ }
 {
     let kinds = kinds_of(most);
     let mut counts = [0usize; 9];
-    let mut last: usize = 0;
     let mut i: usize = 0;
-    while i < s.len() / 16 {
-        let kind = s[16 * i];
-        if kind < first {
-            return disordered();
-        }
-        let k = (kind - first) as usize;
-        if kinds <= k {
-            return disordered();
-        }
-        if k < last {
-            return disordered();
-        }
-        counts[k] += 1;
-        last = k;
-        i += 1;
+    let mut k: usize = 0;
+    while k < kinds {
+        let end = run_end(s, i, (first as usize) + k);
+        counts[k] = end - i;
+        i = end;
+        k += 1;
     }
     Tally {
-        unordered: false,
+        unordered: i < s.len() / 16,
         counts,
     }
 }
