@@ -6,6 +6,8 @@ pub mod InFile
 pub mod Holding
 pub mod TableLaws
 pub mod StepLaws
+pub mod Acting
+pub mod ChartTurns
 pub mod Kept
 pub mod Turning
 pub mod Checking

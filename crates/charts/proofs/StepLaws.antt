@@ -2,7 +2,7 @@
 use mathlib.Core.Path.{_≡_, refl, sym, ap, _∙_}
 use mathlib.Core.Logic.{inl, inr}
 use mathlib.Core.Bool.{Bool, true, false, cond}
-use mathlib.Core.Option.{some, none}
+use mathlib.Core.Option.{Option, some, none}
 use mathlib.Core.List.{List, [], _∷_, _++_, map}
 use Prim.Native.Nat.{ℕ, zero, suc, _+_, _-_, _≤_, _<_}
 use native.Mathlib.Nat.{sub-zero}
@@ -22,12 +22,11 @@ use Rattle.chart_files.specs.declared.Shape.{Shape}
 use Rattle.chart_files.specs.Places.{transitionAt, actionAt}
 use Rattle.chart_files.proofs.Readings.{transition-is, length-transitions, most-states, most-transitions}
 use Rattle.charts.specs.Accepted.{Accepted}
-use Rattle.charts.specs.Tables.{earliest, named, leaves, keyed}
+use Rattle.charts.specs.Tables.{earliest, named, leaves, keyed, deedsOf}
 use Rattle.charts.specs.RunOf.{runIn}
-use Rattle.charts.specs.StepOf.{slotHolds, entered, movedOf, eventsAfter}
-use Rattle.charts.specs.declared.steps.Moved.{Moved}
-use Rattle.charts.specs.declared.steps.Moved.the-variants.{Taken, Idle, Fault}
-use Rattle.machines.proofs.Turning.{WentOn, val-is}
+use Rattle.charts.specs.StepOf.{choiceBy, slotHolds, entered, answerBy, movedBy}
+use Rattle.machines.specs.Worlds.{codedFault}
+use Rattle.machines.proofs.Codes.{coded-value, coded-fault}
 use Rattle.machines.proofs.Earliest.{keep-alike, one-found}
 use Rattle.charts.proofs.RowLaws.{row-of}
 use Rattle.charts.proofs.Sound.{source-known, target-known}
@@ -90,6 +89,22 @@ holds-named f t e h = go (eqb t 65535) (eq-eqb t 65535 h) e
     go true d g = let z : _≡_ {A = ℕ} 0 1 = cc in omega arith
     go false d g = let z : _≡_ {A = ℕ} 0 1 = cc in omega arith
 
+-- as one number
+abbrev then-chosen : Out ℕ → Out (Option ℕ)
+then-chosen o = o >>= λ t. val (cond (eqb t 65535) none (some t))
+
+pub choice-some : (t : ℕ) → t < 65535 → choiceBy t ≡ val (some t)
+choice-some t h = ap then-chosen (coded-value t (omega arith)) ∙ ap (λ b. val (cond b none (some t))) (ne-eqb t 65535 (λ e. absurd (omega arith)))
+
+pub choice-none : (t : ℕ) → t ≡ 65535 → choiceBy t ≡ val none
+choice-none t e = ap choiceBy e
+
+pub choice-fault : (n : ℕ) → 4_294_967_295 < n → choiceBy n ≡ fault (codedFault n)
+choice-fault n h = ap then-chosen (coded-fault n h)
+
+pub answer-taken : (t : ℕ) → t < 65535 → answerBy t ≡ taken t
+answer-taken t h = ap (λ b. cond b idle (taken t)) (ne-eqb t 65535 (λ e. absurd (omega arith)))
+
 -- ---- a transition that is taken
 
 module _ (cs : ChartSet) (chart : ℕ) (r : Run) (t : ℕ) where
@@ -105,16 +120,12 @@ module _ (cs : ChartSet) (chart : ℕ) (r : Run) (t : ℕ) where
 
 -- ---- in place
 
-module _ (states ages : List ℕ) (vars : List ℤ) (events position cycles : ℕ) (o : Out (Answer × Run)) where
-  pub moved-on : (m : Moved) (after : ℕ) → movedOf m states ages vars events position cycles ≡ o → val after ≡ eventsAfter m events → WentOn o (runIn states ages vars after position cycles)
-  moved-on (Taken t n) after d e = record { answer = taken t; is = sym d ∙ ap (λ k. val (taken t, runIn states ages vars k position cycles)) (sym (val-is e)) }
-  moved-on Idle after d e = record { answer = idle; is = sym d ∙ ap (λ k. val (idle, runIn states ages vars k position cycles)) (sym (val-is e)) }
-  moved-on (Fault w) after d e = let z : _≡_ {A = ℕ} 0 1 = cc in absurd (omega arith)
+module _ (n : ℕ) (answer : Answer) (states ages : List ℕ) (vars : List ℤ) (position cycles : ℕ) where
+  pub moved-value : n ≤ 4_294_967_295 → movedBy n answer states ages vars position cycles ≡ val (answer, runIn states ages vars n position cycles)
+  moved-value h = ap (λ o. o >>= λ events. val (answer, runIn states ages vars events position cycles)) (coded-value n h)
 
-  pub moved-wrong : (m : Moved) (w : Refusal) → movedOf m states ages vars events position cycles ≡ o → fault w ≡ eventsAfter m events → o ≡ fault w
-  moved-wrong (Taken t n) w d e = let z : _≡_ {A = ℕ} 0 1 = cc in absurd (omega arith)
-  moved-wrong Idle w d e = let z : _≡_ {A = ℕ} 0 1 = cc in absurd (omega arith)
-  moved-wrong (Fault v) w d e = sym d ∙ sym (cc)
+  pub moved-fault : 4_294_967_295 < n → movedBy n answer states ages vars position cycles ≡ fault (codedFault n)
+  moved-fault h = ap (λ o. o >>= λ events. val (answer, runIn states ages vars events position cycles)) (coded-fault n h)
 
 -- ---- of an accepted file
 
@@ -150,11 +161,8 @@ module _ (s : List ℕ) (sh : Shape) (ok : Accepted s sh) where
 
   -- ---- the deeds of a transition
 
-  abbrev pub ofKey : ℕ → World → Out World
-  ofKey key w = deeds (readCharts s .nodes) (readCharts s .variables) (map (λ a. actionAt s sh a .1) (keep (keyed s sh key) (upto (sh .actions)))) w
-
   pub acted-by-keys : (t source target : ℕ) → t < sh .transitions → source ≡ transitionAt s sh t .source → target ≡ transitionAt s sh t .target →
-      (w : World) → acted (readCharts s) t w ≡ (ofKey (128 + source) w >>= λ w₁. (ofKey (256 + t) w₁ >>= λ w₂. ofKey target w₂))
+      (w : World) → acted (readCharts s) t w ≡ (deedsOf s sh (128 + source) w >>= λ w₁. (deedsOf s sh (256 + t) w₁ >>= λ w₂. deedsOf s sh target w₂))
   unfolding caseOf
   acted-by-keys t source target h e d w =
       let x = transition-is s sh (ok .shape) t h in
@@ -173,17 +181,3 @@ module _ (s : List ℕ) (sh : Shape) (ok : Accepted s sh) where
       in
       λ i. deeds (readCharts s .nodes) (readCharts s .variables) (p i) w
       >>= λ w₁. (deeds (readCharts s .nodes) (readCharts s .variables) (q i) w₁ >>= λ w₂. deeds (readCharts s .nodes) (readCharts s .variables) (r i) w₂)
-
-  -- the three groups, one after the other; the first fault ends it
-  module _ (t source target : ℕ) (h : t < sh .transitions) (from-source : source ≡ transitionAt s sh t .source) (to-target : target ≡ transitionAt s sh t .target) (w : World) where
-    whole : acted (readCharts s) t w ≡ (ofKey (128 + source) w >>= λ w₁. (ofKey (256 + t) w₁ >>= λ w₂. ofKey target w₂))
-    whole = acted-by-keys t source target h from-source to-target w
-
-    pub fault-leaving : (r : Refusal) → fault r ≡ ofKey (128 + source) w → fault r ≡ acted (readCharts s) t w
-    fault-leaving r e = ap (λ o. o >>= λ w₁. (ofKey (256 + t) w₁ >>= λ w₂. ofKey target w₂)) e ∙ sym whole
-
-    pub fault-crossing : (w₁ : World) → val w₁ ≡ ofKey (128 + source) w → (r : Refusal) → fault r ≡ ofKey (256 + t) w₁ → fault r ≡ acted (readCharts s) t w
-    fault-crossing w₁ e r d = ap (λ o. o >>= λ w₂. ofKey target w₂) d ∙ ap (λ o. o >>= λ w₁. (ofKey (256 + t) w₁ >>= λ w₂. ofKey target w₂)) e ∙ sym whole
-
-    pub all-done : (w₁ : World) → val w₁ ≡ ofKey (128 + source) w → (w₂ : World) → val w₂ ≡ ofKey (256 + t) w₁ → (o : Out World) → o ≡ ofKey target w₂ → o ≡ acted (readCharts s) t w
-    all-done w₁ e w₂ d o f = f ∙ ap (λ o. o >>= λ w₂. ofKey target w₂) d ∙ ap (λ o. o >>= λ w₁. (ofKey (256 + t) w₁ >>= λ w₂. ofKey target w₂)) e ∙ sym whole

@@ -2,32 +2,30 @@
 use mathlib.Core.Option.{Option, some, none}
 use mathlib.Core.Bool.{Bool, false, cond}
 use mathlib.Core.List.{List}
-use Prim.Native.Nat.{ℕ, _<_}
+use Prim.Native.Nat.{ℕ, zero, suc, _+_, _≤_, _<_}
 use lib.Dec.{eqb}
 use lib.IntN.{ℤ}
 use lib.ListN.{set}
 use Rattle.records.specs.Refusal.{Out, val, fault, _>>=_}
-use Rattle.model.specs.Runs.{World, Run, Answer, taken, idle}
+use Rattle.model.specs.Runs.{World, Run, Answer, taken, idle, moved}
+use Rattle.model.specs.ChartSet.{ChartSet}
+use Rattle.model.specs.Charts.{chartStep}
 pub use Rattle.machines.specs.Worlds.{reasonOf}
+use Rattle.machines.specs.Worlds.{coded}
 use Rattle.machines.specs.declared.deeds.Done as declared-done
-use Rattle.charts.specs.declared.steps.Choice as declared-choice
-use Rattle.charts.specs.declared.steps.Moved as declared-moved
 use Rattle.charts.specs.declared.steps.Reply.{Reply}
 use Rattle.charts.specs.declared.steps.Reply.the-variants.{Taken, Idle, Fault}
 use Rattle.charts.specs.declared.steps.Step.{Step}
 use Rattle.charts.specs.RunOf.{runOf, runIn}
 
--- the first transition that holds, if one does
-abbrev pub choiceOf : declared-choice.Choice → Out (Option ℕ)
-choiceOf (declared-choice.the-variants.Chosen t) = val (some t)
-choiceOf declared-choice.the-variants.Nothing = val none
-choiceOf (declared-choice.the-variants.Failed w) = fault (reasonOf w)
+-- the first transition that holds, if one does, as one number: 65,535 stands for none
+abbrev pub choiceBy : ℕ → Out (Option ℕ)
+choiceBy code = coded code >>= λ t. val (cond (eqb t 65535) none (some t))
 
--- one of so many
-abbrev pub ChoiceOf : ℕ → declared-choice.Choice → Type 0
-ChoiceOf n (declared-choice.the-variants.Chosen t) = t < n
-ChoiceOf n declared-choice.the-variants.Nothing = Unit
-ChoiceOf n (declared-choice.the-variants.Failed w) = Unit
+-- a transition chosen is one of so many
+pub record ChoiceOf (n code : ℕ) : Type 0 where
+  pub small : code ≤ 4_294_967_295 → code ≤ 65535
+  pub known : code < 65535 → code < n
 
 -- a place of a row that names none does not hold
 abbrev pub slotHolds : (ℕ → Out Bool) → ℕ → Out Bool
@@ -47,21 +45,18 @@ stepOf x = replyOf (x .reply) >>= λ a. val (a, runOf (x .run))
 
 -- ---- in place
 
--- a chart's turn, from the events before it and the places after it
-abbrev pub movedOf : declared-moved.Moved → List ℕ → List ℕ → List ℤ → ℕ → ℕ → ℕ → Out (Answer × Run)
-movedOf (declared-moved.the-variants.Taken t after) states ages vars events position cycles = val (taken t, runIn states ages vars after position cycles)
-movedOf declared-moved.the-variants.Idle states ages vars events position cycles = val (idle, runIn states ages vars events position cycles)
-movedOf (declared-moved.the-variants.Fault w) states ages vars events position cycles = fault (reasonOf w)
+-- what a turn chose
+abbrev pub answerBy : ℕ → Answer
+answerBy t = cond (eqb t 65535) idle (taken t)
 
--- the events after it
-abbrev pub eventsAfter : declared-moved.Moved → ℕ → Out ℕ
-eventsAfter (declared-moved.the-variants.Taken t after) events = val after
-eventsAfter declared-moved.the-variants.Idle events = val events
-eventsAfter (declared-moved.the-variants.Fault w) events = fault (reasonOf w)
+-- turns, from the events after them as one number, the last one's answer, and the places after them
+abbrev pub movedBy : ℕ → Answer → List ℕ → List ℕ → List ℤ → ℕ → ℕ → Out (Answer × Run)
+movedBy code answer states ages vars position cycles = coded code >>= λ events. val (answer, runIn states ages vars events position cycles)
 
-abbrev pub eventsOf : declared-done.Done → Out ℕ
-eventsOf (declared-done.the-variants.Events events) = val events
-eventsOf (declared-done.the-variants.Fault w) = fault (reasonOf w)
+-- The turns of so many charts, from one on: what the last of them answers, or what was answered before, and the run after them.
+unfoldable pub chartTurns : ChartSet → ℕ → ℕ → Answer × Run → Out (Answer × Run)
+chartTurns cs chart zero x = val x
+chartTurns cs chart (suc n) x = chartStep cs chart (x .1) >>= λ y. chartTurns cs (chart + 1) n (y .0, moved (y .1))
 
 -- a cycle, from the run that it leaves
 abbrev pub ranTo : declared-done.Done → Run → Out Run

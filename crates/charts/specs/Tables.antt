@@ -2,12 +2,14 @@
 use mathlib.Core.Path.{_≡_}
 use mathlib.Core.Logic.{_⊎_}
 use mathlib.Core.Bool.{Bool, _&&_}
-use mathlib.Core.List.{List, [], _∷_}
+use mathlib.Core.List.{List, [], _∷_, map}
 use Prim.Native.Nat.{ℕ, _+_, _-_, _≤_, _<_}
 use lib.Dec.{eqb}
 use lib.ListN.{length, getD}
-use Rattle.records.specs.Lists.{caseOf}
-use Rattle.model.specs.ChartSet.{ChartSet, transition}
+use Rattle.records.specs.Lists.{keep, upto, caseOf}
+use Rattle.records.specs.Refusal.{Out, _>>=_}
+use Rattle.model.specs.Runs.{World, deeds}
+use Rattle.model.specs.ChartSet.{ChartSet, readCharts, transition}
 pub use Rattle.machines.specs.Chains.{headOr, earliest, named}
 use Rattle.chart_files.specs.declared.Shape.{Shape}
 use Rattle.chart_files.specs.Places.{placeAt, actionAt}
@@ -38,6 +40,14 @@ keyAt s sh a = keyFor (placeAt s sh a) (actionAt s sh a .0)
 
 abbrev pub keyed : List ℕ → Shape → ℕ → ℕ → Bool
 keyed s sh key a = eqb (keyAt s sh a) key
+
+-- the deeds of a key, in file order, each seeing the last
+abbrev pub deedsOf : List ℕ → Shape → ℕ → World → Out World
+deedsOf s sh key w = deeds (readCharts s .nodes) (readCharts s .variables) (map (λ a. actionAt s sh a .1) (keep (keyed s sh key) (upto (sh .actions)))) w
+
+-- those of three keys, one key after the other
+abbrev pub deedsOfThree : List ℕ → Shape → ℕ → ℕ → ℕ → World → Out World
+deedsOfThree s sh leaving crossing entering w = deedsOf s sh leaving w >>= λ w₁. (deedsOf s sh crossing w₁ >>= λ w₂. deedsOf s sh entering w₂)
 
 -- of each key its first action, and of each action the next of its key
 pub record HasActions (s : List ℕ) (sh : Shape) (first next : List ℕ) : Type 0 where

@@ -7,24 +7,14 @@ ghost use Rattle.model.specs.ChartSet.{readCharts};
 ghost use Rattle.model.specs.Charts.{charts as machine};
 ghost use Rattle.charts.specs.Tables.{HasEnds};
 ghost use Rattle.charts.specs.RunOf.{runIn};
-ghost use Rattle.charts.specs.StepOf.{eventsAfter, eventsOf, ranTo};
+ghost use Rattle.charts.specs.StepOf.{ranTo};
 ghost use Rattle.charts.specs.TurnOf.{after, finish, Known, Ready};
 use super::runs::older;
-use super::steps::Moved;
-use super::steps::step_in_place;
+use super::steps::turns_in_place;
 use chart_files::Shape;
 use machines::deeds::Done;
 use machines::deeds::Reason;
-
-fn events_after(moved: Moved, events: u32) -> Done
-    ensures { λ r. ⌜ eventsOf r ≡ eventsAfter moved events ⌝ }
-{
-    match moved {
-        Moved::Taken(_, after) => Done::Events(after),
-        Moved::Idle => Done::Events(events),
-        Moved::Fault(w) => Done::Fault(w),
-    }
-}
+use machines::deeds::reason_by;
 
 // The turns from a position up to time's. After a fault the places are as the turns before it left them.
 pub fn cycle_in_place(
@@ -44,31 +34,25 @@ pub fn cycle_in_place(
     requires { ⌜ Known (now s) shape (now rows) (now first) (now next) × HasEnds (now rows) (now ends) × Ready (shape .charts) (runIn (now states) (now ages) (now vars) events position cycles) ⌝ }
     ensures { λ r. ⌜ ranTo r (runIn (now (states .exit)) (now (ages .exit)) (now (vars .exit)) 0 1 (cycles + 1)) ≡ after (machine (readCharts (now (s .entry)))) (shape .charts + 2 - position) (runIn (now (states .entry)) (now (ages .entry)) (now (vars .entry)) events position cycles) ⌝ }
 {
-    let mut present = events;
-    let mut at = position;
-    let last = shape.charts as u32;
-    while at <= last {
-        let chart = (at - 1) as u16;
-        let moved = step_in_place(
-            s,
-            shape,
-            rows,
-            ends,
-            first,
-            next,
-            chart,
-            states,
-            ages,
-            vars,
-            present,
-        );
-        match events_after(moved, present) {
-            Done::Fault(w) => return Done::Fault(w),
-            Done::Events(after) => {
-                present = after;
-            }
-        }
-        at += 1;
+    let mut chosen: u16 = 65535;
+    let from = (position - 1) as u16;
+    let after = turns_in_place(
+        s,
+        shape,
+        rows,
+        ends,
+        first,
+        next,
+        from,
+        shape.charts,
+        states,
+        ages,
+        vars,
+        events,
+        &mut chosen,
+    );
+    if 4294967295 < after {
+        return Done::Fault(reason_by(after));
     }
     let was = *ages;
     let grown = older(shape.charts, was);

@@ -1,19 +1,16 @@
 // Deeds of actions, one by one and in the order of a key's chain.
 ghost use mathlib.Core.Path.{_≡_};
-ghost use mathlib.Core.List.{map};
 ghost use Prim.Native.Nat.{ℕ, _<_};
-ghost use Rattle.records.specs.Lists.{keep, upto};
-ghost use Rattle.model.specs.Runs.{deed, deeds};
+ghost use Rattle.model.specs.Runs.{deed};
 ghost use Rattle.model.specs.ChartSet.{readCharts};
 ghost use Rattle.chart_files.specs.Places.{firstAction, actionAt};
-ghost use Rattle.machines.specs.Worlds.{worldIn, worldAfter};
+ghost use Rattle.machines.specs.Worlds.{worldIn, worldBy};
 ghost use Rattle.charts.specs.Accepted.{Accepted};
-ghost use Rattle.charts.specs.Tables.{keyed, HasActions};
+ghost use Rattle.charts.specs.Tables.{HasActions, deedsOfThree};
 use super::values::values_of;
 use chart_files::Shape;
 use chart_files::fields::first_variable;
-use machines::deeds::Done;
-use machines::deeds::assign;
+use machines::deeds::assign_code;
 use machines::deeds::raised;
 use records::u16_within;
 
@@ -24,62 +21,52 @@ fn first_action(shape: Shape) -> usize
 }
 
 // Code 2 raises, another assigns.
-fn do_deed(s: &[u8], shape: Shape, a: u16, vars: &mut [i16; 64], events: u32) -> Done
+fn do_deed(s: &[u8], shape: Shape, a: u16, vars: &mut [i16; 64], events: u32) -> u64
     requires { ⌜ Accepted (now s) shape × (a < shape .actions) ⌝ }
-    ensures { λ r. ⌜ ((p c : ℕ) → worldAfter r (now (vars .exit)) p c ≡ deed (readCharts (now (s .entry)) .nodes) (readCharts (now (s .entry)) .variables) (actionAt (now (s .entry)) shape a .1) (worldIn (now (vars .entry)) events p c)) ⌝ }
+    ensures { λ r. ⌜ ((p c : ℕ) → worldBy r (now (vars .exit)) p c ≡ deed (readCharts (now (s .entry)) .nodes) (readCharts (now (s .entry)) .variables) (actionAt (now (s .entry)) shape a .1) (worldIn (now (vars .entry)) events p c)) ⌝ }
 {
     let at = 16 * (first_action(shape) + (a as usize));
     let x = s[at + 5];
     if s[at + 4] == 2 {
-        Done::Events(raised(x, events))
+        raised(x, events) as u64
     } else {
-        assign(s, values_of(shape), x, u16_within(s, at + 6), vars, events)
+        assign_code(s, values_of(shape), x, u16_within(s, at + 6), vars, events)
     }
 }
 
-// The deeds of a key, in file order, each seeing the last.
-pub fn chained_deeds(
-    s: &[u8],
-    shape: Shape,
-    first: &[u16; 512],
-    next: &[u16; 512],
-    key: u16,
-    vars: &mut [i16; 64],
-    events: u32,
-) -> Done
-    requires { ⌜ Accepted (now s) shape × HasActions (now s) shape (now first) (now next) × (key < 512) ⌝ }
-    ensures { λ r. ⌜ ((p c : ℕ) → worldAfter r (now (vars .exit)) p c ≡ deeds (readCharts (now (s .entry)) .nodes) (readCharts (now (s .entry)) .variables) (map (λ a. actionAt (now (s .entry)) shape a .1) (keep (keyed (now (s .entry)) shape key) (upto (shape .actions)))) (worldIn (now (vars .entry)) events p c)) ⌝ }
-{
-    let mut raised = events;
-    let mut a = first[key as usize];
-    while a != 65535 {
-        match do_deed(s, shape, a, vars, raised) {
-            Done::Fault(w) => return Done::Fault(w),
-            Done::Events(e) => {
-                raised = e;
-            }
-        }
-        a = next[a as usize];
-    }
-    Done::Events(raised)
-}
-
-// The same: most keys have no actions, and then no chain is walked. A turn walks its last key's chain by the other, so that the compiler keeps the walk a function of its own and this test inline.
+// The deeds of three keys, one key after the other, each in file order and seeing the last. One loop, so that a deed is done at one place of the code.
 pub fn do_deeds(
     s: &[u8],
     shape: Shape,
     first: &[u16; 512],
     next: &[u16; 512],
-    key: u16,
+    leaving: u16,
+    crossing: u16,
+    entering: u16,
     vars: &mut [i16; 64],
     events: u32,
-) -> Done
-    requires { ⌜ Accepted (now s) shape × HasActions (now s) shape (now first) (now next) × (key < 512) ⌝ }
-    ensures { λ r. ⌜ ((p c : ℕ) → worldAfter r (now (vars .exit)) p c ≡ deeds (readCharts (now (s .entry)) .nodes) (readCharts (now (s .entry)) .variables) (map (λ a. actionAt (now (s .entry)) shape a .1) (keep (keyed (now (s .entry)) shape key) (upto (shape .actions)))) (worldIn (now (vars .entry)) events p c)) ⌝ }
+) -> u64
+    requires { ⌜ Accepted (now s) shape × HasActions (now s) shape (now first) (now next) × (leaving < 512) × (crossing < 512) × (entering < 512) ⌝ }
+    ensures { λ r. ⌜ ((p c : ℕ) → worldBy r (now (vars .exit)) p c ≡ deedsOfThree (now (s .entry)) shape leaving crossing entering (worldIn (now (vars .entry)) events p c)) ⌝ }
 {
-    let a = first[key as usize];
-    if a == 65535 {
-        return Done::Events(events);
+    let mut present = events;
+    let mut k: u8 = 0;
+    let mut a = first[leaving as usize];
+    loop {
+        if a == 65535 {
+            if k == 2 {
+                return present as u64;
+            }
+            k += 1;
+            let key = if k == 1 { crossing } else { entering };
+            a = first[key as usize];
+        } else {
+            let after = do_deed(s, shape, a, vars, present);
+            if 4294967295 < after {
+                return after;
+            }
+            present = after as u32;
+            a = next[a as usize];
+        }
     }
-    chained_deeds(s, shape, first, next, key, vars, events)
 }

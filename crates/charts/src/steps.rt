@@ -1,17 +1,18 @@
 // A chart's turn.
 ghost use mathlib.Core.Path.{_≡_};
-ghost use Prim.Native.Nat.{ℕ, _<_};
+ghost use Prim.Native.Nat.{ℕ, _+_, _-_, _≤_, _<_};
+ghost use Rattle.records.specs.Refusal.{val};
 ghost use Rattle.expressions.specs.Answers.{truthOf};
+ghost use Rattle.model.specs.Runs.{taken};
 ghost use Rattle.model.specs.ChartSet.{readCharts};
 ghost use Rattle.model.specs.Charts.{row, firstThat, transitionHolds, acted, follow as followed, chartStep};
 ghost use mathlib.Core.Option.{some};
 ghost use Rattle.charts.specs.Accepted.{Accepted};
 ghost use Rattle.charts.specs.Tables.{HasRows, HasEnds, HasActions};
 ghost use Rattle.charts.specs.RunOf.{runOf, runIn};
-ghost use Rattle.machines.specs.Worlds.{worldIn, worldAfter, bareWorld};
-ghost use Rattle.charts.specs.StepOf.{choiceOf, ChoiceOf, slotHolds, movedOf, stepOf};
+ghost use Rattle.machines.specs.Worlds.{worldIn, worldBy, bareWorld};
+ghost use Rattle.charts.specs.StepOf.{choiceBy, ChoiceOf, slotHolds, replyOf, stepOf, answerBy, movedBy, chartTurns};
 ghost use Rattle.charts.specs.TurnOf.{Known};
-use super::deeds::chained_deeds;
 use super::deeds::do_deeds;
 use super::runs::Run;
 use super::transitions::holds;
@@ -19,9 +20,9 @@ use super::transitions::source_of;
 use super::transitions::target_of;
 use chart_files::Shape;
 use expressions::arithmetic::Truth;
-use machines::deeds::Done;
 use machines::deeds::Reason;
-use machines::deeds::reason_for;
+use machines::deeds::fault_code;
+use machines::deeds::reason_by;
 
 pub enum Reply {
     Taken(u16),
@@ -34,17 +35,14 @@ pub struct Step {
     pub run: Run,
 }
 
-pub enum Choice {
-    Chosen(u16),
-    Nothing,
-    Failed(Reason),
-}
-
-// What a chart's turn in place comes to, with the events after it.
-pub enum Moved {
-    Taken(u16, u32),
-    Idle,
-    Fault(Reason),
+fn reply_by(chosen: u16) -> Reply
+    ensures { λ r. ⌜ replyOf r ≡ val (answerBy chosen) ⌝ }
+{
+    if chosen == 65535 {
+        Reply::Idle
+    } else {
+        Reply::Taken(chosen)
+    }
 }
 
 // The run with these places and events.
@@ -73,7 +71,7 @@ fn slot_holds(s: &[u8], shape: Shape, vars: &[i16; 64], events: u32, age: u32, t
     }
 }
 
-// The first transition that holds of those that leave the state, by priority. A state that the set does not have leaves by none.
+// The first transition that holds of those that leave the state, by priority, or 65,535. A state that the set does not have leaves by none.
 fn first_that(
     s: &[u8],
     shape: Shape,
@@ -83,12 +81,12 @@ fn first_that(
     events: u32,
     age: u32,
     state: u16,
-) -> Choice
+) -> u64
     requires { ⌜ Accepted (now s) shape × HasRows (readCharts (now s)) (now rows) × HasEnds (now rows) (now ends) ⌝ }
-    ensures { λ r. ⌜ (choiceOf r ≡ firstThat (transitionHolds (readCharts (now (s .entry))) (bareWorld (now (vars .entry)) events) age) (row (readCharts (now (s .entry))) state)) × ChoiceOf (shape .transitions) r ⌝ }
+    ensures { λ r. ⌜ (choiceBy r ≡ firstThat (transitionHolds (readCharts (now (s .entry))) (bareWorld (now (vars .entry)) events) age) (row (readCharts (now (s .entry))) state)) × ChoiceOf (shape .transitions) r ⌝ }
 {
     if shape.states <= state {
-        return Choice::Nothing;
+        return 65535;
     }
     let i = state as usize;
     let end = ends[i] as usize;
@@ -96,16 +94,16 @@ fn first_that(
     while j < end {
         let t = rows[i][j];
         match slot_holds(s, shape, vars, events, age, t) {
-            Truth::Fault(w) => return Choice::Failed(reason_for(w)),
+            Truth::Fault(w) => return fault_code(w),
             Truth::Value(holding) => {
                 if holding {
-                    return Choice::Chosen(t);
+                    return t as u64;
                 }
             }
         }
         j += 1;
     }
-    Choice::Nothing
+    65535
 }
 
 // Exit actions of the source, the transition's, entry actions of the target.
@@ -117,20 +115,24 @@ fn act(
     t: u16,
     vars: &mut [i16; 64],
     events: u32,
-) -> Done
+) -> u64
     requires { ⌜ Accepted (now s) shape × HasActions (now s) shape (now first) (now next) × (t < shape .transitions) ⌝ }
-    ensures { λ r. ⌜ ((p c : ℕ) → worldAfter r (now (vars .exit)) p c ≡ acted (readCharts (now (s .entry))) t (worldIn (now (vars .entry)) events p c)) ⌝ }
+    ensures { λ r. ⌜ ((p c : ℕ) → worldBy r (now (vars .exit)) p c ≡ acted (readCharts (now (s .entry))) t (worldIn (now (vars .entry)) events p c)) ⌝ }
 {
     let leaving = 128 + source_of(s, shape, t);
     let crossing = 256 + t;
     let entering = target_of(s, shape, t);
-    match do_deeds(s, shape, first, next, leaving, vars, events) {
-        Done::Fault(w) => Done::Fault(w),
-        Done::Events(left) => match do_deeds(s, shape, first, next, crossing, vars, left) {
-            Done::Fault(w) => Done::Fault(w),
-            Done::Events(crossed) => chained_deeds(s, shape, first, next, entering, vars, crossed),
-        },
-    }
+    do_deeds(
+        s,
+        shape,
+        first,
+        next,
+        leaving,
+        crossing,
+        entering,
+        vars,
+        events,
+    )
 }
 
 // A transition that holds is taken: the state that is entered has the age 0.
@@ -145,23 +147,22 @@ fn follow(
     ages: &mut [u32; 8],
     vars: &mut [i16; 64],
     events: u32,
-) -> Moved
+) -> u64
     requires { ⌜ Accepted (now s) shape × HasActions (now s) shape (now first) (now next) × (chart < 8) × (t < shape .transitions) ⌝ }
-    ensures { λ r. ⌜ ((p c : ℕ) → movedOf r (now (states .exit)) (now (ages .exit)) (now (vars .exit)) events p c ≡ followed (readCharts (now (s .entry))) chart (runIn (now (states .entry)) (now (ages .entry)) (now (vars .entry)) events p c) (some t)) ⌝ }
+    ensures { λ r. ⌜ ((p c : ℕ) → movedBy r (taken t) (now (states .exit)) (now (ages .exit)) (now (vars .exit)) p c ≡ followed (readCharts (now (s .entry))) chart (runIn (now (states .entry)) (now (ages .entry)) (now (vars .entry)) events p c) (some t)) ⌝ }
 {
-    match act(s, shape, first, next, t, vars, events) {
-        Done::Fault(w) => Moved::Fault(w),
-        Done::Events(after) => {
-            let i = chart as usize;
-            states[i] = target_of(s, shape, t);
-            ages[i] = 0;
-            Moved::Taken(t, after)
-        }
+    let after = act(s, shape, first, next, t, vars, events);
+    if 4294967295 < after {
+        return after;
     }
+    let i = chart as usize;
+    states[i] = target_of(s, shape, t);
+    ages[i] = 0;
+    after
 }
 
-// In place: after a fault the variables are as the deeds before it left them.
-pub fn step_in_place(
+// In place: the events after the turn, and which transition was taken, 65,535 for none. After a fault the variables are as the deeds before it left them.
+fn step_in_place(
     s: &[u8],
     shape: Shape,
     rows: &[[u16; 16]; 128],
@@ -173,18 +174,80 @@ pub fn step_in_place(
     ages: &mut [u32; 8],
     vars: &mut [i16; 64],
     events: u32,
-) -> Moved
+    chosen: &mut u16,
+) -> u64
     requires { ⌜ Known (now s) shape (now rows) (now first) (now next) × HasEnds (now rows) (now ends) × (chart < shape .charts) ⌝ }
-    ensures { λ r. ⌜ ((p c : ℕ) → movedOf r (now (states .exit)) (now (ages .exit)) (now (vars .exit)) events p c ≡ chartStep (readCharts (now (s .entry))) chart (runIn (now (states .entry)) (now (ages .entry)) (now (vars .entry)) events p c)) ⌝ }
+    ensures { λ r. ⌜ ((p c : ℕ) → movedBy r (answerBy (now (chosen .exit))) (now (states .exit)) (now (ages .exit)) (now (vars .exit)) p c ≡ chartStep (readCharts (now (s .entry))) chart (runIn (now (states .entry)) (now (ages .entry)) (now (vars .entry)) events p c)) ⌝ }
 {
     let i = chart as usize;
     let state = states[i];
     let age = ages[i];
-    match first_that(s, shape, rows, ends, vars, events, age, state) {
-        Choice::Chosen(t) => follow(s, shape, first, next, chart, t, states, ages, vars, events),
-        Choice::Nothing => Moved::Idle,
-        Choice::Failed(w) => Moved::Fault(w),
+    let t = first_that(s, shape, rows, ends, vars, events, age, state);
+    if 4294967295 < t {
+        return t;
     }
+    *chosen = t as u16;
+    if t == 65535 {
+        return events as u64;
+    }
+    follow(
+        s,
+        shape,
+        first,
+        next,
+        chart,
+        t as u16,
+        states,
+        ages,
+        vars,
+        events,
+    )
+}
+
+// The turns of the charts from one up to another, in place: the events after them, and what the last of them chose. One turn goes by it too, so that a step stands at one place of the code.
+pub fn turns_in_place(
+    s: &[u8],
+    shape: Shape,
+    rows: &[[u16; 16]; 128],
+    ends: &[u8; 128],
+    first: &[u16; 512],
+    next: &[u16; 512],
+    from: u16,
+    to: u16,
+    states: &mut [u16; 8],
+    ages: &mut [u32; 8],
+    vars: &mut [i16; 64],
+    events: u32,
+    chosen: &mut u16,
+) -> u64
+    requires { ⌜ Known (now s) shape (now rows) (now first) (now next) × HasEnds (now rows) (now ends) × (from ≤ to) × (to ≤ shape .charts) ⌝ }
+    ensures { λ r. ⌜ ((p c : ℕ) → movedBy r (answerBy (now (chosen .exit))) (now (states .exit)) (now (ages .exit)) (now (vars .exit)) (p + (to - from)) c
+        ≡ chartTurns (readCharts (now (s .entry))) from (to - from) (answerBy (now (chosen .entry)), runIn (now (states .entry)) (now (ages .entry)) (now (vars .entry)) events p c)) ⌝ }
+{
+    let mut present = events;
+    let mut chart = from;
+    while chart < to {
+        let after = step_in_place(
+            s,
+            shape,
+            rows,
+            ends,
+            first,
+            next,
+            chart,
+            states,
+            ages,
+            vars,
+            present,
+            chosen,
+        );
+        if 4294967295 < after {
+            return after;
+        }
+        present = after as u32;
+        chart += 1;
+    }
+    present as u64
 }
 
 // The run after a fault is the run given.
@@ -208,8 +271,8 @@ pub fn chart_step(
     let mut states = run.states;
     let mut ages = run.ages;
     let mut variables = run.variables;
-    let events = run.events;
-    match step_in_place(
+    let mut chosen: u16 = 65535;
+    let after = turns_in_place(
         s,
         shape,
         rows,
@@ -217,22 +280,21 @@ pub fn chart_step(
         first,
         next,
         chart,
+        chart + 1,
         &mut states,
         &mut ages,
         &mut variables,
-        events,
-    ) {
-        Moved::Fault(w) => Step {
-            reply: Reply::Fault(w),
+        run.events,
+        &mut chosen,
+    );
+    if 4294967295 < after {
+        return Step {
+            reply: Reply::Fault(reason_by(after)),
             run,
-        },
-        Moved::Idle => Step {
-            reply: Reply::Idle,
-            run: placed(run, states, ages, variables, events),
-        },
-        Moved::Taken(t, after) => Step {
-            reply: Reply::Taken(t),
-            run: placed(run, states, ages, variables, after),
-        },
+        };
+    }
+    Step {
+        reply: reply_by(chosen),
+        run: placed(run, states, ages, variables, after as u32),
     }
 }

@@ -5,6 +5,7 @@ pub mod Bits
 pub mod FileLaws
 pub mod Earliest
 pub mod Chaining
+pub mod Codes
 pub mod DeedLaws
 pub mod Kept
 pub mod Possible

@@ -1,8 +1,10 @@
 -- The answers of deeds, as the model's outcomes. Assumes nothing: these are definitions.
+use mathlib.Core.Bool.{cond}
 use mathlib.Core.List.{List}
 use Prim.Native.Nat.{ℕ}
+use lib.Dec.{leb, eqb}
 use lib.IntN.{ℤ}
-use Rattle.records.specs.Refusal.{Refusal, out-of-range, zero-divisor, out-of-bounds, Out, val, fault}
+use Rattle.records.specs.Refusal.{Refusal, out-of-range, zero-divisor, out-of-bounds, Out, val, fault, _>>=_}
 use Rattle.model.specs.Runs.{World}
 use Rattle.machines.specs.declared.deeds.Reason.{Reason}
 use Rattle.machines.specs.declared.deeds.Reason.the-variants.{Range, Divisor, Bounds}
@@ -20,6 +22,18 @@ worldIn vars events position cycles = record { vars = vars; events = events; pos
 abbrev pub worldAfter : declared-done.Done → List ℤ → ℕ → ℕ → Out World
 worldAfter (declared-done.the-variants.Events events) vars position cycles = val (worldIn vars events position cycles)
 worldAfter (declared-done.the-variants.Fault w) vars position cycles = fault (reasonOf w)
+
+-- ---- answers as one number: below 2^32 it is what was found, and a fault is 2^32 and its number in the refusal table
+
+abbrev pub codedFault : ℕ → Refusal
+codedFault n = cond (eqb n 4_294_967_311) out-of-range (cond (eqb n 4_294_967_312) zero-divisor out-of-bounds)
+
+abbrev pub coded : ℕ → Out ℕ
+coded n = cond (leb n 4_294_967_295) (val n) (fault (codedFault n))
+
+-- the same of events
+abbrev pub worldBy : ℕ → List ℤ → ℕ → ℕ → Out World
+worldBy code vars position cycles = coded code >>= λ events. val (worldIn vars events position cycles)
 
 -- variables and events alone, which is all that a guard and a trigger look at
 abbrev pub bareWorld : List ℤ → ℕ → World

@@ -1,13 +1,16 @@
 // Events, and deeds on variables and events.
 ghost use mathlib.Core.Path.{_≡_};
 ghost use mathlib.Core.Bool.{true, _&&_};
+ghost use mathlib.Core.List.{List};
 ghost use Prim.Native.Nat.{ℕ, _<_, _^_};
+ghost use lib.IntN.{ℤ};
 ghost use lib.ListN.{getD};
 ghost use lib.Signed.{leZ, mag};
+ghost use Rattle.records.specs.Refusal.{fault};
 ghost use Rattle.expressions.specs.Answers as expressions-answers;
 ghost use Rattle.model.specs.Runs.{within, noVariable, present, raised, assign, deed};
 ghost use Rattle.machines.specs.Files.{variablesIn, nodesIn, HasValues};
-ghost use Rattle.machines.specs.Worlds.{reasonOf, worldIn, worldAfter};
+ghost use Rattle.machines.specs.Worlds.{reasonOf, worldIn, worldAfter, codedFault, coded, worldBy};
 use super::values::Values;
 use super::values::bound_within;
 use super::values::number_at;
@@ -24,15 +27,6 @@ pub enum Reason {
 pub enum Done {
     Events(u32),
     Fault(Reason),
-}
-
-pub fn reason_for(w: expressions::arithmetic::Reason) -> Reason
-    ensures { λ r. ⌜ reasonOf r ≡ expressions-answers.reasonOf w ⌝ }
-{
-    match w {
-        expressions::arithmetic::Reason::Range => Reason::Range,
-        expressions::arithmetic::Reason::Divisor => Reason::Divisor,
-    }
 }
 
 pub fn present(e: u8, events: u32) -> bool
@@ -78,21 +72,67 @@ fn is_within(s: &[u8], values: Values, v: u8, z: i32) -> bool
     )
 }
 
-// Node n assigned to variable v.
-pub fn assign(s: &[u8], values: Values, v: u8, n: u16, vars: &mut [i16; 64], events: u32) -> Done
+// Answers as one number: events are below 2^32, and a fault is 2^32 and its number in the refusal table. It stays in a register, where an enum goes through memory.
+pub fn fault_code(w: expressions::arithmetic::Reason) -> u64
+    ensures { λ r. ⌜ (4294967295 < r) × (coded r ≡ fault (expressions-answers.reasonOf w)) ⌝ }
+{
+    match w {
+        expressions::arithmetic::Reason::Range => 4294967311,
+        expressions::arithmetic::Reason::Divisor => 4294967312,
+    }
+}
+
+pub fn reason_by(code: u64) -> Reason
+    ensures { λ r. ⌜ reasonOf r ≡ codedFault code ⌝ }
+{
+    if code == 4294967311 {
+        Reason::Range
+    } else if code == 4294967312 {
+        Reason::Divisor
+    } else {
+        Reason::Bounds
+    }
+}
+
+fn done_by(code: u64) -> Done
+    ensures { λ r. ⌜ ((vars : List ℤ) (p c : ℕ) → worldAfter r vars p c ≡ worldBy code vars p c) ⌝ }
+{
+    if 4294967295 < code {
+        Done::Fault(reason_by(code))
+    } else {
+        Done::Events(code as u32)
+    }
+}
+
+// Node n assigned to variable v: the events afterwards, or the fault, as one number.
+pub fn assign_code(
+    s: &[u8],
+    values: Values,
+    v: u8,
+    n: u16,
+    vars: &mut [i16; 64],
+    events: u32,
+) -> u64
     requires { ⌜ HasValues (now s) values × (v < values .variables) ⌝ }
-    ensures { λ r. ⌜ ((p c : ℕ) → worldAfter r (now (vars .exit)) p c ≡ deed (nodesIn (now (s .entry)) values) (variablesIn (now (s .entry)) values) (assign v n) (worldIn (now (vars .entry)) events p c)) ⌝ }
+    ensures { λ r. ⌜ ((p c : ℕ) → worldBy r (now (vars .exit)) p c ≡ deed (nodesIn (now (s .entry)) values) (variablesIn (now (s .entry)) values) (assign v n) (worldIn (now (vars .entry)) events p c)) ⌝ }
 {
     match number_at(s, values, vars, n) {
-        Number::Fault(w) => Done::Fault(reason_for(w)),
+        Number::Fault(w) => fault_code(w),
         Number::Value(z) => {
             if is_within(s, values, v, z) {
                 let i = v as usize;
                 vars[i] = z as i16;
-                Done::Events(events)
+                events as u64
             } else {
-                Done::Fault(Reason::Bounds)
+                4294967313
             }
         }
     }
+}
+
+pub fn assign(s: &[u8], values: Values, v: u8, n: u16, vars: &mut [i16; 64], events: u32) -> Done
+    requires { ⌜ HasValues (now s) values × (v < values .variables) ⌝ }
+    ensures { λ r. ⌜ ((p c : ℕ) → worldAfter r (now (vars .exit)) p c ≡ deed (nodesIn (now (s .entry)) values) (variablesIn (now (s .entry)) values) (assign v n) (worldIn (now (vars .entry)) events p c)) ⌝ }
+{
+    done_by(assign_code(s, values, v, n, vars, events))
 }

@@ -13,6 +13,7 @@ use Rattle.model.specs.ChartSet.{readDeed, readCharts}
 use Rattle.chart_files.specs.Places.{actionAt}
 use Rattle.chart_files.proofs.Readings.{inside}
 use Rattle.machines.specs.Worlds.{worldIn}
+use Rattle.machines.proofs.Codes.{world-value}
 use Rattle.charts.specs.Replies.{Doable}
 use Rattle.charts.proofs.Sound.{deed-doable}
 use Rattle.charts.proofs.InFile.{has-values, variables-in, nodes-in}
@@ -76,6 +77,9 @@ raised-requires c κs =
     let x = a .args in
     subst (Doable (x .shape .variables)) (raises c) (deed-doable (now (x .s)) (x .shape) (a .pre .0) (x .a) (a .pre .1))
 
+cast-result : tie.Need-cast-result
+cast-result c = search needs
+
 values-of-requires : tie.Need-values-of-requires
 values-of-requires c κs = search needs
 
@@ -85,8 +89,8 @@ add-u16-within c = search needs
 u16-within-requires : tie.Need-u16-within-requires
 u16-within-requires c κs = omega (arith, within (c .before .before .before .before))
 
-assign-requires : tie.Need-assign-requires
-assign-requires c κs =
+assign-code-requires : tie.Need-assign-code-requires
+assign-code-requires c κs =
     let a = c .before .before .before .before .before .before .before .before in
     let x = a .args in
     let v = c .before .before .values-of in
@@ -95,7 +99,8 @@ assign-requires c κs =
 returns : tie.Need-returns
 returns c = λ p q.
     let x = c .before .before .before .before .before .before .args in
-    ap (λ n. val (worldIn (now (x .vars)) n p q)) (c .raised .ensures)
+    world-value (c .raised .result) (now (x .vars)) p q (omega arith)
+    ∙ ap (λ n. val (worldIn (now (x .vars)) n p q)) (c .raised .ensures)
     ∙ ap (λ d. deed (readCharts (now (x .s)) .nodes) (readCharts (now (x .s)) .variables) d (worldIn (now (x .vars)) (x .events) p q)) (sym (raises (c .before)))
 
 returns-2 : tie.Need-returns-2
@@ -107,7 +112,7 @@ returns-2 c = λ p q.
     let f = c .before .before .before .before .before .before .before in
     let w = worldIn (now (x .vars)) (x .events) p q in
     let d : Deed = assign (byte s (16 * (f .first-action .result + x .a) + 5)) (c .before .before .u16-within .result) in
-    c .assign .ensures p q
+    c .assign-code .ensures p q
     ∙ (λ i. deed (nodes-in s (x .shape) (a .pre .0 .shape) (v .result) (v .ensures) i) (variables-in s (x .shape) (a .pre .0 .shape) (v .result) (v .ensures) i) d w)
     ∙ ap (λ d. deed (readCharts s .nodes) (readCharts s .variables) d w)
     (ap (assign (byte s (16 * (f .first-action .result + x .a) + 5))) (c .before .before .u16-within .ensures) ∙ sym (assigns (c .before .before .before .before)))
@@ -124,9 +129,10 @@ do-deed-spec =
     add-if1
     shared-slice-read-if1
     raised-requires
+    cast-result
     values-of-requires
     add-u16-within
     u16-within-requires
-    assign-requires
+    assign-code-requires
     returns
     returns-2)

@@ -1,21 +1,23 @@
 -- `steps::first_that` meets its contract: none of the places before j holds, and from the end on they name none. Assumes nothing.
 use mathlib.Core.Path.{_≡_, sym, ap, _∙_}
 use mathlib.Core.List.{[]}
-use mathlib.Core.Bool.{true}
+use mathlib.Core.Bool.{true, cond}
+use mathlib.Core.Option.{some, none}
 use Prim.Native.Nat.{ℕ, _+_, _-_, _≤_, _<_}
 use native.Mathlib.Omega.{arith}
 use borrow.Author.Needs.{needs}
 use denote.Ref.{now}
+use lib.Dec.{eqb}
 use lib.ListN.{getD}
-use Rattle.records.specs.Refusal.{val, fault}
+use Rattle.records.specs.Refusal.{val, _>>=_}
 use Rattle.expressions.specs.Answers.{truthOf}
 use Rattle.expressions.specs.Answers as expressions-answers
 use Rattle.model.specs.ChartSet.{readCharts}
 use Rattle.model.specs.Charts.{firstThat, transitionHolds}
-use Rattle.chart_files.proofs.Readings.{most-states}
+use Rattle.chart_files.proofs.Readings.{most-states, most-transitions}
 use Rattle.machines.specs.Worlds.{bareWorld}
-use Rattle.charts.specs.StepOf.{slotHolds}
-use Rattle.charts.proofs.StepLaws.{slot, Tried, tried-none, tried-more, tried-found, tried-fault, tried-end, holds-named, named-one, row-outside}
+use Rattle.charts.specs.StepOf.{ChoiceOf, slotHolds}
+use Rattle.charts.proofs.StepLaws.{choice-some, slot, Tried, tried-none, tried-more, tried-found, tried-fault, tried-end, holds-named, named-one, row-outside}
 use Rattle.charts.proofs.steps.first_that.Statement.{statement}
 use Rattle.charts.proofs.steps.first_that.Tie as tie
 
@@ -25,12 +27,15 @@ Inv-loop s shape rows ends vars events age state i end j₀ j = Tried (readChart
 abbrev μ-loop : tie.MeasureT-loop
 μ-loop s shape rows ends vars events age state i end j₀ j = 16 - j
 
+none-chosen : (n : ℕ) → ChoiceOf n 65535
+none-chosen n = record { small = λ h. omega arith; known = λ h. absurd (omega arith) }
+
 returns : tie.Need-returns Inv-loop μ-loop
 unfolding firstThat
 returns c =
     let a = c .before .before .before in
     let x = a .args in
-    (sym (ap (firstThat (transitionHolds (readCharts (now (x .s))) (bareWorld (now (x .vars)) (x .events)) (x .age))) (row-outside (now (x .s)) (x .shape) (a .pre .0) (x .state) (c .if1 .taken))), tt)
+    (sym (ap (firstThat (transitionHolds (readCharts (now (x .s))) (bareWorld (now (x .vars)) (x .events)) (x .age))) (row-outside (now (x .s)) (x .shape) (a .pre .0) (x .state) (c .if1 .taken))), none-chosen (x .shape .transitions))
 
 small-state : (c : tie.Else1 Inv-loop μ-loop) → c .before .before .before .args .state < 128
 small-state c =
@@ -83,31 +88,50 @@ slot-holds-requires c κs =
 enum-known-w : tie.Need-enum-known-w Inv-loop μ-loop
 enum-known-w c = search needs
 
-reason-for-requires : tie.Need-reason-for-requires Inv-loop μ-loop
-reason-for-requires c κs = tt
+fault-code-requires : tie.Need-fault-code-requires Inv-loop μ-loop
+fault-code-requires c κs = tt
 
 returns-2 : tie.Need-returns-2 Inv-loop μ-loop
 returns-2 c =
     let a = c .before .before .before .before .before .before .before .before .before .before .before .before in
     let x = a .args in
     let l = c .before .before .before .before .before .before .before .loop in (
-      ap fault (c .reason-for .ensures)
+      ap (λ o. o >>= λ t. val (cond (eqb t 65535) none (some t))) (c .fault-code .ensures .1)
           ∙ tried-fault (readCharts (now (x .s))) (x .state) (transitionHolds (readCharts (now (x .s))) (bareWorld (now (x .vars)) (x .events)) (x .age)) (l .j) (t-of (c .before .before .before .before .before)) (l .inv) (in-row (c .before .before .before .before .before .before)) (slot-here (c .before .before .before .before .before)) (expressions-answers.reasonOf (c .before .before .w .given .0 .0))
           (ap truthOf (sym (c .before .before .w .given .1)) ∙ c .before .before .before .before .slot-holds .ensures),
-      tt,
+      record { small = λ h. absurd (omega (arith, c .fault-code .ensures .0)); known = λ h. absurd (omega (arith, c .fault-code .ensures .0)) },
     )
 
 enum-known-holding : tie.Need-enum-known-holding Inv-loop μ-loop
 enum-known-holding c = search needs
+
+holding : (c : tie.Then2 Inv-loop μ-loop) →
+    let x = c .before .before .before .before .before .before .before .before .before .before .before .before .args in
+    val true ≡ slotHolds (transitionHolds (readCharts (now (x .s))) (bareWorld (now (x .vars)) (x .events)) (x .age)) (t-of (c .before .before .before .before .before))
+holding c = ap val (sym (c .if2 .taken)) ∙ ap truthOf (sym (c .before .before .holding .given .1)) ∙ c .before .before .before .before .slot-holds .ensures
+
+-- the place that holds names a transition
+holding-one : (c : tie.Then2 Inv-loop μ-loop) → t-of (c .before .before .before .before .before) < c .before .before .before .before .before .before .before .before .before .before .before .before .args .shape .transitions
+holding-one c =
+    let a = c .before .before .before .before .before .before .before .before .before .before .before .before in
+    let x = a .args in
+    let l = c .before .before .before .before .before .before .before .loop in
+    named-one (now (x .s)) (x .shape) (a .pre .0) (x .state) (l .j + 1) (t-of (c .before .before .before .before .before)) (slot-here (c .before .before .before .before .before)) (holds-named (transitionHolds (readCharts (now (x .s))) (bareWorld (now (x .vars)) (x .events)) (x .age)) (t-of (c .before .before .before .before .before)) (holding c))
+
+cast-result : tie.Need-cast-result Inv-loop μ-loop
+cast-result c =
+    let a = c .before .before .before .before .before .before .before .before .before .before .before .before in
+    omega (arith, holding-one c, most-transitions (now (a .args .s)) (a .args .shape) (a .pre .0 .shape))
 
 returns-3 : tie.Need-returns-3 Inv-loop μ-loop
 returns-3 c =
     let a = c .before .before .before .before .before .before .before .before .before .before .before .before in
     let x = a .args in
     let l = c .before .before .before .before .before .before .before .loop in
-    let e : val true ≡ slotHolds (transitionHolds (readCharts (now (x .s))) (bareWorld (now (x .vars)) (x .events)) (x .age)) (t-of (c .before .before .before .before .before)) = ap val (sym (c .if2 .taken)) ∙ ap truthOf (sym (c .before .before .holding .given .1)) ∙ c .before .before .before .before .slot-holds .ensures in (
-      tried-found (readCharts (now (x .s))) (x .state) (transitionHolds (readCharts (now (x .s))) (bareWorld (now (x .vars)) (x .events)) (x .age)) (l .j) (t-of (c .before .before .before .before .before)) (l .inv) (in-row (c .before .before .before .before .before .before)) (slot-here (c .before .before .before .before .before)) e,
-      named-one (now (x .s)) (x .shape) (a .pre .0) (x .state) (l .j + 1) (t-of (c .before .before .before .before .before)) (slot-here (c .before .before .before .before .before)) (holds-named (transitionHolds (readCharts (now (x .s))) (bareWorld (now (x .vars)) (x .events)) (x .age)) (t-of (c .before .before .before .before .before)) e),
+    let few = most-transitions (now (x .s)) (x .shape) (a .pre .0 .shape) in (
+      choice-some (t-of (c .before .before .before .before .before)) (omega (arith, holding-one c, few))
+          ∙ tried-found (readCharts (now (x .s))) (x .state) (transitionHolds (readCharts (now (x .s))) (bareWorld (now (x .vars)) (x .events)) (x .age)) (l .j) (t-of (c .before .before .before .before .before)) (l .inv) (in-row (c .before .before .before .before .before .before)) (slot-here (c .before .before .before .before .before)) (holding c),
+      record { small = λ h. omega (arith, holding-one c, few); known = λ h. holding-one c },
     )
 
 add-j : tie.Need-add-j Inv-loop μ-loop
@@ -132,7 +156,7 @@ returns-4 c =
     let past = c .loop-test .left in (
       tried-end (readCharts (now (x .s))) (x .state) (transitionHolds (readCharts (now (x .s))) (bareWorld (now (x .vars)) (x .events)) (x .age)) (16 - l .j) (l .j) (omega (arith, l .inv .0)) (l .inv)
           (λ i le lt. sym (a .pre .1 (x .state) i h lt) ∙ a .pre .2 (x .state) h .1 i (omega (arith, past)) lt),
-      tt,
+      none-chosen (x .shape .transitions),
     )
 
 pub first-that-spec : {M : Type 1} → statement M
@@ -151,9 +175,10 @@ first-that-spec =
     index-2-t
     slot-holds-requires
     enum-known-w
-    reason-for-requires
+    fault-code-requires
     returns-2
     enum-known-holding
+    cast-result
     returns-3
     add-j
     loop-less

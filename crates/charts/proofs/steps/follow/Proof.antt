@@ -2,23 +2,28 @@
 use mathlib.Core.Path.{refl, sym, ap, _∙_}
 use borrow.Author.Needs.{needs}
 use denote.Ref.{now}
+use Rattle.model.specs.Runs.{taken}
 use Rattle.model.specs.ChartSet.{readCharts}
 use Rattle.chart_files.proofs.Readings.{transition-is}
-use Rattle.machines.specs.Worlds.{reasonOf, worldIn, worldAfter}
+use Rattle.machines.specs.Worlds.{codedFault, worldIn}
+use Rattle.machines.proofs.Codes.{world-value, world-fault}
 use Rattle.charts.specs.RunOf.{runIn}
 use Rattle.charts.specs.StepOf.{entered}
-use Rattle.charts.proofs.StepLaws.{follow-fault, follow-taken}
+use Rattle.charts.proofs.StepLaws.{follow-fault, follow-taken, moved-value, moved-fault}
 use Rattle.charts.proofs.steps.follow.Statement.{statement}
 use Rattle.charts.proofs.steps.follow.Tie as tie
 
 act-requires : tie.Need-act-requires
 act-requires c κs = search needs
 
-enum-known-w : tie.Need-enum-known-w
-enum-known-w c = search needs
-
-enum-known-after : tie.Need-enum-known-after
-enum-known-after c = search needs
+returns : tie.Need-returns
+returns c = λ p q.
+    let x = c .before .before .before .before .args in
+    let f = c .before .act in
+    let wrong = c .if1 .taken in
+    moved-fault (f .result) (taken (x .t)) (now (x .states)) (now (x .ages)) (f .last .1 .1 .1 .1 .1 .0) p q wrong
+    ∙ follow-fault (readCharts (now (x .s))) (x .chart) (runIn (now (x .states)) (now (x .ages)) (now (x .vars)) (x .events) p q) (x .t) (codedFault (f .result))
+    (sym (world-fault (f .result) (f .last .1 .1 .1 .1 .1 .0) p q wrong) ∙ f .ensures p q)
 
 target-of-requires : tie.Need-target-of-requires
 target-of-requires c κs = search needs
@@ -35,22 +40,17 @@ mul-ages c = search needs
 element-write-ages : tie.Need-element-write-ages
 element-write-ages c = search needs
 
-returns : tie.Need-returns
-returns c = λ p q.
-    let x = c .before .before .before .before .before .before .args in
-    let f = c .before .before .before .act in
-    follow-fault (readCharts (now (x .s))) (x .chart) (runIn (now (x .states)) (now (x .ages)) (now (x .vars)) (x .events) p q) (x .t) (reasonOf (c .before .w .given .0 .0))
-    (ap (λ d. worldAfter d (f .last .1 .1 .1 .1 .1 .0) p q) (sym (c .before .w .given .1)) ∙ f .ensures p q)
-
 returns-2 : tie.Need-returns-2
 returns-2 c = λ p q.
-    let a = c .before .before .before .before .before .before .before in
+    let a = c .before .before .before .before .before in
     let x = a .args in
-    let f = c .before .before .before .before .act in
-    let w = worldIn (f .last .1 .1 .1 .1 .1 .0) (c .before .before .after .given .0 .0) p q in
-    let r = (runIn (now (x .states)) (now (x .ages)) (now (x .vars)) (x .events) p q) in
-    follow-taken (readCharts (now (x .s))) (x .chart) r (x .t) w
-    (ap (λ d. worldAfter d (f .last .1 .1 .1 .1 .1 .0) p q) (sym (c .before .before .after .given .1)) ∙ f .ensures p q)
+    let f = c .before .before .act in
+    let fine = c .before .if1 .left in
+    let w = worldIn (f .last .1 .1 .1 .1 .1 .0) (f .result) p q in
+    let r = runIn (now (x .states)) (now (x .ages)) (now (x .vars)) (x .events) p q in
+    moved-value (f .result) (taken (x .t)) (entered r (x .chart) (c .target-of .result) w .at) (entered r (x .chart) (c .target-of .result) w .timers) (f .last .1 .1 .1 .1 .1 .0) p q fine
+    ∙ follow-taken (readCharts (now (x .s))) (x .chart) r (x .t) w
+    (sym (world-value (f .result) (f .last .1 .1 .1 .1 .1 .0) p q fine) ∙ f .ensures p q)
     (c .target-of .result) (c .target-of .ensures ∙ sym (ap (λ u. u .target) (transition-is (now (x .s)) (x .shape) (a .pre .0 .shape) (x .t) (a .pre .3))))
     (entered r (x .chart) (c .target-of .result) w) refl
 
@@ -59,12 +59,10 @@ follow-spec =
     tie.close
     (tie.spec
     act-requires
-    enum-known-w
-    enum-known-after
+    returns
     target-of-requires
     mul-states
     element-write-states
     mul-ages
     element-write-ages
-    returns
     returns-2)

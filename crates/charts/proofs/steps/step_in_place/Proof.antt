@@ -1,15 +1,16 @@
 -- `steps::step_in_place` meets its contract: the first that holds is followed. Assumes nothing.
-use mathlib.Core.Path.{sym, ap, _∙_, subst}
-use Prim.Native.Nat.{_<_}
+use mathlib.Core.Path.{sym, ap, _∙_}
+use Prim.Native.Nat.{_≤_, _<_}
 use native.Mathlib.Omega.{arith}
 use borrow.Author.Needs.{needs}
 use denote.Ref.{now}
-use Rattle.records.specs.Refusal.{_>>=_}
+use Rattle.records.specs.Refusal.{val, _>>=_}
 use Rattle.model.specs.ChartSet.{readCharts}
 use Rattle.model.specs.Charts.{follow}
 use Rattle.chart_files.proofs.Readings.{most-charts}
 use Rattle.charts.specs.RunOf.{runIn}
-use Rattle.charts.specs.StepOf.{choiceOf, ChoiceOf}
+use Rattle.charts.specs.StepOf.{answerBy, movedBy}
+use Rattle.charts.proofs.StepLaws.{choice-some, choice-none, choice-fault, answer-taken, moved-value, moved-fault}
 use Rattle.charts.proofs.steps.step_in_place.Statement.{statement}
 use Rattle.charts.proofs.steps.step_in_place.Tie as tie
 
@@ -31,34 +32,49 @@ element-copy-out-age c = few-charts (c .before .before)
 first-that-requires : tie.Need-first-that-requires
 first-that-requires c κs = let a = c .before .before .before .before in (a .pre .0 .accepted, a .pre .0 .has-rows, a .pre .1)
 
-enum-known-t : tie.Need-enum-known-t
-enum-known-t c = search needs
-
-follow-requires : tie.Need-follow-requires
-follow-requires c κs =
-    let a = c .before .before .before .before .before .before .before .before .before .before .before in
-    (a .pre .0 .accepted, a .pre .0 .has-actions, few-charts a, subst (ChoiceOf (a .args .shape .transitions)) (c .before .before .before .before .t .given .1) (c .before .before .before .before .before .before .first-that .ensures .1))
-
-enum-told : tie.Need-enum-told
-enum-told c = search needs
-
-enum-known-w : tie.Need-enum-known-w
-enum-known-w c = search needs
-
 returns : tie.Need-returns
 returns c = λ p q.
-    let x = c .before .before .before .before .before .before .before .before .before .before .before .before .args in
-    c .follow .ensures p q ∙ ap (λ o. o >>= follow (readCharts (now (x .s))) (x .chart) (runIn (now (x .states)) (now (x .ages)) (now (x .vars)) (x .events) p q)) (ap choiceOf (sym (c .before .before .before .before .before .t .given .1)) ∙ c .before .before .before .before .before .before .before .first-that .ensures .0)
+    let x = c .before .before .before .before .before .before .args in
+    let f = c .before .first-that in
+    let wrong = c .if1 .taken in
+    moved-fault (f .result) (answerBy (now (x .chosen))) (now (x .states)) (now (x .ages)) (now (x .vars)) p q wrong
+    ∙ ap (λ o. o >>= follow (readCharts (now (x .s))) (x .chart) (runIn (now (x .states)) (now (x .ages)) (now (x .vars)) (x .events) p q)) (sym (choice-fault (f .result) wrong) ∙ f .ensures .0)
+
+-- a transition, or none
+small : (c : tie.Else1) → c .before .first-that .result ≤ 65535
+small c = c .before .first-that .ensures .1 .small (c .if1 .left)
+
+cast-chosen : tie.Need-cast-chosen
+cast-chosen c = omega (arith, small c)
 
 returns-2 : tie.Need-returns-2
 returns-2 c = λ p q.
     let x = c .before .before .before .before .before .before .before .args in
-    ap (λ o. o >>= follow (readCharts (now (x .s))) (x .chart) (runIn (now (x .states)) (now (x .ages)) (now (x .vars)) (x .events) p q)) (ap choiceOf (sym (c .enum-told .given .1)) ∙ c .before .before .first-that .ensures .0)
+    let f = c .before .before .first-that in
+    let none-holds = c .if2 .taken in
+    moved-value (x .events) (answerBy (f .result)) (now (x .states)) (now (x .ages)) (now (x .vars)) p q (omega arith)
+    ∙ ap (λ n. val (answerBy n, runIn (now (x .states)) (now (x .ages)) (now (x .vars)) (x .events) p q)) none-holds
+    ∙ ap (λ o. o >>= follow (readCharts (now (x .s))) (x .chart) (runIn (now (x .states)) (now (x .ages)) (now (x .vars)) (x .events) p q)) (sym (choice-none (f .result) none-holds) ∙ f .ensures .0)
+
+one-chosen : (c : tie.Else2) → c .before .before .first-that .result < 65535
+one-chosen c = let holds = c .if2 .left in omega (arith, holds, small (c .before))
+
+cast-follow : tie.Need-cast-follow
+cast-follow c = omega (arith, one-chosen c)
+
+follow-requires : tie.Need-follow-requires
+follow-requires c κs =
+    let a = c .before .before .before .before .before .before .before .before .before .before in
+    (a .pre .0 .accepted, a .pre .0 .has-actions, few-charts a, c .before .before .before .before .before .first-that .ensures .1 .known (one-chosen (c .before .before .before)))
 
 returns-3 : tie.Need-returns-3
 returns-3 c = λ p q.
-    let x = c .before .before .before .before .before .before .before .before .args in
-    ap (λ o. o >>= follow (readCharts (now (x .s))) (x .chart) (runIn (now (x .states)) (now (x .ages)) (now (x .vars)) (x .events) p q)) (ap choiceOf (sym (c .before .w .given .1)) ∙ c .before .before .before .first-that .ensures .0)
+    let x = c .before .before .before .before .before .before .before .before .before .before .before .args in
+    let f = c .before .before .before .before .before .before .first-that in
+    let one = one-chosen (c .before .before .before .before) in
+    ap (λ a. movedBy (c .follow .result) a (c .follow .last .1 .1 .1 .1 .1 .1 .0) (c .follow .last .1 .1 .1 .1 .1 .1 .1 .0) (c .follow .last .1 .1 .1 .1 .1 .1 .1 .1 .0) p q) (answer-taken (f .result) one)
+    ∙ c .follow .ensures p q
+    ∙ ap (λ o. o >>= follow (readCharts (now (x .s))) (x .chart) (runIn (now (x .states)) (now (x .ages)) (now (x .vars)) (x .events) p q)) (sym (choice-some (f .result) one) ∙ f .ensures .0)
 
 pub step-in-place-spec : {M : Type 1} → statement M
 step-in-place-spec =
@@ -69,10 +85,9 @@ step-in-place-spec =
     mul-age
     element-copy-out-age
     first-that-requires
-    enum-known-t
-    follow-requires
-    enum-told
-    enum-known-w
     returns
+    cast-chosen
     returns-2
+    cast-follow
+    follow-requires
     returns-3)

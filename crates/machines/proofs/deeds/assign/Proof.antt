@@ -1,83 +1,17 @@
--- `deeds::assign` meets its contract, arm by arm. Assumes nothing.
-use mathlib.Core.Path.{_≡_, sym, ap, _∙_}
-use denote.Ref.{now}
-use lib.ListN.{getD, set}
-use mir.Facts.{toZ-ofZ}
-use mir.Syntax.{w32}
-use mir.Val.{toZ, ofZ}
-use Rattle.records.specs.Refusal.{val, fault}
-use Rattle.expressions.specs.Answers.{numberOf}
-use Rattle.expressions.specs.Answers as expressions-answers
-use Rattle.model.specs.Runs.{within, noVariable}
-use Rattle.machines.specs.Files.{variablesIn, nodesIn}
-use Rattle.machines.specs.Worlds.{worldIn}
-use Rattle.machines.proofs.DeedLaws.{assign-fault, assign-outside, assign-within}
+-- `deeds::assign` meets its contract: what `assign_code` answers, as an enum. Assumes nothing.
+use mathlib.Core.Path.{_∙_}
 use borrow.Author.Needs.{needs}
 use Rattle.machines.proofs.deeds.assign.Statement.{statement}
 use Rattle.machines.proofs.deeds.assign.Tie as tie
 
-number-at-requires : tie.Need-number-at-requires
-number-at-requires c κs = search needs
+assign-code-requires : tie.Need-assign-code-requires
+assign-code-requires c κs = c .before .before .pre
 
-enum-known-w : tie.Need-enum-known-w
-enum-known-w c = search needs
-
-reason-for-requires : tie.Need-reason-for-requires
-reason-for-requires c κs = search needs
-
-enum-known-z : tie.Need-enum-known-z
-enum-known-z c = search needs
-
-is-within-requires : tie.Need-is-within-requires
-is-within-requires c κs = search needs
-
-cast-vars : tie.Need-cast-vars
-cast-vars c = record { sfits = c .before .is-within .ensures .1 (c .if1 .taken) }
-
-mul-t17 : tie.Need-mul-t17
-mul-t17 c = search needs
-
-element-set-from-vars : tie.Need-element-set-from-vars
-element-set-from-vars c = search needs
+done-by-requires : tie.Need-done-by-requires
+done-by-requires c κs = tt
 
 returns : tie.Need-returns
-returns c = λ p q.
-    let x = c .before .before .before .before .before .before .before .args in
-    ap fault (c .reason-for .ensures)
-    ∙ assign-fault (nodesIn (now (x .s)) (x .values)) (variablesIn (now (x .s)) (x .values)) (now (x .vars)) (x .events) (x .v) (x .n) p q (expressions-answers.reasonOf (c .before .before .w .given .0 .0))
-    (ap numberOf (sym (c .before .before .w .given .1)) ∙ c .before .before .before .before .number-at .ensures)
-
-returns-2 : tie.Need-returns-2
-returns-2 c = λ p q.
-    let x = c .before .before .before .before .before .before .before .before .args in
-    let z = c .before .before .before .z .given .0 .0 in
-    let e : toZ w32 (ofZ w32 z) ≡ z = search needs in
-    ap (λ u. val (worldIn (set (now (x .vars)) (x .v) u) (x .events) p q)) (toZ-ofZ (cast-vars c) ∙ e)
-    ∙ assign-within (nodesIn (now (x .s)) (x .values)) (variablesIn (now (x .s)) (x .values)) (now (x .vars)) (x .events) (x .v) (x .n) p q z
-    (ap numberOf (sym (c .before .before .before .z .given .1)) ∙ c .before .before .before .before .before .number-at .ensures)
-    (ap (within (getD (variablesIn (now (x .s)) (x .values)) (x .v) noVariable)) (sym e) ∙ sym (c .before .is-within .ensures .0) ∙ c .if1 .taken)
-
-returns-3 : tie.Need-returns-3
-returns-3 c = λ p q.
-    let x = c .before .before .before .before .before .before .before .before .args in
-    let z = c .before .before .before .z .given .0 .0 in
-    let e : toZ w32 (ofZ w32 z) ≡ z = search needs in
-    assign-outside (nodesIn (now (x .s)) (x .values)) (variablesIn (now (x .s)) (x .values)) (now (x .vars)) (x .events) (x .v) (x .n) p q z
-    (ap numberOf (sym (c .before .before .before .z .given .1)) ∙ c .before .before .before .before .before .number-at .ensures)
-    (ap (within (getD (variablesIn (now (x .s)) (x .values)) (x .v) noVariable)) (sym e) ∙ sym (c .before .is-within .ensures .0) ∙ c .if1 .left)
+returns c = λ p q. c .done-by .ensures (c .before .assign-code .last .1 .1 .1 .1 .0) p q ∙ c .before .assign-code .ensures p q
 
 pub assign-spec : {M : Type 1} → statement M
-assign-spec =
-    tie.close
-    (tie.spec
-    number-at-requires
-    enum-known-w
-    reason-for-requires
-    enum-known-z
-    is-within-requires
-    cast-vars
-    mul-t17
-    element-set-from-vars
-    returns
-    returns-2
-    returns-3)
+assign-spec = tie.close (tie.spec assign-code-requires done-by-requires returns)

@@ -1,0 +1,14 @@
+-- `steps::reply_by` meets its contract. Assumes nothing.
+use mathlib.Core.Path.{sym, ap}
+use borrow.Author.Tests.{eq-eqb, ne-eqb}
+use Rattle.charts.proofs.steps.reply_by.Statement.{statement}
+use Rattle.charts.proofs.steps.reply_by.Tie as tie
+
+returns : tie.Need-returns
+returns c = sym (rw (eq-eqb (c .before .args .chosen) 65535 (c .if1 .taken)))
+
+returns-2 : tie.Need-returns-2
+returns-2 c = sym (rw (ne-eqb (c .before .args .chosen) 65535 (c .if1 .left)))
+
+pub reply-by-spec : {M : Type 1} → statement M
+reply-by-spec = tie.close (tie.spec returns returns-2)

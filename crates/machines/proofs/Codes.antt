@@ -1,0 +1,23 @@
+-- Answers as one number: a value below 2^32, a fault from there on. Assumes nothing.
+use mathlib.Core.Path.{_≡_, ap}
+use mathlib.Core.Bool.{cond}
+use mathlib.Core.List.{List}
+use Prim.Native.Nat.{ℕ, _≤_, _<_}
+use borrow.Author.Tests.{le-leb, lt-leb}
+use lib.IntN.{ℤ}
+use Rattle.records.specs.Refusal.{val, fault, _>>=_}
+use Rattle.machines.specs.Worlds.{codedFault, coded, worldIn, worldBy}
+
+pub coded-value : (n : ℕ) → n ≤ 4_294_967_295 → coded n ≡ val n
+coded-value n h = ap (λ b. cond b (val n) (fault (codedFault n))) (le-leb n 4_294_967_295 h)
+
+pub coded-fault : (n : ℕ) → 4_294_967_295 < n → coded n ≡ fault (codedFault n)
+coded-fault n h = ap (λ b. cond b (val n) (fault (codedFault n))) (lt-leb n 4_294_967_295 h)
+
+-- the same of events
+module _ (n : ℕ) (vars : List ℤ) (p c : ℕ) where
+  pub world-value : n ≤ 4_294_967_295 → worldBy n vars p c ≡ val (worldIn vars n p c)
+  world-value h = ap (λ o. o >>= λ events. val (worldIn vars events p c)) (coded-value n h)
+
+  pub world-fault : 4_294_967_295 < n → worldBy n vars p c ≡ fault (codedFault n)
+  world-fault h = ap (λ o. o >>= λ events. val (worldIn vars events p c)) (coded-fault n h)
