@@ -1,13 +1,15 @@
 -- What belongs to edges: the must-nots of a state by priority, the clocks of the transitions that leave it. Assumes nothing.
 use mathlib.Core.Path.{_≡_, refl, sym, ap, _∙_}
 use mathlib.Core.Logic.{inl, inr}
-use mathlib.Core.Bool.{false}
-use mathlib.Core.List.{List, _++_, map}
+use mathlib.Core.Bool.{false, cond}
+use mathlib.Core.List.{List, [], _∷_, _++_, map, append-nil}
 use Prim.Native.Nat.{ℕ, _+_, _-_, _≤_, _<_}
 use native.Mathlib.Omega.{arith}
 use lib.Dec.{eqb}
-use lib.ListN.{length}
-use Rattle.records.specs.Lists.{gather, keep, from, upto, caseOf}
+use lib.ListN.{length, getD, length-append, length-map}
+use borrow.Author.Tests.{eq-eqb}
+use Rattle.records.specs.Lists.{gather, keep, count, from, upto, caseOf}
+use Rattle.records.proofs.FramingLaws.{length-keep}
 use Rattle.model.specs.ChartSet.{ChartSet, transition}
 use Rattle.model.specs.AutomataTable.{Literal, writeReset, writeLiteral}
 use Rattle.model.specs.Translation.{size, clocksOf, clockOf, literal, above, clocksLeaving}
@@ -21,16 +23,16 @@ use Rattle.chart_files.specs.declared.Shape.{Shape}
 use Rattle.chart_files.specs.Places.{transitionAt, actionAt}
 use Rattle.chart_files.proofs.Readings.{transition-is, length-transitions, most-states, most-transitions}
 use Rattle.charts.specs.Accepted.{Accepted}
-use Rattle.charts.specs.Tables.{leaves, keyed}
+use Rattle.charts.specs.Tables.{leaves, named, HasRows, keyed}
 use Rattle.machines.specs.Chains.{headOr, earliest, withKey, Chained}
 use Rattle.machines.proofs.Earliest.{keep-alike}
-use Rattle.charts.proofs.RowLaws.{sourceAt}
+use Rattle.charts.proofs.RowLaws.{sourceAt, place-of}
 use Rattle.charts.proofs.ActionLaws.{of-key}
 use Rattle.charts.proofs.Sound.{source-known, target-known}
 use Rattle.translation.specs.Texts.{recordText, literalTexts, updateTexts, resetTexts}
 use Rattle.translation.specs.Tables.{sourceOf, HasLeaving}
 use Rattle.model.proofs.ListLaws.{gather-append}
-use Rattle.translation.proofs.Gathered.{gather-gather, gather-shift, gather-below}
+use Rattle.translation.proofs.Gathered.{gather-gather, gather-empty, gather-shift, gather-alike, gather-below, from-append}
 
 module _ (cs : ChartSet) (e st : ℕ) where
   -- the must-nots of one priority
@@ -84,27 +86,67 @@ module _ (s : List ℕ) (sh : Shape) (ok : Accepted s sh) where
         ∙ (λ i. earliest (withKey (sourceOf (readCharts s)) (sym e i)) (t + 1) (sym few i - (t + 1)));
   }
 
+  -- ---- a row's end: no must-nots behind it
+
+  module _ (rows : List (List ℕ)) (has : HasRows (readCharts s) rows) (st end : ℕ) (h : st < sh .states) (most : end ≤ 16) (none : (j : ℕ) → end ≤ j → j < 16 → getD (getD rows st []) j 0 ≡ 65535) where
+    abbrev ranked : ℕ → List ℕ
+    ranked q = keep (leaves (readCharts s) st q) (upto (length (readCharts s .transitions)))
+
+    behind : (q : ℕ) → 1 + end ≤ q → q < 17 → ranked q ≡ []
+    behind q a b =
+        place-of s sh ok st q h
+        ∙ ap (λ p. named (earliest (leaves (readCharts s) st p) 0 (length (readCharts s .transitions)))) (let e : q ≡ q - 1 + 1 = omega arith in e)
+        ∙ ap named (sym (has st (q - 1) (omega (arith, most-states s sh (ok .shape))) (omega arith)) ∙ none (q - 1) (omega arith) (omega arith))
+        ∙ ap (λ x. cond x [] (65535 ∷ [])) (eq-eqb 65535 65535 refl)
+
+    pub above-end : above (readCharts s) st (end + 1) ≡ above (readCharts s) st 17
+    above-end =
+        ap (λ k. gather ranked (from 1 k)) (let e : end + 1 - 1 ≡ end = omega arith in e)
+        ∙ sym (append-nil (gather ranked (from 1 end)))
+        ∙ ap (λ l. gather ranked (from 1 end) ++ l)
+        (sym (gather-alike ranked (λ q. []) (1 + end) (16 - end) (λ q a b. behind q a (omega arith)) ∙ gather-empty (from (1 + end) (16 - end))))
+        ∙ sym (gather-append ranked (from 1 end) (from (1 + end) (16 - end)))
+        ∙ ap (gather ranked) (sym (from-append 1 end (16 - end)) ∙ ap (from 1) (let e : end + (16 - end) ≡ 16 = omega arith in e))
+
   -- ---- the deeds of a transition's edge, by their keys
 
   abbrev pub deedsOf : ℕ → List Deed
   deedsOf key = map (λ a. actionAt s sh a .1) (keep (keyed s sh key) (upto (sh .actions)))
 
-  pub updates-text : (t source target : ℕ) → t < sh .transitions → source ≡ transitionAt s sh t .source → target ≡ transitionAt s sh t .target →
-      updateTexts t (deedsOf (128 + source)) ++ updateTexts t (deedsOf (256 + t)) ++ updateTexts t (deedsOf target) ≡ updateTexts t (updatesOf (readCharts s) t)
-  unfolding caseOf
-  updates-text t source target h e d =
-      let same = transition-is s sh (ok .shape) t h in
-      let source-small : source < 128 = omega (arith, source-known s sh ok t h, most-states s sh (ok .shape)) in
-      let target-small : target < 128 = omega (arith, target-known s sh ok t h, most-states s sh (ok .shape)) in
-      let small : t < 256 = omega (arith, most-transitions s sh (ok .shape)) in
-      let text : Deed → List ℕ = λ x. recordText 40 (writeUpdate (t, x)) in
-      let exits : deedsOf (128 + source) ≡ of (transition (readCharts s) t .source) (readCharts s .exits) =
-      sym (of-key s sh ok 2 source (inr (inl (refl, source-small)))) ∙ ap (λ o. of o (readCharts s .exits)) (e ∙ ap (λ x. x .source) (sym same)) in
-      let own : deedsOf (256 + t) ≡ of t (readCharts s .transition-actions) = sym (of-key s sh ok 3 t (inr (inr (refl, small)))) in
-      let entries : deedsOf target ≡ of (transition (readCharts s) t .target) (readCharts s .entries) =
-      sym (of-key s sh ok 1 target (inl (refl, target-small))) ∙ ap (λ o. of o (readCharts s .entries)) (d ∙ ap (λ x. x .target) (sym same)) in
-      (λ i. updateTexts t (exits i) ++ updateTexts t (own i) ++ updateTexts t (entries i))
-      ∙ sym
-      (gather-append text (of (transition (readCharts s) t .source) (readCharts s .exits) ++ of t (readCharts s .transition-actions)) (of (transition (readCharts s) t .target) (readCharts s .entries))
-      ∙ ap (λ l. l ++ updateTexts t (of (transition (readCharts s) t .target) (readCharts s .entries)))
-      (gather-append text (of (transition (readCharts s) t .source) (readCharts s .exits)) (of t (readCharts s .transition-actions))))
+  abbrev keyedCount : ℕ → ℕ
+  keyedCount key = count (keyed s sh key) (upto (sh .actions))
+
+  deeds-count : (key : ℕ) → length (deedsOf key) ≡ keyedCount key
+  deeds-count key = length-map (keep (keyed s sh key) (upto (sh .actions))) (λ a. actionAt s sh a .1) ∙ length-keep (keyed s sh key) (upto (sh .actions))
+
+  module _ (t source target : ℕ) (h : t < sh .transitions) (e : source ≡ transitionAt s sh t .source) (d : target ≡ transitionAt s sh t .target) where
+    pub updates-are : deedsOf (128 + source) ++ deedsOf (256 + t) ++ deedsOf target ≡ updatesOf (readCharts s) t
+    unfolding caseOf
+    updates-are =
+        let same = transition-is s sh (ok .shape) t h in
+        let source-small : source < 128 = omega (arith, source-known s sh ok t h, most-states s sh (ok .shape)) in
+        let target-small : target < 128 = omega (arith, target-known s sh ok t h, most-states s sh (ok .shape)) in
+        let small : t < 256 = omega (arith, most-transitions s sh (ok .shape)) in
+        let exits : deedsOf (128 + source) ≡ of (transition (readCharts s) t .source) (readCharts s .exits) =
+        sym (of-key s sh ok 2 source (inr (inl (refl, source-small)))) ∙ ap (λ o. of o (readCharts s .exits)) (e ∙ ap (λ x. x .source) (sym same)) in
+        let own : deedsOf (256 + t) ≡ of t (readCharts s .transition-actions) = sym (of-key s sh ok 3 t (inr (inr (refl, small)))) in
+        let entries : deedsOf target ≡ of (transition (readCharts s) t .target) (readCharts s .entries) =
+        sym (of-key s sh ok 1 target (inl (refl, target-small))) ∙ ap (λ o. of o (readCharts s .entries)) (d ∙ ap (λ x. x .target) (sym same)) in
+        λ i. exits i ++ own i ++ entries i
+
+    pub updates-text : updateTexts t (deedsOf (128 + source)) ++ updateTexts t (deedsOf (256 + t)) ++ updateTexts t (deedsOf target) ≡ updateTexts t (updatesOf (readCharts s) t)
+    updates-text =
+        sym
+        (gather-append text (deedsOf (128 + source) ++ deedsOf (256 + t)) (deedsOf target)
+        ∙ ap (λ l. l ++ updateTexts t (deedsOf target)) (gather-append text (deedsOf (128 + source)) (deedsOf (256 + t))))
+        ∙ ap (updateTexts t) updates-are
+      where
+        text : Deed → List ℕ
+        text x = recordText 40 (writeUpdate (t, x))
+
+    pub updates-count : length (updatesOf (readCharts s) t) ≡ keyedCount (128 + source) + keyedCount (256 + t) + keyedCount target
+    updates-count =
+        ap length (sym updates-are)
+        ∙ length-append (deedsOf (128 + source) ++ deedsOf (256 + t)) (deedsOf target)
+        ∙ ap (λ n. n + length (deedsOf target)) (length-append (deedsOf (128 + source)) (deedsOf (256 + t)))
+        ∙ (λ i. deeds-count (128 + source) i + deeds-count (256 + t) i + deeds-count target i)

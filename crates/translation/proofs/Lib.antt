@@ -5,3 +5,4 @@ pub mod SectionLaws
 pub mod ClockLaws
 pub mod EdgeLaws
 pub mod FileLaws
+pub mod CountLaws

@@ -1,11 +1,14 @@
--- Tables that the translator makes once for a set: of each transition its clock's number, of each state its leaving transitions in order. Assumes nothing: these are definitions.
+-- Tables that the translator makes once for a set: of each transition its clock's number, of each state its leaving transitions in order; of each owner how many actions it has, of each state how many clocks. Assumes nothing: these are definitions.
 use mathlib.Core.Path.{_≡_}
 use mathlib.Core.List.{List}
 use Prim.Native.Nat.{ℕ, _<_}
 use lib.ListN.{length, getD}
+use Rattle.records.specs.Lists.{count, upto}
 use Rattle.model.specs.ChartSet.{ChartSet, transition}
-use Rattle.model.specs.Translation.{clockOf}
+use Rattle.model.specs.Translation.{clockOf, clocksLeaving}
 use Rattle.machines.specs.Chains.{Chained}
+use Rattle.chart_files.specs.declared.Shape.{Shape}
+use Rattle.charts.specs.Tables.{keyed}
 
 abbrev pub HasClocks : ChartSet → List ℕ → Type 0
 HasClocks cs clocks = (t : ℕ) → t < length (cs .transitions) → getD clocks t 0 ≡ clockOf cs t
@@ -16,3 +19,10 @@ sourceOf cs t = transition cs t .source
 -- of each state its first leaving transition, and of each transition the next that leaves the same state
 abbrev pub HasLeaving : ChartSet → List ℕ → List ℕ → Type 0
 HasLeaving cs first next = Chained (sourceOf cs) 128 (length (cs .transitions)) first next
+
+-- how many actions each key has, and how many clocks each state's leaving transitions have: entering it resets them
+abbrev pub CountsActions : List ℕ → Shape → List ℕ → Type 0
+CountsActions s sh counts = (key : ℕ) → key < 512 → getD counts key 0 ≡ count (keyed s sh key) (upto (sh .actions))
+
+abbrev pub CountsResets : ChartSet → List ℕ → Type 0
+CountsResets cs counts = (st : ℕ) → st < 128 → getD counts st 0 ≡ length (clocksLeaving cs st)

@@ -19,7 +19,7 @@ use chart_files::fields::trigger_of;
 use charts::triggers::ticks;
 
 // A timing trigger has one.
-fn clocks_in(trigger: Trigger) -> u16
+pub fn clocks_in(trigger: Trigger) -> u16
     ensures { λ r. ⌜ (r ≡ length (clocksOf (triggerFor trigger))) × (r ≤ 1) ⌝ }
 {
     match trigger {

@@ -12,6 +12,7 @@ ghost use Rattle.translation.specs.Answer.{translatedOf};
 
 pub mod clocks;
 pub mod edges;
+pub mod lengths;
 pub mod literals;
 pub mod resets;
 pub mod sections;
@@ -28,6 +29,7 @@ use clocks::fill_clocks;
 use clocks::put_clocks;
 use edges::put_edges;
 use edges::put_idles;
+use lengths::twin_length;
 use literals::put_idle_literals;
 use literals::put_literals;
 use resets::fill_leaving;
@@ -66,7 +68,7 @@ fn put_tests(s: &[u8], shape: Shape, clocks: &[u16; 256], out: &mut [u8], at: us
     let mut ends = [0u8; 128];
     fill_rows(s, shape, &mut rows, &mut ends);
     let idles_at = put_literals(s, shape, clocks, &rows, out, at);
-    let clocks_at = put_idle_literals(s, shape, clocks, &rows, out, idles_at);
+    let clocks_at = put_idle_literals(s, shape, clocks, &rows, &ends, out, idles_at);
     let variables_at = put_clocks(s, shape, out, clocks_at);
     let nodes_at = put_variables(s, shape, out, variables_at);
     put_nodes(s, shape, out, nodes_at)
@@ -97,15 +99,6 @@ fn put_twin(s: &[u8], shape: Shape, out: &mut [u8]) -> usize
     let tests_at = put_places(s, shape, out, 0);
     let effects_at = put_tests(s, shape, &clocks, out, tests_at);
     put_effects(s, shape, &clocks, out, effects_at)
-}
-
-// The length is known before anything is written: a first pass goes into a buffer of no use.
-fn twin_length(s: &[u8], shape: Shape) -> usize
-    requires { ⌜ Accepted (now s) shape ⌝ }
-    ensures { λ r. ⌜ r ≡ length (twinBytes (now (s .entry))) ⌝ }
-{
-    let mut unused = [0u8; 1];
-    put_twin(s, shape, &mut unused)
 }
 
 // No twin is longer than 232,576 bytes; a buffer that has them needs no first pass.

@@ -10,7 +10,7 @@ ghost use Rattle.model.specs.AutomataTable.{writeCause, writeGuard};
 ghost use Rattle.model.specs.Translation.{size, states, causeOf, literal, above, literalsOf, idleLiterals};
 ghost use Rattle.chart_files.specs.Parts.{guardFor};
 ghost use Rattle.charts.specs.Accepted.{Accepted};
-ghost use Rattle.charts.specs.Tables.{HasRows, named};
+ghost use Rattle.charts.specs.Tables.{HasRows, HasEnds, named};
 ghost use Rattle.translation.specs.Tables.{HasClocks};
 ghost use Rattle.translation.specs.Texts.{recordText, literalTexts, Puts};
 use super::writing::literal_bytes;
@@ -147,17 +147,19 @@ pub fn put_idle_literals(
     shape: Shape,
     clocks: &[u16; 256],
     rows: &[[u16; 16]; 128],
+    ends: &[u8; 128],
     out: &mut [u8],
     at: usize,
 ) -> usize
-    requires { ⌜ Accepted (now s) shape × HasClocks (readCharts (now s)) (now clocks) × HasRows (readCharts (now s)) (now rows) × (at < 2 ^ 60) ⌝ }
+    requires { ⌜ Accepted (now s) shape × HasClocks (readCharts (now s)) (now clocks) × HasRows (readCharts (now s)) (now rows) × HasEnds (now rows) (now ends) × (at < 2 ^ 60) ⌝ }
     ensures { λ r. ⌜ Puts (now (out .entry)) at (gather (λ st. literalTexts (size (readCharts (now (s .entry))) + st) (idleLiterals (readCharts (now (s .entry))) st)) (upto (states (readCharts (now (s .entry)))))) (now (out .exit)) r (2 ^ 40) ⌝ }
 {
     let mut next = at;
     let mut state: u16 = 0;
     while state < shape.states {
         let edge = shape.transitions + state;
-        next = put_negations(s, shape, clocks, rows, out, next, edge, state, 16);
+        let end = ends[state as usize] as usize;
+        next = put_negations(s, shape, clocks, rows, out, next, edge, state, end);
         state += 1;
     }
     next

@@ -26,37 +26,37 @@ put-literals-requires c κs =
 
 put-idle-literals-requires : tie.Need-put-idle-literals-requires
 put-idle-literals-requires c κs =
-    let entry = c .before .before .before .before .before .before .before .before .before .before .before .before in
-    (entry .pre .0, entry .pre .1, c .before .before .before .before .before .before .before .fill-rows .ensures .0, omega (arith, entry .pre .2, c .before .before .before .before .put-literals .ensures .near))
+    let entry = c .before .before .before .before .before .before .before .before .before .before .before .before .before in
+    (entry .pre .0, entry .pre .1, c .before .before .before .before .before .before .before .before .fill-rows .ensures .0, c .before .before .before .before .before .before .before .before .fill-rows .ensures .1, omega (arith, entry .pre .2, c .before .before .before .before .before .put-literals .ensures .near))
 
 put-clocks-requires : tie.Need-put-clocks-requires
 put-clocks-requires c κs =
-    let entry = c .before .before .before .before .before .before .before .before .before .before .before .before .before .before .before .before in
-    (entry .pre .0 .shape, omega (arith, entry .pre .2, c .before .before .before .before .before .before .before .before .put-literals .ensures .near, c .before .before .before .put-idle-literals .ensures .near))
+    let entry = c .before .before .before .before .before .before .before .before .before .before .before .before .before .before .before .before .before in
+    (entry .pre .0 .shape, omega (arith, entry .pre .2, c .before .before .before .before .before .before .before .before .before .put-literals .ensures .near, c .before .before .before .put-idle-literals .ensures .near))
 
 put-variables-requires : tie.Need-put-variables-requires
 put-variables-requires c κs =
-    let entry = c .before .before .before .before .before .before .before .before .before .before .before .before .before .before .before .before .before .before .before .before in
-    (entry .pre .0 .shape, omega (arith, entry .pre .2, c .before .before .before .before .before .before .before .before .before .before .before .before .put-literals .ensures .near, c .before .before .before .before .before .before .before .put-idle-literals .ensures .near, c .before .before .before .put-clocks .ensures .near))
+    let entry = c .before .before .before .before .before .before .before .before .before .before .before .before .before .before .before .before .before .before .before .before .before in
+    (entry .pre .0 .shape, omega (arith, entry .pre .2, c .before .before .before .before .before .before .before .before .before .before .before .before .before .put-literals .ensures .near, c .before .before .before .before .before .before .before .put-idle-literals .ensures .near, c .before .before .before .put-clocks .ensures .near))
 
 put-nodes-requires : tie.Need-put-nodes-requires
 put-nodes-requires c κs =
-    let entry = c .before .before .before .before .before .before .before .before .before .before .before .before .before .before .before .before .before .before .before .before .before .before .before .before in
-    (entry .pre .0 .shape, omega (arith, entry .pre .2, c .before .before .before .before .before .before .before .before .before .before .before .before .before .before .before .before .put-literals .ensures .near, c .before .before .before .before .before .before .before .before .before .before .before .put-idle-literals .ensures .near, c .before .before .before .before .before .before .before .put-clocks .ensures .near, c .before .before .before .put-variables .ensures .near))
+    let entry = c .before .before .before .before .before .before .before .before .before .before .before .before .before .before .before .before .before .before .before .before .before .before .before .before .before in
+    (entry .pre .0 .shape, omega (arith, entry .pre .2, c .before .before .before .before .before .before .before .before .before .before .before .before .before .before .before .before .before .put-literals .ensures .near, c .before .before .before .before .before .before .before .before .before .before .before .put-idle-literals .ensures .near, c .before .before .before .before .before .before .before .put-clocks .ensures .near, c .before .before .before .put-variables .ensures .near))
 
 same-length : tie.Need-same-length
 same-length c = search needs
 
 returns : tie.Need-returns
 returns c =
-    let entry = c .before .before .before .before .before .before .before .before .before .before .before .before .before .before .before .before .before .before .before .before .before .before .before .before .before .before .before in
+    let entry = c .before .before .before .before .before .before .before .before .before .before .before .before .before .before .before .before .before .before .before .before .before .before .before .before .before .before .before .before in
     let cs = readCharts (now (entry .args .s)) in
     puts-as _
     (ap (λ l. l ++ section 37 (map writeClock (gather (λ x. clocksOf (x .trigger)) (cs .transitions))) ++ section 38 (map writeVariable (cs .variables)) ++ section 39 (map writeNode (cs .nodes)))
     (sym (owned-text cs 36 writeLiteral (literalsOf cs) (idleLiterals cs))))
     (puts-then (2 ^ 43) (omega arith)
     (puts-then (2 ^ 42) (omega arith)
-    (puts-then (3 * 2 ^ 40) (omega arith) (puts-then (2 ^ 41) (omega arith) (c .before .before .before .before .before .before .before .before .before .before .before .before .before .before .before .before .before .before .before .put-literals .ensures) (c .before .before .before .before .before .before .before .before .before .before .before .before .before .before .put-idle-literals .ensures)) (c .before .before .before .before .before .before .before .before .before .before .put-clocks .ensures))
+    (puts-then (3 * 2 ^ 40) (omega arith) (puts-then (2 ^ 41) (omega arith) (c .before .before .before .before .before .before .before .before .before .before .before .before .before .before .before .before .before .before .before .before .put-literals .ensures) (c .before .before .before .before .before .before .before .before .before .before .before .before .before .before .put-idle-literals .ensures)) (c .before .before .before .before .before .before .before .before .before .before .put-clocks .ensures))
     (c .before .before .before .before .before .before .put-variables .ensures))
     (c .before .before .put-nodes .ensures))
 
