@@ -12,8 +12,8 @@ use super::writing::edge_bytes;
 use super::writing::put_record;
 use chart_files::Shape;
 use chart_files::fields::home_of;
-use chart_files::fields::source_of;
-use chart_files::fields::target_of;
+use charts::transitions::source_of;
+use charts::transitions::target_of;
 
 fn edge_record(s: &[u8], shape: Shape, t: u16) -> [u8; 16]
     requires { ⌜ Accepted (now s) shape × (t < shape .transitions) ⌝ }

@@ -20,8 +20,8 @@ use chart_files::fields::Guard;
 use chart_files::fields::Trigger;
 use chart_files::fields::guard_of;
 use chart_files::fields::priority_of;
-use chart_files::fields::source_of;
 use chart_files::fields::trigger_of;
+use charts::transitions::source_of;
 
 fn guard_number(guard: Guard) -> u16
     ensures { λ r. ⌜ bytes2 r ≡ writeGuard (guardFor guard) ⌝ }

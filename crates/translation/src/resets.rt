@@ -14,9 +14,9 @@ use super::writing::put_record;
 use super::writing::reset_bytes;
 use chart_files::Shape;
 use chart_files::fields::Trigger;
-use chart_files::fields::source_of;
-use chart_files::fields::target_of;
 use chart_files::fields::trigger_of;
+use charts::transitions::source_of;
+use charts::transitions::target_of;
 
 // Of each state its first leaving transition, and of each transition the next that leaves the same state; 65535 is none. From the last transition down,
 // so that each finds the one behind it.

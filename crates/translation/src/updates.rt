@@ -16,8 +16,8 @@ use super::writing::update_bytes;
 use chart_files::Shape;
 use chart_files::fields::Deed;
 use chart_files::fields::deed_of;
-use chart_files::fields::source_of;
-use chart_files::fields::target_of;
+use charts::transitions::source_of;
+use charts::transitions::target_of;
 
 fn update_record(edge: u16, deed: Deed) -> [u8; 16]
     ensures { λ r. ⌜ r ≡ recordText 40 (writeDeed edge (deedFor deed)) ⌝ }
