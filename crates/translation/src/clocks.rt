@@ -11,11 +11,11 @@ ghost use Rattle.chart_files.specs.Parts.{triggerFor};
 ghost use Rattle.chart_files.specs.Shape.{IsShape};
 ghost use Rattle.translation.specs.Tables.{HasClocks};
 ghost use Rattle.translation.specs.Texts.{section, Puts};
+use super::fields::trigger_of;
 use super::writing::clock_bytes;
 use super::writing::put_record;
 use chart_files::Shape;
 use chart_files::fields::Trigger;
-use chart_files::fields::trigger_of;
 use charts::triggers::ticks;
 
 // A timing trigger has one.

@@ -12,6 +12,7 @@ ghost use Rattle.translation.specs.Answer.{translatedOf};
 
 pub mod clocks;
 pub mod edges;
+pub mod fields;
 pub mod lengths;
 pub mod literals;
 pub mod resets;

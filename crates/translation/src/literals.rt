@@ -13,14 +13,14 @@ ghost use Rattle.charts.specs.Accepted.{Accepted};
 ghost use Rattle.charts.specs.Tables.{HasRows, HasEnds, named};
 ghost use Rattle.translation.specs.Tables.{HasClocks};
 ghost use Rattle.translation.specs.Texts.{recordText, literalTexts, Puts};
+use super::fields::guard_of;
+use super::fields::priority_of;
+use super::fields::trigger_of;
 use super::writing::literal_bytes;
 use super::writing::put_record;
 use chart_files::Shape;
 use chart_files::fields::Guard;
 use chart_files::fields::Trigger;
-use chart_files::fields::guard_of;
-use chart_files::fields::priority_of;
-use chart_files::fields::trigger_of;
 use charts::transitions::source_of;
 
 fn guard_number(guard: Guard) -> u16

@@ -10,11 +10,11 @@ ghost use Rattle.chart_files.specs.Parts.{triggerFor};
 ghost use Rattle.charts.specs.Accepted.{Accepted};
 ghost use Rattle.translation.specs.Tables.{HasClocks, HasLeaving};
 ghost use Rattle.translation.specs.Texts.{resetTexts, Puts};
+use super::fields::trigger_of;
 use super::writing::put_record;
 use super::writing::reset_bytes;
 use chart_files::Shape;
 use chart_files::fields::Trigger;
-use chart_files::fields::trigger_of;
 use charts::transitions::source_of;
 use charts::transitions::target_of;
 

@@ -11,11 +11,11 @@ ghost use Rattle.chart_files.specs.Places.{actionAt};
 ghost use Rattle.charts.specs.Accepted.{Accepted};
 ghost use Rattle.charts.specs.Tables.{keyed, HasActions};
 ghost use Rattle.translation.specs.Texts.{recordText, updateTexts, Puts};
+use super::fields::deed_of;
 use super::writing::put_record;
 use super::writing::update_bytes;
 use chart_files::Shape;
 use chart_files::fields::Deed;
-use chart_files::fields::deed_of;
 use charts::transitions::source_of;
 use charts::transitions::target_of;
 

@@ -68,7 +68,7 @@ element-copy-out-clock : tie.Need-element-copy-out-clock Inv-loop μ-loop
 element-copy-out-clock c = omega (arith, inside c .1)
 
 trigger-of-requires : tie.Need-trigger-of-requires Inv-loop μ-loop
-trigger-of-requires c κs = search needs
+trigger-of-requires c κs = (c .before .before .before .before .before .before .pre .0 .shape, inside (c .before) .0)
 
 put-reset-requires : tie.Need-put-reset-requires Inv-loop μ-loop
 put-reset-requires c κs =

@@ -49,7 +49,7 @@ inside c =
     omega (arith, c .before .loop .inv .at-hand .known (c .loop-test .taken) .0, most-actions (now (x .s)) (x .shape) (entry .pre .0 .shape))
 
 deed-of-requires : tie.Need-deed-of-requires Inv-loop μ-loop
-deed-of-requires c κs = search needs
+deed-of-requires c κs = (c .before .before .before .before .before .pre .0 .shape, c .before .loop .inv .at-hand .known (c .loop-test .taken) .0)
 
 update-record-requires : tie.Need-update-record-requires Inv-loop μ-loop
 update-record-requires c κs = search needs
