@@ -6,6 +6,7 @@ pub mod Joined
 pub mod TableLaws
 pub mod OpenLaws
 pub mod StepLaws
+pub mod AllRead
 pub mod Clocks
 pub mod Kept
 pub mod Turning

@@ -3,7 +3,7 @@ use mathlib.Core.Path.{_≡_, refl, sym, ap, _∙_, subst}
 use mathlib.Core.Logic.{inl, inr, ⊎-elim}
 use mathlib.Core.Bool.{Bool, true, false, cond}
 use mathlib.Core.List.{List}
-use Prim.Native.Nat.{ℕ, _+_, _-_, _≤_, _<_}
+use Prim.Native.Nat.{ℕ, _+_, _*_, _-_, _≤_, _<_}
 use native.Mathlib.Omega.{arith}
 use lib.Dec.{eqb}
 use lib.ListN.{length, getD, set, replicate, length-set, length-replicate, getD-replicate}
@@ -78,12 +78,12 @@ module _ (s : List ℕ) (start end base owners : ℕ) (first₀ next₀ : List �
 
 -- ---- one kind after the other
 
-pub blank : Blank (replicate {A = ℕ} 1280 65535)
-blank = record { keys = length-replicate {A = ℕ} 1280 65535; vacant = λ j a b. getD-replicate {A = ℕ} 1280 j 65535 0 b }
+pub blank : Blank (replicate {A = ℕ} 896 65535)
+blank = record { keys = length-replicate {A = ℕ} 896 65535; vacant = λ j a b. getD-replicate {A = ℕ} 896 j 65535 0 b }
 
-pub linkable : (s : List ℕ) (sp : Span) (first next : List ℕ) → length first ≡ 1280 → sp .start ≤ sp .end → sp .end ≤ 14536 → sp .end ≤ length next → sp .base + sp .owners ≤ 1280 →
+pub linkable : (s : List ℕ) (sp : Span) (first next : List ℕ) → length first ≡ 896 → sp .start ≤ sp .end → sp .end ≤ 14536 → sp .end ≤ length next → 16 * sp .end ≤ length s → sp .base + sp .owners ≤ 896 →
     ((n : ℕ) → sp .start ≤ n → n < sp .end → ownerIn s n < sp .owners) → Vacant (sp .base) first → Linkable s sp first next
-linkable s sp first next k a b l c own v = record { keys = k; ordered = a; space = (b, l); room = c; own = own; empty = λ o h. v (sp .base + o) (omega arith) (omega arith) }
+linkable s sp first next k a b l f c own v = record { keys = k; ordered = a; space = (b, l); read = f; room = c; own = own; empty = λ o h. v (sp .base + o) (omega arith) (omega arith) }
 
 module _ {s : List ℕ} {sp : Span} {first next first′ next′ : List ℕ} (links : Links s sp first next first′ next′) where
   -- a kind that stands before stays linked

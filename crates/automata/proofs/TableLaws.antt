@@ -1,12 +1,12 @@
 -- A table's records, as the index has them: what an edge has, and what they name. Assumes nothing.
 use mathlib.Core.Path.{_≡_, refl, ap, _∙_}
-use mathlib.Core.Bool.{Bool, false, _&&_}
+use mathlib.Core.Bool.{Bool, true, false, _&&_}
 use mathlib.Core.List.{List, [], _∷_, map}
 use Prim.Native.Nat.{ℕ, _+_, _-_, _≤_, _<_}
 use native.Mathlib.Omega.{arith}
-use lib.Dec.{eqb}
+use lib.Dec.{eqb, ltb}
 use lib.ListN.{length, replicate, length-replicate}
-use borrow.Author.Tests.{ne-eqb}
+use borrow.Author.Tests.{ne-eqb, ltb-true, ltb-false}
 use Rattle.records.specs.Lists.{keep, from, upto}
 use Rattle.model.specs.Owned.{of}
 use Rattle.model.specs.AutomataTable.{readAutomata, edge}
@@ -18,8 +18,8 @@ use Rattle.automata_files.specs.Places.{firstEdge, firstLiteral, firstClock, fi
 use Rattle.automata_files.specs.Known.{CauseKnown, DeedKnown}
 use Rattle.automata_files.proofs.Readings.{inside, most-automata, most-locations, most-edges, most-literals, most-clocks, most-variables, most-nodes, most-updates, most-resets, length-edges, literals-are, updates-are, resets-are, edge-is}
 use Rattle.automata_files.proofs.Sound.{source-known, literal-edge-known, literal-cause-known, update-edge-known, update-deed-known, reset-edge-known, reset-clock-known}
-use Rattle.automata.specs.Accepted.{Accepted, InFile}
-use Rattle.automata.specs.Index.{ownerIn, owned, FewRecords, RoomFor}
+use Rattle.automata.specs.Accepted.{Accepted, InFile, FewRecords}
+use Rattle.automata.specs.Index.{ownerIn, owned, RoomFor}
 use Rattle.automata.proofs.Joined.{of-owner, of-source}
 
 abbrev pub ownEdge : List ℕ → ℕ → ℕ → Bool
@@ -34,12 +34,12 @@ module _ (s : List ℕ) (sh : Shape) (is : IsShape s sh) where
   pub in-file : (n : ℕ) → n < firstReset sh + sh .resets → InFile s n
   in-file n h = omega (arith, h, inside s sh is)
 
-  -- an index that is long enough: 512 places for a short file, and what any table needs
-  pub room-short : length s ≤ 8192 → RoomFor sh (replicate {A = ℕ} 512 65535)
-  room-short h = omega (arith, h, inside s sh is, length-replicate {A = ℕ} 512 65535)
+  -- an index that is long enough: 1,024 places for a short file, and what any table needs
+  pub room-short : length s ≤ 16384 → RoomFor sh (replicate {A = ℕ} 1024 65535)
+  room-short h = omega (arith, h, inside s sh is, length-replicate {A = ℕ} 1024 65535)
 
-  pub room-long : RoomFor sh (replicate {A = ℕ} 14536 65535)
-  room-long = omega (arith, few-records, length-replicate {A = ℕ} 14536 65535)
+  pub room-long : RoomFor sh (replicate {A = ℕ} 14536 14536)
+  room-long = omega (arith, few-records, length-replicate {A = ℕ} 14536 14536)
 
   -- ---- what an edge has, record by record
 
@@ -108,6 +108,14 @@ module _ (s : List ℕ) (sh : Shape) (ok : Accepted s sh) (n : ℕ) where
 
     pub reset-at : resetAt s sh (n - firstReset sh) ≡ resetIn s n
     reset-at = ap (resetIn s) reset-here
+
+  -- of updates and resets alike
+  pub effect-in : firstUpdate sh ≤ n → n < firstReset sh + sh .resets → ownerIn s n < sh .edges
+  effect-in a b = go (ltb n (firstReset sh)) refl
+    where
+      go : (t : Bool) → ltb n (firstReset sh) ≡ t → ownerIn s n < sh .edges
+      go true d = update-in a (ltb-true n (firstReset sh) d)
+      go false d = reset-in (ltb-false n (firstReset sh) d) b
 
 -- ---- a location that the table does not have is left by no edge
 

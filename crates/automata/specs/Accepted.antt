@@ -7,6 +7,7 @@ use lib.ListN.{length}
 use Rattle.model.specs.AutomataFile.{automataRefusal}
 use Rattle.automata_files.specs.declared.Shape.{Shape}
 use Rattle.automata_files.specs.Shape.{IsShape}
+use Rattle.automata_files.specs.Places.{firstReset}
 
 pub record Accepted (s : List ℕ) (sh : Shape) : Type 0 where
   pub shape : IsShape s sh
@@ -15,3 +16,7 @@ pub record Accepted (s : List ℕ) (sh : Shape) : Type 0 where
 -- record n lies in the file
 abbrev pub InFile : List ℕ → ℕ → Type 0
 InFile s n = 16 * n + 16 ≤ length s
+
+-- no more records than the longest table has
+abbrev pub FewRecords : Shape → Type 0
+FewRecords sh = firstReset sh + sh .resets ≤ 14536

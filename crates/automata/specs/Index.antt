@@ -19,25 +19,23 @@ ownerIn s n = two s (16 * n + 2)
 abbrev pub owned : List ℕ → ℕ → ℕ → Bool
 owned s o n = eqb (ownerIn s n) o
 
--- Of the records from `start` up to `end`: of each owner the first, at the owner's key, `base` and its number; of each record the next of its owner.
--- 65,535 is none.
+-- Of the records from `start` up to `end` each names the next of its owner; 65,535 is none.
+abbrev pub NextOf : List ℕ → ℕ → ℕ → List ℕ → Type 0
+NextOf s start end next = (n : ℕ) → start ≤ n → n < end → getD next n 0 ≡ earliest (owned s (ownerIn s n)) (n + 1) (end - (n + 1))
+
+-- And of each owner the first is named at the owner's key, `base` and its number.
 pub record Linked (s : List ℕ) (start end base owners : ℕ) (first next : List ℕ) : Type 0 where
   pub first-of : (o : ℕ) → o < owners → getD first (base + o) 0 ≡ earliest (owned s o) start (end - start)
-  pub next-of : (n : ℕ) → start ≤ n → n < end → getD next n 0 ≡ earliest (owned s (ownerIn s n)) (n + 1) (end - (n + 1))
+  pub next-of : NextOf s start end next
 
--- Edges by their source, literals, updates and resets by their edge: keys from 0, 128, 512 and 896 on.
+-- Edges by their source, literals by their edge, and in one chain updates and then resets by their edge: keys from 0, 128 and 512 on.
 pub record HasIndex (s : List ℕ) (sh : Shape) (first next : List ℕ) : Type 0 where
   pub edges : Linked s (firstEdge sh) (firstLiteral sh) 0 128 first next
   pub literals : Linked s (firstLiteral sh) (firstClock sh) 128 384 first next
-  pub updates : Linked s (firstUpdate sh) (firstReset sh) 512 384 first next
-  pub resets : Linked s (firstReset sh) (firstReset sh + sh .resets) 896 384 first next
+  pub effects : Linked s (firstUpdate sh) (firstReset sh + sh .resets) 512 384 first next
   pub places : firstReset sh + sh .resets ≤ length next
 
 -- ---- while it is built
-
--- no more records than the longest table has
-abbrev pub FewRecords : Shape → Type 0
-FewRecords sh = firstReset sh + sh .resets ≤ 14536
 
 -- a place for each record
 abbrev pub RoomFor : Shape → List ℕ → Type 0
@@ -45,23 +43,24 @@ RoomFor sh next = firstReset sh + sh .resets ≤ length next
 
 -- from a key on nothing is named
 abbrev pub Vacant : ℕ → List ℕ → Type 0
-Vacant k first = (j : ℕ) → k ≤ j → j < 1280 → getD first j 0 ≡ 65535
+Vacant k first = (j : ℕ) → k ≤ j → j < 896 → getD first j 0 ≡ 65535
 
 -- a key for each owner, and nothing named
 pub record Blank (first : List ℕ) : Type 0 where
-  pub keys : length first ≡ 1280
+  pub keys : length first ≡ 896
   pub vacant : Vacant 0 first
 
 -- outside some places
 abbrev pub Apart : ℕ → ℕ → ℕ → Type 0
 Apart lo hi k = (k < lo) ⊎ (hi ≤ k)
 
--- a kind that can be linked: its records and keys have room, its records' owners have keys, and nothing is named there yet
+-- a kind that can be linked: its records and keys have room, the records lie in the file, their owners have keys, and nothing is named there yet
 pub record Linkable (s : List ℕ) (sp : Span) (first next : List ℕ) : Type 0 where
-  pub keys : length first ≡ 1280
+  pub keys : length first ≡ 896
   pub ordered : sp .start ≤ sp .end
   pub space : (sp .end ≤ 14536) × (sp .end ≤ length next)
-  pub room : sp .base + sp .owners ≤ 1280
+  pub read : 16 * sp .end ≤ length s
+  pub room : sp .base + sp .owners ≤ 896
   pub own : (n : ℕ) → sp .start ≤ n → n < sp .end → ownerIn s n < sp .owners
   pub empty : (o : ℕ) → o < sp .owners → getD first (sp .base + o) 0 ≡ 65535
 

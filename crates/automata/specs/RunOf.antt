@@ -1,7 +1,7 @@
 -- The code's run as the model's. Its arrays have 8, 256 and 64 places by their types, as the model's check 12 asks of a lent run. Assumes nothing: these
 -- are definitions.
 use mathlib.Core.Path.{_≡_}
-use mathlib.Core.Bool.{cond}
+use mathlib.Core.Bool.{Bool, cond}
 use mathlib.Core.List.{List}
 use Prim.Native.Nat.{ℕ, _+_, _≤_, _<_, min}
 use lib.Dec.{eqb, ltb}
@@ -24,6 +24,10 @@ runIn at clocks vars events position cycles = record {
 
 abbrev pub runOf : declared-run.Run → Run
 runOf r = runIn (r .locations) (r .clocks) (r .variables) (r .events) (r .position) (r .cycles)
+
+-- a clock's timing, by whether it is an after-clock
+abbrev pub timingIf : Bool → Timing
+timingIf b = cond b after every
 
 -- clock k's top, and what a place of a run's clocks has after time passed, as the file's bytes say
 abbrev pub topAt : List ℕ → Shape → ℕ → ℕ

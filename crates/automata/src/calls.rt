@@ -46,7 +46,7 @@ fn turn_indexed(s: &[u8], shape: Shape, next: &mut [u16], run: Run, events: u32)
     requires { ⌜ RoomFor shape (now next) ⌝ }
     ensures { λ r. ⌜ turnOf r ≡ settled (runOf run) (model-turn (machine (readAutomata (now (s .entry)))) events (runOf run)) ⌝ }
 {
-    let mut first = [65535u16; 1280];
+    let mut first = [65535u16; 896];
     index_of(s, shape, &mut first, next);
     turn_of(s, shape, &first, next, run, events)
 }
@@ -57,11 +57,11 @@ pub fn call_turn(s: &[u8], run: Run, events: u32) -> Turned
     match check(s) {
         Checked::Refused => unready(run, Refusal::File),
         Checked::Accepted(shape) => {
-            if s.len() <= 8192 {
-                let mut next = [65535u16; 512];
+            if s.len() <= 16384 {
+                let mut next = [65535u16; 1024];
                 turn_indexed(s, shape, &mut next, run, events)
             } else {
-                let mut next = [65535u16; 14536];
+                let mut next = [14536u16; 14536];
                 turn_indexed(s, shape, &mut next, run, events)
             }
         }
@@ -74,7 +74,7 @@ fn cycle_indexed(s: &[u8], shape: Shape, next: &mut [u16], run: Run, events: u32
     requires { ⌜ RoomFor shape (now next) ⌝ }
     ensures { λ r. ⌜ calledOf r ≡ settled (runOf run) (model-cycle (machine (readAutomata (now (s .entry)))) events (runOf run)) ⌝ }
 {
-    let mut first = [65535u16; 1280];
+    let mut first = [65535u16; 896];
     index_of(s, shape, &mut first, next);
     cycle_of(s, shape, &first, next, run, events)
 }
@@ -85,11 +85,11 @@ pub fn call_cycle(s: &[u8], run: Run, events: u32) -> Called
     match check(s) {
         Checked::Refused => undone(run, Refusal::File),
         Checked::Accepted(shape) => {
-            if s.len() <= 8192 {
-                let mut next = [65535u16; 512];
+            if s.len() <= 16384 {
+                let mut next = [65535u16; 1024];
                 cycle_indexed(s, shape, &mut next, run, events)
             } else {
-                let mut next = [65535u16; 14536];
+                let mut next = [14536u16; 14536];
                 cycle_indexed(s, shape, &mut next, run, events)
             }
         }

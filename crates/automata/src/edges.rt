@@ -11,11 +11,11 @@ ghost use Rattle.automata_files.specs.Places.{edgeAt};
 ghost use Rattle.automata.specs.Accepted.{Accepted};
 ghost use Rattle.automata.specs.Index.{HasIndex};
 ghost use Rattle.automata.specs.StepOf.{reasonOf, bareRun, edgeOpen, tallyOf, oneOpen, countedOf, theOpen, choiceOf, TallyIn, CountedIn, ChoiceIn};
-use super::index::first_edge;
+use super::fields::automaton_of;
+use super::fields::first_edge;
 use super::literals::literal_holds;
 use super::steps::Reason;
 use automata_files::Shape;
-use automata_files::fields::automaton_of;
 use expressions::arithmetic::Truth;
 
 // What the edges read so far come to.
@@ -48,7 +48,7 @@ fn read_fault(w: expressions::arithmetic::Reason) -> Reason
 fn edge_open(
     s: &[u8],
     shape: Shape,
-    first: &[u16; 1280],
+    first: &[u16; 896],
     next: &[u16],
     clocks: &[u16; 256],
     vars: &[i16; 64],
@@ -90,7 +90,7 @@ fn with_open(tally: Tally, e: u16) -> Tally
 fn count_edge(
     s: &[u8],
     shape: Shape,
-    first: &[u16; 1280],
+    first: &[u16; 896],
     next: &[u16],
     clocks: &[u16; 256],
     vars: &[i16; 64],
@@ -134,7 +134,7 @@ fn choice_for(tally: Tally) -> Choice
 pub fn open_edge(
     s: &[u8],
     shape: Shape,
-    first: &[u16; 1280],
+    first: &[u16; 896],
     next: &[u16],
     clocks: &[u16; 256],
     vars: &[i16; 64],

@@ -25,7 +25,7 @@ use automata_files::Shape;
 pub fn turn_lent(
     s: &[u8],
     shape: Shape,
-    first: &[u16; 1280],
+    first: &[u16; 896],
     next: &[u16; 14536],
     run: &mut Run,
     events: u32,
@@ -43,7 +43,7 @@ pub fn turn_lent(
 pub fn cycle_lent(
     s: &[u8],
     shape: Shape,
-    first: &[u16; 1280],
+    first: &[u16; 896],
     next: &[u16; 14536],
     run: &mut Run,
     events: u32,

@@ -74,7 +74,7 @@ fn rest_at(
 fn rest_played(
     s: &[u8],
     shape: Shape,
-    first: &[u16; 1280],
+    first: &[u16; 896],
     next: &[u16],
     run: Run,
     masks: &[u32],
@@ -125,7 +125,7 @@ fn rest_played(
 pub fn cycles_played(
     s: &[u8],
     shape: Shape,
-    first: &[u16; 1280],
+    first: &[u16; 896],
     next: &[u16],
     run: Run,
     masks: &[u32],
@@ -168,7 +168,7 @@ fn play_indexed(s: &[u8], shape: Shape, next: &mut [u16], run: Run, masks: &[u32
     requires { ⌜ RoomFor shape (now next) ⌝ }
     ensures { λ r. ⌜ playedOf r ≡ settled (runOf run) (playing (machine (readAutomata (now (s .entry)))) (now (masks .entry)) (runOf run)) ⌝ }
 {
-    let mut first = [65535u16; 1280];
+    let mut first = [65535u16; 896];
     index_of(s, shape, &mut first, next);
     cycles_played(s, shape, &first, next, run, masks)
 }
@@ -180,11 +180,11 @@ pub fn play(s: &[u8], run: Run, masks: &[u32]) -> Played
     match check(s) {
         Checked::Refused => unplayed(run, Refusal::File),
         Checked::Accepted(shape) => {
-            if s.len() <= 8192 {
-                let mut next = [65535u16; 512];
+            if s.len() <= 16384 {
+                let mut next = [65535u16; 1024];
                 play_indexed(s, shape, &mut next, run, masks)
             } else {
-                let mut next = [65535u16; 14536];
+                let mut next = [14536u16; 14536];
                 play_indexed(s, shape, &mut next, run, masks)
             }
         }

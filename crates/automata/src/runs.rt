@@ -9,15 +9,13 @@ ghost use Rattle.model.specs.AutomataTable.{readAutomata};
 ghost use Rattle.model.specs.Automata.{automata as machine, top, grown};
 ghost use Rattle.automata_files.specs.Shape.{IsShape};
 ghost use Rattle.automata_files.specs.Places.{clockAt};
-ghost use Rattle.automata_files.specs.Parts.{timingFor};
 ghost use Rattle.machines.specs.Checks.{zeros, beforeOf};
 ghost use Rattle.automata.specs.Accepted.{Accepted};
-ghost use Rattle.automata.specs.RunOf.{runOf, topAt, grownAt, Low, turnFor, capFor, grownTo, HasLimits};
+ghost use Rattle.automata.specs.RunOf.{runOf, timingIf, topAt, grownAt, Low, turnFor, capFor, grownTo, HasLimits};
+use super::fields::is_after;
+use super::fields::ticks_of;
 use super::values::values_of;
 use automata_files::Shape;
-use automata_files::fields::Timing;
-use automata_files::fields::ticks_of;
-use automata_files::fields::timing_of;
 use machines::checks::Before;
 use machines::checks::decide;
 use machines::checks::initial_places;
@@ -55,48 +53,50 @@ pub fn start(s: &[u8], shape: Shape) -> Run
 }
 
 // An after-clock's top is one more than its ticks, an every-clock's is its ticks.
-fn top(timing: Timing, ticks: u16) -> u32
-    ensures { λ r. ⌜ r ≡ top (timingFor timing) ticks ⌝ }
+fn top(after: bool, ticks: u16) -> u32
+    ensures { λ r. ⌜ r ≡ top (timingIf after) ticks ⌝ }
 {
-    match timing {
-        Timing::After => (ticks as u32) + 1,
-        Timing::Every => ticks as u32,
+    if after {
+        (ticks as u32) + 1
+    } else {
+        ticks as u32
     }
 }
 
 fn clock_possible(s: &[u8], shape: Shape, k: u16, x: u16) -> bool
+    requires { ⌜ IsShape (now s) shape × (k < shape .clocks) ⌝ }
     ensures { λ r. ⌜ r ≡ leb x (topAt (now (s .entry)) shape k) ⌝ }
 {
-    (x as u32) <= top(timing_of(s, shape, k), ticks_of(s, shape, k))
+    (x as u32) <= top(is_after(s, shape, k), ticks_of(s, shape, k))
 }
 
-// No clock is over its top.
-fn clocks_possible(s: &[u8], shape: Shape, clocks: [u16; 256]) -> bool
-    requires { ⌜ shape .clocks ≤ 256 ⌝ }
-    ensures { λ r. ⌜ r ≡ all (λ k. leb (getD clocks k 0) (topAt (now (s .entry)) shape k)) (upto (shape .clocks)) ⌝ }
+// No clock is over its top. All are read, without a way out of the loop.
+fn clocks_possible(s: &[u8], shape: Shape, clocks: &[u16; 256]) -> bool
+    requires { ⌜ IsShape (now s) shape ⌝ }
+    ensures { λ r. ⌜ r ≡ all (λ k. leb (getD (now (clocks .entry)) k 0) (topAt (now (s .entry)) shape k)) (upto (shape .clocks)) ⌝ }
 {
+    let mut possible = true;
     let mut k: u16 = 0;
     while k < shape.clocks {
         let i = k as usize;
-        if !clock_possible(s, shape, k, clocks[i]) {
-            return false;
-        }
+        possible = possible & clock_possible(s, shape, k, clocks[i]);
         k += 1;
     }
-    true
+    possible
 }
 
-fn clocks_unused(count: u16, clocks: [u16; 256]) -> bool
-    ensures { λ r. ⌜ r ≡ zeros count clocks ⌝ }
+// All are read, so that many are compared at once.
+fn clocks_unused(count: u16, clocks: &[u16; 256]) -> bool
+    requires { ⌜ length (now clocks) ≡ 256 ⌝ }
+    ensures { λ r. ⌜ r ≡ zeros count (now (clocks .entry)) ⌝ }
 {
+    let mut unused = true;
     let mut k = count as usize;
     while k < 256 {
-        if clocks[k] != 0 {
-            return false;
-        }
+        unused = unused & (clocks[k] == 0);
         k += 1;
     }
-    true
+    unused
 }
 
 // Whether a run is possible for a table.
@@ -119,7 +119,7 @@ fn is_possible(s: &[u8], shape: Shape, run: Run) -> bool
         run.position,
         run.cycles,
     );
-    shared & clocks_possible(s, shape, clocks) & clocks_unused(shape.clocks, clocks)
+    shared & clocks_possible(s, shape, &clocks) & clocks_unused(shape.clocks, &clocks)
 }
 
 // What is checked before a turn, or a cycle.
@@ -142,24 +142,18 @@ pub fn give(mut run: Run, events: u32) -> Run
 }
 
 // Where a clock goes back to 1: an every-clock at its ticks, an after-clock nowhere, as none comes to 65535.
-fn turn_for(timing: Timing, ticks: u16) -> u16
-    ensures { λ r. ⌜ r ≡ turnFor (timingFor timing) ticks ⌝ }
+fn turn_for(after: bool, ticks: u16) -> u16
+    ensures { λ r. ⌜ r ≡ turnFor (timingIf after) ticks ⌝ }
 {
-    match timing {
-        Timing::After => 65535,
-        Timing::Every => ticks,
-    }
+    if after { 65535 } else { ticks }
 }
 
 // The most that a clock grows to: an after-clock's top.
-fn cap_for(timing: Timing, ticks: u16) -> u16
+fn cap_for(after: bool, ticks: u16) -> u16
     requires { ⌜ ticks ≤ 36000 ⌝ }
-    ensures { λ r. ⌜ r ≡ capFor (timingFor timing) ticks ⌝ }
+    ensures { λ r. ⌜ r ≡ capFor (timingIf after) ticks ⌝ }
 {
-    match timing {
-        Timing::After => ticks + 1,
-        Timing::Every => 65535,
-    }
+    if after { ticks + 1 } else { 65535 }
 }
 
 // Of each clock where it turns and where it stops, read once for many cycles.
@@ -171,8 +165,8 @@ pub fn limits_of(s: &[u8], shape: Shape, turn: &mut [u16; 256], cap: &mut [u16; 
     let mut k: u16 = 0;
     while k < shape.clocks {
         let i = k as usize;
-        turn[i] = turn_for(timing_of(s, shape, k), ticks_of(s, shape, k));
-        cap[i] = cap_for(timing_of(s, shape, k), ticks_of(s, shape, k));
+        turn[i] = turn_for(is_after(s, shape, k), ticks_of(s, shape, k));
+        cap[i] = cap_for(is_after(s, shape, k), ticks_of(s, shape, k));
         k += 1;
     }
 }

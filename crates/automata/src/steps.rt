@@ -1,25 +1,27 @@
 // An automaton's turn: the one open edge is taken.
 ghost use mathlib.Core.Path.{_≡_};
-ghost use Prim.Native.Nat.{ℕ, _+_, _≤_, _<_};
+ghost use Prim.Native.Nat.{ℕ, _+_, _-_, _≤_, _<_};
 ghost use lib.ListN.{length};
 ghost use Rattle.model.specs.Owned.{of};
-ghost use Rattle.model.specs.Runs.{deed, deeds};
+ghost use Rattle.model.specs.Runs.{deed};
 ghost use Rattle.model.specs.AutomataTable.{readAutomata};
 ghost use Rattle.model.specs.Automata.{reset, edgeStep};
 ghost use Rattle.automata_files.specs.Places.{firstUpdate, firstReset, updateIn, resetIn};
+ghost use Rattle.machines.specs.Chains.{earliest};
 ghost use Rattle.machines.specs.Worlds as worlds;
 ghost use Rattle.machines.specs.Worlds.{worldIn, worldAfter};
 ghost use Rattle.automata.specs.Accepted.{Accepted};
-ghost use Rattle.automata.specs.Index.{HasIndex};
+ghost use Rattle.automata.specs.Index.{owned, NextOf, HasIndex, RoomFor};
 ghost use Rattle.automata.specs.RunOf.{runIn};
 ghost use Rattle.automata.specs.StepOf.{reasonOf, takeEdge, wentOf};
 use super::edges::Choice;
 use super::edges::open_edge;
 use super::fields::byte_of;
+use super::fields::first_reset;
+use super::fields::target_of;
 use super::fields::two_of;
 use super::values::values_of;
 use automata_files::Shape;
-use automata_files::fields::target_of;
 use machines::deeds::Done;
 use machines::deeds::assign;
 use machines::deeds::raised;
@@ -62,33 +64,6 @@ fn do_update(s: &[u8], shape: Shape, n: u16, vars: &mut [i16; 64], events: u32) 
     assign(s, values_of(shape), x, two_of(s, n, 6), vars, events)
 }
 
-// An edge's updates, in file order, each seeing the last.
-fn do_updates(
-    s: &[u8],
-    shape: Shape,
-    first: &[u16; 1280],
-    next: &[u16],
-    e: u16,
-    vars: &mut [i16; 64],
-    events: u32,
-) -> Done
-    requires { ⌜ Accepted (now s) shape × HasIndex (now s) shape (now first) (now next) × (e < shape .edges) ⌝ }
-    ensures { λ r. ⌜ ((p c : ℕ) → worldAfter r (now (vars .exit)) p c ≡ deeds (readAutomata (now (s .entry)) .nodes) (readAutomata (now (s .entry)) .variables) (of e (readAutomata (now (s .entry)) .updates)) (worldIn (now (vars .entry)) events p c)) ⌝ }
-{
-    let mut raised = events;
-    let mut n = first[(512 + e) as usize];
-    while n != 65535 {
-        match do_update(s, shape, n, vars, raised) {
-            Done::Fault(w) => return Done::Fault(w),
-            Done::Events(x) => {
-                raised = x;
-            }
-        }
-        n = next[n as usize];
-    }
-    Done::Events(raised)
-}
-
 // The clock that record n resets.
 fn clock_of(s: &[u8], shape: Shape, n: u16) -> u16
     requires { ⌜ Accepted (now s) shape × (firstReset shape ≤ n) × (n < firstReset shape + shape .resets) ⌝ }
@@ -97,18 +72,19 @@ fn clock_of(s: &[u8], shape: Shape, n: u16) -> u16
     two_of(s, n, 4)
 }
 
+// An edge's resets, from the record on where they start.
 fn reset_clocks(
     s: &[u8],
     shape: Shape,
-    first: &[u16; 1280],
     next: &[u16],
+    start: u16,
     e: u16,
     clocks: &mut [u16; 256],
 )
-    requires { ⌜ Accepted (now s) shape × HasIndex (now s) shape (now first) (now next) × (e < shape .edges) ⌝ }
+    requires { ⌜ Accepted (now s) shape × NextOf (now s) (firstReset shape) (firstReset shape + shape .resets) (now next) × RoomFor shape (now next) × (start ≡ earliest (owned (now s) e) (firstReset shape) (firstReset shape + shape .resets - firstReset shape)) ⌝ }
     ensures { λ _. ⌜ now (clocks .exit) ≡ reset (of e (readAutomata (now (s .entry)) .resets)) (now (clocks .entry)) ⌝ }
 {
-    let mut n = first[(896 + e) as usize];
+    let mut n = start;
     while n != 65535 {
         let k = clock_of(s, shape, n) as usize;
         clocks[k] = 0;
@@ -116,11 +92,11 @@ fn reset_clocks(
     }
 }
 
-// The updates, then the resets.
+// An edge's updates, in file order, each seeing the last; then its resets, which stand behind them.
 fn take_edge(
     s: &[u8],
     shape: Shape,
-    first: &[u16; 1280],
+    first: &[u16; 896],
     next: &[u16],
     automaton: u16,
     locations: &mut [u16; 8],
@@ -133,22 +109,29 @@ fn take_edge(
     ensures { λ r. ⌜ ((p c : ℕ) → wentOf r (now (locations .exit)) (now (clocks .exit)) (now (vars .exit)) p c ≡ takeEdge (readAutomata (now (s .entry))) automaton (runIn (now (locations .entry)) (now (clocks .entry)) (now (vars .entry)) events p c) e) ⌝ }
     ensures { λ _. ⌜ length (now (clocks .exit)) ≡ length (now (clocks .entry)) ⌝ }
 {
-    match do_updates(s, shape, first, next, e, vars, events) {
-        Done::Fault(w) => Went::Fault(update_fault(w)),
-        Done::Events(raised) => {
-            reset_clocks(s, shape, first, next, e, clocks);
-            let i = automaton as usize;
-            locations[i] = target_of(s, shape, e);
-            Went::Taken(e, raised)
+    let reset = first_reset(shape);
+    let mut raised = events;
+    let mut n = first[(512 + e) as usize];
+    while n < reset {
+        match do_update(s, shape, n, vars, raised) {
+            Done::Fault(w) => return Went::Fault(update_fault(w)),
+            Done::Events(x) => {
+                raised = x;
+            }
         }
+        n = next[n as usize];
     }
+    reset_clocks(s, shape, next, n, e, clocks);
+    let i = automaton as usize;
+    locations[i] = target_of(s, shape, e);
+    Went::Taken(e, raised)
 }
 
 // In place. After a fault the variables are of no use.
 pub fn edge_step(
     s: &[u8],
     shape: Shape,
-    first: &[u16; 1280],
+    first: &[u16; 896],
     next: &[u16],
     automaton: u16,
     locations: &mut [u16; 8],

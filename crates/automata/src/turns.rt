@@ -64,7 +64,7 @@ pub struct Called {
 fn automaton_turn(
     s: &[u8],
     shape: Shape,
-    first: &[u16; 1280],
+    first: &[u16; 896],
     next: &[u16],
     lent: Run,
     run: Run,
@@ -114,7 +114,7 @@ fn automaton_turn(
 fn turn_taken(
     s: &[u8],
     shape: Shape,
-    first: &[u16; 1280],
+    first: &[u16; 896],
     next: &[u16],
     lent: Run,
     run: Run,
@@ -148,7 +148,7 @@ pub fn unready(run: Run, refusal: Refusal) -> Turned
 pub fn turn_of(
     s: &[u8],
     shape: Shape,
-    first: &[u16; 1280],
+    first: &[u16; 896],
     next: &[u16],
     run: Run,
     events: u32,
@@ -170,7 +170,7 @@ pub fn turn_of(
 pub fn turn(
     s: &[u8],
     shape: Shape,
-    first: &[u16; 1280],
+    first: &[u16; 896],
     next: &[u16; 14536],
     run: Run,
     events: u32,
@@ -185,7 +185,7 @@ pub fn turn(
 fn automata_taken(
     s: &[u8],
     shape: Shape,
-    first: &[u16; 1280],
+    first: &[u16; 896],
     next: &[u16],
     locations: &mut [u16; 8],
     clocks: &mut [u16; 256],
@@ -227,7 +227,7 @@ fn automata_taken(
 pub fn cycle_in_place(
     s: &[u8],
     shape: Shape,
-    first: &[u16; 1280],
+    first: &[u16; 896],
     next: &[u16],
     turn: &[u16; 256],
     cap: &[u16; 256],
@@ -277,7 +277,7 @@ pub fn cycle_in_place(
 fn cycle_taken(
     s: &[u8],
     shape: Shape,
-    first: &[u16; 1280],
+    first: &[u16; 896],
     next: &[u16],
     lent: Run,
     run: Run,
@@ -340,7 +340,7 @@ pub fn undone(run: Run, refusal: Refusal) -> Called
 pub fn cycle_of(
     s: &[u8],
     shape: Shape,
-    first: &[u16; 1280],
+    first: &[u16; 896],
     next: &[u16],
     run: Run,
     events: u32,
@@ -362,7 +362,7 @@ pub fn cycle_of(
 pub fn cycle(
     s: &[u8],
     shape: Shape,
-    first: &[u16; 1280],
+    first: &[u16; 896],
     next: &[u16; 14536],
     run: Run,
     events: u32,

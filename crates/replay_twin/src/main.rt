@@ -47,7 +47,7 @@ fn tell_ending(answer: Ending) -> bool {
 fn play_mask(
     s: &[u8],
     shape: Shape,
-    first: &[u16; 1280],
+    first: &[u16; 896],
     next: &[u16; 14536],
     run: Run,
     mask: u32,
@@ -69,7 +69,7 @@ fn play_mask(
     Played { going, run: after }
 }
 
-fn play_next(s: &[u8], shape: Shape, first: &[u16; 1280], next: &[u16; 14536], run: Run) -> Played
+fn play_next(s: &[u8], shape: Shape, first: &[u16; 896], next: &[u16; 14536], run: Run) -> Played
     requires { ⌜ Known (now s) shape (now first) (now next) ⌝ }
 {
     let mut four = [0u8; 4];
@@ -85,7 +85,7 @@ fn play_next(s: &[u8], shape: Shape, first: &[u16; 1280], next: &[u16; 14536], r
 }
 
 // Refusal 14 ends any replay long before the count of turns does.
-fn play(s: &[u8], shape: Shape, first: &[u16; 1280], next: &[u16; 14536])
+fn play(s: &[u8], shape: Shape, first: &[u16; 896], next: &[u16; 14536])
     requires { ⌜ Known (now s) shape (now first) (now next) ⌝ }
 {
     let mut run = start(s, shape);
@@ -106,7 +106,7 @@ fn play_file(s: &[u8]) {
     match check(s) {
         Checked::Refused => tell_number(table_number()),
         Checked::Accepted(shape) => {
-            let mut first = [65535u16; 1280];
+            let mut first = [65535u16; 896];
             let mut next = [65535u16; 14536];
             index_of(s, shape, &mut first, &mut next);
             play(s, shape, &first, &next);

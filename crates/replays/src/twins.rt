@@ -83,7 +83,7 @@ fn placed(
 fn step_of(
     s: &[u8],
     shape: Shape,
-    first: &[u16; 1280],
+    first: &[u16; 896],
     next: &[u16; 14536],
     automaton: u16,
     run: Run,
@@ -166,7 +166,7 @@ fn tell(
 fn turn_into(
     s: &[u8],
     shape: Shape,
-    first: &[u16; 1280],
+    first: &[u16; 896],
     next: &[u16; 14536],
     run: Run,
     out: &mut [u8],
@@ -208,7 +208,7 @@ fn turn_into(
 fn turns_into(
     s: &[u8],
     shape: Shape,
-    first: &[u16; 1280],
+    first: &[u16; 896],
     next: &[u16; 14536],
     lent: Run,
     run: Run,
@@ -264,7 +264,7 @@ fn refused(run: Run, refusal: Refusal) -> Lined
 pub fn cycle_into(
     s: &[u8],
     shape: Shape,
-    first: &[u16; 1280],
+    first: &[u16; 896],
     next: &[u16; 14536],
     run: Run,
     events: u32,

@@ -14,7 +14,7 @@ use Rattle.automata_files.specs.Places.{firstLiteral, firstClock, literalIn}
 use Rattle.automata_files.proofs.Readings.{most-edges}
 use Rattle.automata.specs.Index.{ownerIn}
 use Rattle.automata.specs.StepOf.{bareRun, edgeOpen}
-use Rattle.automata.proofs.Chained.{Walk, walk-start, walk-at, walk-rises, walk-more, walk-ends, walk-done}
+use Rattle.automata.proofs.Chained.{Walk, walk-from, walk-at, walk-rises, walk-more, walk-ends, walk-done}
 use Rattle.automata.proofs.TableLaws.{few-records, literals-of}
 use Rattle.automata.proofs.OpenLaws.{readOn, read-true, read-false, read-fault, read-none}
 use Rattle.automata.proofs.edges.edge_open.Statement.{statement}
@@ -49,13 +49,13 @@ loop-holds : tie.Need-loop-holds Inv-loop μ-loop
 loop-holds c =
     let a = c .before .before .before in
     let x = a .args in
-    walk-start (a .pre .1 .literals) (small a) tt _ refl (few-edges a)
+    walk-from (small a) tt _ (a .pre .1 .literals .first-of (x .e) (few-edges a))
     (ap (reads (literalHolds (readAutomata (now (x .s))) (bareRun (now (x .clocks)) (now (x .vars)) (x .events)))) (literals-of (now (x .s)) (x .shape) (a .pre .0 .shape) (x .e)))
 
 place : (c : tie.In-loop Inv-loop μ-loop) →
     let x = c .before .before .before .before .before .args in
     (firstLiteral (x .shape) ≤ c .before .loop .n) × (c .before .loop .n < firstClock (x .shape)) × (ownerIn (now (x .s)) (c .before .loop .n) ≡ x .e)
-place c = let a = c .before .before .before .before .before in walk-at (a .pre .1 .literals) (small a) (c .before .loop .inv) (c .loop-test .taken)
+place c = let a = c .before .before .before .before .before in walk-at (small a) (c .before .loop .inv) (c .loop-test .taken)
 
 literal-holds-requires : tie.Need-literal-holds-requires Inv-loop μ-loop
 literal-holds-requires c κs = (c .before .before .before .before .before .pre .0, place c .0, place c .1)
@@ -70,7 +70,7 @@ returns c =
     let x = a .args in
     let r = bareRun (now (x .clocks)) (now (x .vars)) (x .events) in
     sym
-    (walk-ends (a .pre .1 .literals) (small a) (i .before .loop .inv) (i .loop-test .taken) (fault (reasonOf (c .before .w .given .0 .0)))
+    (walk-ends (small a) (i .before .loop .inv) (i .loop-test .taken) (fault (reasonOf (c .before .w .given .0 .0)))
     (read-fault (literalHolds (readAutomata (now (x .s))) r) (λ m. literalIn (now (x .s)) m .1) (i .before .loop .n) (reasonOf (c .before .w .given .0 .0))
     (ap truthOf (sym (c .before .w .given .1)) ∙ c .before .before .before .literal-holds .ensures)))
 
@@ -96,7 +96,7 @@ loop-less : tie.Need-loop-less Inv-loop μ-loop
 loop-less c =
     let i = c .before .before .before .before .before .before in
     let a = i .before .before .before .before .before in
-    omega (arith, walk-rises (a .pre .1 .literals) (small a) (i .before .loop .inv) (i .loop-test .taken))
+    omega (arith, walk-rises (small a) (i .before .loop .inv) (i .loop-test .taken) (now (a .args .next)) (a .pre .1 .literals .next-of))
 
 loop-again : tie.Need-loop-again Inv-loop μ-loop
 loop-again c =
@@ -104,7 +104,7 @@ loop-again c =
     let a = i .before .before .before .before .before in
     let x = a .args in
     let r = bareRun (now (x .clocks)) (now (x .vars)) (x .events) in
-    walk-more (a .pre .1 .literals) (small a) (i .before .loop .inv) (i .loop-test .taken) tt
+    walk-more (small a) (i .before .loop .inv) (i .loop-test .taken) (now (a .args .next)) (a .pre .1 .literals .next-of) tt
     (read-true (literalHolds (readAutomata (now (x .s))) r) (λ m. literalIn (now (x .s)) m .1) (i .before .loop .n)
     (ap val (sym (c .before .if1 .taken)) ∙ ap truthOf (sym (c .before .before .before .holding .given .1)) ∙ c .before .before .before .before .before .literal-holds .ensures))
 
@@ -115,7 +115,7 @@ returns-2 c =
     let x = a .args in
     let r = bareRun (now (x .clocks)) (now (x .vars)) (x .events) in
     sym
-    (walk-ends (a .pre .1 .literals) (small a) (i .before .loop .inv) (i .loop-test .taken) (val false)
+    (walk-ends (small a) (i .before .loop .inv) (i .loop-test .taken) (val false)
     (read-false (literalHolds (readAutomata (now (x .s))) r) (λ m. literalIn (now (x .s)) m .1) (i .before .loop .n)
     (ap val (sym (c .if1 .left)) ∙ ap truthOf (sym (c .before .before .holding .given .1)) ∙ c .before .before .before .before .literal-holds .ensures)))
 

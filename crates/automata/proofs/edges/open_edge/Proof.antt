@@ -18,7 +18,7 @@ use Rattle.automata_files.proofs.Readings.{most-locations}
 use Rattle.automata.specs.declared.edges.Tally.the-variants.{Nothing}
 use Rattle.automata.specs.Index.{ownerIn}
 use Rattle.automata.specs.StepOf.{reasonOf, bareRun, edgeOpen, oneOpen, countedOf, theOpen, TallyIn, CountedIn}
-use Rattle.automata.proofs.Chained.{Walk, walk-start, walk-at, walk-rises, walk-more, walk-ends, walk-done}
+use Rattle.automata.proofs.Chained.{Walk, walk-from, walk-at, walk-rises, walk-more, walk-ends, walk-done}
 use Rattle.automata.proofs.TableLaws.{few-records, ownEdge, leaving-none}
 use Rattle.automata.proofs.OpenLaws.{countOn, counted, count-none, all-leaving}
 use Rattle.automata.proofs.edges.open_edge.Statement.{statement}
@@ -64,14 +64,14 @@ loop-holds c =
     let a = c .before .before .before .before .before .before in
     let x = a .args in (
       tt,
-      walk-start (a .pre .1 .edges) (small a) Nothing _ (ap (λ k. getD (now (x .first)) k 0) (sym (zero-add (x .location)))) (few-locations (c .before .before))
+      walk-from (small a) Nothing _ (ap (λ k. getD (now (x .first)) k 0) (sym (zero-add (x .location))) ∙ a .pre .1 .edges .first-of (x .location) (few-locations (c .before .before)))
           (all-leaving (now (x .s)) (x .shape) (a .pre .0 .shape) (bareRun (now (x .clocks)) (now (x .vars)) (x .events)) (x .automaton) (x .location)),
     )
 
 place : (c : tie.In-loop Inv-loop μ-loop) →
     let x = c .before .before .before .before .before .before .before .before .args in
     (firstEdge (x .shape) ≤ c .before .loop .n) × (c .before .loop .n < firstLiteral (x .shape)) × (ownerIn (now (x .s)) (c .before .loop .n) ≡ x .location)
-place c = let a = c .before .before .before .before .before .before .before .before in walk-at (a .pre .1 .edges) (small a) (c .before .loop .inv .1) (c .loop-test .taken)
+place c = let a = c .before .before .before .before .before .before .before .before in walk-at (small a) (c .before .loop .inv .1) (c .loop-test .taken)
 
 sub-count-edge : tie.Need-sub-count-edge Inv-loop μ-loop
 sub-count-edge c = omega (arith, place c, c .before .before .before .first-edge .ensures)
@@ -108,7 +108,7 @@ returns-2 c =
     let i = j .before in
     let a = i .before .before .before .before .before .before .before .before in (
       sym
-          (walk-ends (a .pre .1 .edges) (small a) (i .before .loop .inv .1) (i .loop-test .taken) (fault (reasonOf (c .before .w .given .0 .0)))
+          (walk-ends (small a) (i .before .loop .inv .1) (i .loop-test .taken) (fault (reasonOf (c .before .w .given .0 .0)))
           (λ rest. counted-here j rest ∙ ap (λ k. countedOf (reading a) k (map (λ n. n - firstEdge (a .args .shape)) (keep (ownEdge (now (a .args .s)) (a .args .automaton)) rest))) (c .before .w .given .1))),
       tt,
     )
@@ -135,7 +135,7 @@ loop-less : tie.Need-loop-less Inv-loop μ-loop
 loop-less c =
     let i = c .before .before .before .before .before in
     let a = i .before .before .before .before .before .before .before .before in
-    omega (arith, walk-rises (a .pre .1 .edges) (small a) (i .before .loop .inv .1) (i .loop-test .taken))
+    omega (arith, walk-rises (small a) (i .before .loop .inv .1) (i .loop-test .taken) (now (a .args .next)) (a .pre .1 .edges .next-of))
 
 loop-again : tie.Need-loop-again Inv-loop μ-loop
 loop-again c =
@@ -143,7 +143,7 @@ loop-again c =
     let i = j .before in
     let a = i .before .before .before .before .before .before .before .before in (
       subst (CountedIn (a .args .shape .edges)) (c .before .before .t .given .1) (j .count-edge .ensures .1),
-      walk-more (a .pre .1 .edges) (small a) (i .before .loop .inv .1) (i .loop-test .taken) (c .before .before .t .given .0 .0)
+      walk-more (small a) (i .before .loop .inv .1) (i .loop-test .taken) (now (a .args .next)) (a .pre .1 .edges .next-of) (c .before .before .t .given .0 .0)
           (λ rest. counted-here j rest ∙ ap (λ k. countedOf (reading a) k (map (λ n. n - firstEdge (a .args .shape)) (keep (ownEdge (now (a .args .s)) (a .args .automaton)) rest))) (c .before .before .t .given .1)),
     )
 

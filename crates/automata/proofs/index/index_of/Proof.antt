@@ -4,9 +4,9 @@ use Prim.Native.Nat.{_+_}
 use native.Mathlib.Omega.{arith}
 use denote.Ref.{now}
 use Rattle.automata_files.specs.Places.{firstEdge, firstLiteral, firstClock, firstUpdate, firstReset}
-use Rattle.automata_files.proofs.Readings.{most-locations, most-edges}
-use Rattle.automata.specs.Index.{FewRecords}
-use Rattle.automata.proofs.TableLaws.{few-records, source-in, literal-in, update-in, reset-in}
+use Rattle.automata_files.proofs.Readings.{inside, most-locations, most-edges}
+use Rattle.automata.specs.Accepted.{FewRecords}
+use Rattle.automata.proofs.TableLaws.{few-records, source-in, literal-in, effect-in}
 use Rattle.automata.proofs.LinkLaws.{linkable, linked-before, vacant-behind, relinked}
 use borrow.Author.Needs.{needs}
 use Rattle.automata.proofs.index.index_of.Statement.{statement}
@@ -32,11 +32,12 @@ link-requires c κs =
     let a = c .before .before .before .before .before .before .before .before in
     let x = a .args in
     let f = few a in
+    let i = inside (now (x .s)) (x .shape) (a .pre .0 .shape) in
     let m = most-locations (now (x .s)) (x .shape) (a .pre .0 .shape) in
     let d = c .before .before .before .before .before .first-edge .ensures in
     let e = c .before .before .before .before .first-literal .ensures in
     let p = a .pre .1 .1 in
-    linkable (now (x .s)) _ _ _ (a .pre .1 .0 .keys) (omega arith) (omega arith) (omega arith) (omega arith)
+    linkable (now (x .s)) _ _ _ (a .pre .1 .0 .keys) (omega arith) (omega arith) (omega arith) (omega arith) (omega arith)
     (λ n h l. omega (arith, source-in (now (x .s)) (x .shape) (a .pre .0) n (omega arith) (omega arith)))
     (a .pre .1 .0 .vacant)
 
@@ -48,71 +49,55 @@ link-requires-2 c κs =
     let a = c .before .before .before .before .before .before .before .before .before .before .before .before .before .before in
     let x = a .args in
     let f = few a in
+    let i = inside (now (x .s)) (x .shape) (a .pre .0 .shape) in
     let m = most-edges (now (x .s)) (x .shape) (a .pre .0 .shape) in
     let d = c .before .before .before .before .before .before .before .before .before .before .first-literal .ensures in
     let p = a .pre .1 .1 in
     let l1 = c .before .before .before .before .before .link .ensures in
-    linkable (now (x .s)) _ _ _ (l1 .keys ∙ a .pre .1 .0 .keys) (omega arith) (omega arith) (omega (arith, l1 .places)) (omega arith)
+    linkable (now (x .s)) _ _ _ (l1 .keys ∙ a .pre .1 .0 .keys) (omega arith) (omega arith) (omega (arith, l1 .places)) (omega arith) (omega arith)
     (λ n h l. omega (arith, literal-in (now (x .s)) (x .shape) (a .pre .0) n (omega arith) (omega arith)))
     (vacant-behind l1 (a .pre .1 .0 .vacant))
 
-link-requires-3 : tie.Need-link-requires-3
-link-requires-3 c κs =
-    let a = c .before .before .before .before .before .before .before .before .before .before .before .before .before .before .before .before .before .before .before in
-    let x = a .args in
-    let f = few a in
-    let m = most-edges (now (x .s)) (x .shape) (a .pre .0 .shape) in
-    let d = c .before .before .before .before .before .before .before .before .before .before .before .before .before .before .first-update .ensures in
-    let e = c .before .before .before .before .before .before .before .before .before .before .before .before .before .first-reset .ensures in
-    let p = a .pre .1 .1 in
-    let l1 = c .before .before .before .before .before .before .before .before .before .before .link .ensures in
-    let l2 = c .before .before .before .before .link2 .ensures in
-    linkable (now (x .s)) _ _ _ (l2 .keys ∙ l1 .keys ∙ a .pre .1 .0 .keys) (omega arith) (omega arith) (omega (arith, l1 .places, l2 .places)) (omega arith)
-    (λ n h l. omega (arith, update-in (now (x .s)) (x .shape) (a .pre .0) n (omega arith) (omega arith)))
-    (vacant-behind l2 (vacant-behind l1 (a .pre .1 .0 .vacant)))
-
 add-t14-2 : tie.Need-add-t14-2
 add-t14-2 c =
-    let f = few (c .before .before .before .before .before .before .before .before .before .before .before .before .before .before .before .before .before .before .before .before .before .before .before) in
-    omega (arith, c .before .before .before .before .before .before .before .before .before .before .before .before .before .before .before .before .before .first-reset .ensures)
+    let f = few (c .before .before .before .before .before .before .before .before .before .before .before .before .before .before .before .before .before .before) in
+    omega (arith, c .before .before .before .before .before .before .before .before .before .before .before .before .first-reset .ensures)
 
-link-requires-4 : tie.Need-link-requires-4
-link-requires-4 c κs =
-    let a = c .before .before .before .before .before .before .before .before .before .before .before .before .before .before .before .before .before .before .before .before .before .before .before .before .before in
+link-requires-3 : tie.Need-link-requires-3
+link-requires-3 c κs =
+    let a = c .before .before .before .before .before .before .before .before .before .before .before .before .before .before .before .before .before .before .before .before in
     let x = a .args in
     let f = few a in
+    let i = inside (now (x .s)) (x .shape) (a .pre .0 .shape) in
     let m = most-edges (now (x .s)) (x .shape) (a .pre .0 .shape) in
-    let d = c .before .before .before .before .before .before .before .before .before .before .before .before .before .before .before .before .before .before .before .first-reset .ensures in
+    let d = c .before .before .before .before .before .before .before .before .before .before .before .before .before .before .before .first-update .ensures in
+    let e = c .before .before .before .before .before .before .before .before .before .before .before .before .before .before .first-reset .ensures in
     let p = a .pre .1 .1 in
-    let l1 = c .before .before .before .before .before .before .before .before .before .before .before .before .before .before .before .before .link .ensures in
-    let l2 = c .before .before .before .before .before .before .before .before .before .before .link2 .ensures in
-    let l3 = c .before .before .before .before .before .link3 .ensures in
-    linkable (now (x .s)) _ _ _ (l3 .keys ∙ l2 .keys ∙ l1 .keys ∙ a .pre .1 .0 .keys) (omega arith) (omega arith) (omega (arith, l1 .places, l2 .places, l3 .places)) (omega arith)
-    (λ n h l. omega (arith, reset-in (now (x .s)) (x .shape) (a .pre .0) n (omega arith) (omega arith)))
-    (vacant-behind l3 (vacant-behind l2 (vacant-behind l1 (a .pre .1 .0 .vacant))))
+    let l1 = c .before .before .before .before .before .before .before .before .before .before .before .link .ensures in
+    let l2 = c .before .before .before .before .before .link2 .ensures in
+    linkable (now (x .s)) _ _ _ (l2 .keys ∙ l1 .keys ∙ a .pre .1 .0 .keys) (omega arith) (omega arith) (omega (arith, l1 .places, l2 .places)) (omega arith) (omega arith)
+    (λ n h l. omega (arith, effect-in (now (x .s)) (x .shape) (a .pre .0) n (omega arith) (omega arith)))
+    (vacant-behind l2 (vacant-behind l1 (a .pre .1 .0 .vacant)))
 
 same-length : tie.Need-same-length
 same-length c = search needs
 
 returns : tie.Need-returns
 returns c =
-    let a = c .before .before .before .before .before .before .before .before .before .before .before .before .before .before .before .before .before .before .before .before .before .before .before .before .before .before .before .before in
+    let a = c .before .before .before .before .before .before .before .before .before .before .before .before .before .before .before .before .before .before .before .before .before .before .before in
     let sh = a .args .shape in
-    let l1 = c .before .before .before .before .before .before .before .before .before .before .before .before .before .before .before .before .before .before .before .link .ensures in
-    let l2 = c .before .before .before .before .before .before .before .before .before .before .before .before .before .link2 .ensures in
-    let l3 = c .before .before .before .before .before .before .before .before .link3 .ensures in
-    let l4 = c .before .before .link4 .ensures in
-    let e : c .before .before .before .before .before .before .before .before .before .before .before .before .before .before .before .before .before .before .before .before .before .before .before .before .before .first-edge .result ≡ firstEdge sh = c .before .before .before .before .before .before .before .before .before .before .before .before .before .before .before .before .before .before .before .before .before .before .before .before .before .first-edge .ensures in
-    let l : c .before .before .before .before .before .before .before .before .before .before .before .before .before .before .before .before .before .before .before .before .before .before .before .before .first-literal .result ≡ firstLiteral sh = c .before .before .before .before .before .before .before .before .before .before .before .before .before .before .before .before .before .before .before .before .before .before .before .before .first-literal .ensures in
-    let u : c .before .before .before .before .before .before .before .before .before .before .before .before .before .before .before .before .before .before .before .before .before .before .before .first-update .result ≡ firstUpdate sh = c .before .before .before .before .before .before .before .before .before .before .before .before .before .before .before .before .before .before .before .before .before .before .before .first-update .ensures in
-    let r : c .before .before .before .before .before .before .before .before .before .before .before .before .before .before .before .before .before .before .before .before .before .before .first-reset .result ≡ firstReset sh = c .before .before .before .before .before .before .before .before .before .before .before .before .before .before .before .before .before .before .before .before .before .before .first-reset .ensures in
+    let l1 = c .before .before .before .before .before .before .before .before .before .before .before .before .before .before .link .ensures in
+    let l2 = c .before .before .before .before .before .before .before .before .link2 .ensures in
+    let l3 = c .before .before .link3 .ensures in
+    let e : c .before .before .before .before .before .before .before .before .before .before .before .before .before .before .before .before .before .before .before .before .first-edge .result ≡ firstEdge sh = c .before .before .before .before .before .before .before .before .before .before .before .before .before .before .before .before .before .before .before .before .first-edge .ensures in
+    let l : c .before .before .before .before .before .before .before .before .before .before .before .before .before .before .before .before .before .before .before .first-literal .result ≡ firstLiteral sh = c .before .before .before .before .before .before .before .before .before .before .before .before .before .before .before .before .before .before .before .first-literal .ensures in
+    let u : c .before .before .before .before .before .before .before .before .before .before .before .before .before .before .before .before .before .before .first-update .result ≡ firstUpdate sh = c .before .before .before .before .before .before .before .before .before .before .before .before .before .before .before .before .before .before .first-update .ensures in
+    let r = c .before .before .before .before .before .before .before .before .before .before .before .before .before .before .before .before .before .first-reset .ensures in
     record {
-      edges = relinked (firstEdge sh) (firstLiteral sh)
-          (linked-before l4 (linked-before l3 (linked-before l2 (l1 .linked) (omega arith) (omega arith)) (omega arith) (omega arith)) (omega arith) (omega arith)) e l;
-      literals = relinked (firstLiteral sh) (firstClock sh) (linked-before l4 (linked-before l3 (l2 .linked) (omega arith) (omega arith)) (omega arith) (omega arith)) l (omega arith);
-      updates = relinked (firstUpdate sh) (firstReset sh) (linked-before l4 (l3 .linked) (omega arith) (omega arith)) u r;
-      resets = relinked (firstReset sh) (firstReset sh + sh .resets) (l4 .linked) r (omega arith);
-      places = omega (arith, a .pre .1 .1, l1 .places, l2 .places, l3 .places, l4 .places);
+      edges = relinked (firstEdge sh) (firstLiteral sh) (linked-before l3 (linked-before l2 (l1 .linked) (omega arith) (omega arith)) (omega arith) (omega arith)) e l;
+      literals = relinked (firstLiteral sh) (firstClock sh) (linked-before l3 (l2 .linked) (omega arith) (omega arith)) l (omega arith);
+      effects = relinked (firstUpdate sh) (firstReset sh + sh .resets) (l3 .linked) u (omega arith);
+      places = omega (arith, a .pre .1 .1, l1 .places, l2 .places, l3 .places);
     }
 
 pub index-of-spec : {M : Type 1} → statement M
@@ -126,8 +111,7 @@ index-of-spec =
     link-requires
     add-t14
     link-requires-2
-    link-requires-3
     add-t14-2
-    link-requires-4
+    link-requires-3
     same-length
     returns)

@@ -26,7 +26,7 @@ sub-n : tie.Need-sub-n Inv-loop μ-loop
 sub-n c = omega arith
 
 owner-of-requires : tie.Need-owner-of-requires Inv-loop μ-loop
-owner-of-requires c κs = search needs
+owner-of-requires c κs = omega (arith, c .before .before .loop .inv .below, c .before .before .before .before .before .pre .read, c .if1 .taken)
 
 -- the record's owner has a key, and the record a place
 own : (c : tie.After-owner-of Inv-loop μ-loop) → c .owner-of .result < c .before .before .before .before .before .before .args .span .owners
@@ -41,7 +41,7 @@ place c =
     let l = c .before .before .before .loop in
     (omega (arith, l .inv .below, a .pre .space .0, c .before .if1 .taken), omega (arith, l .inv .below, l .inv .numbers, a .pre .space .1, c .before .if1 .taken))
 
-slot : (c : tie.After-owner-of Inv-loop μ-loop) → c .before .before .before .before .before .before .args .span .base + c .owner-of .result < 1280
+slot : (c : tie.After-owner-of Inv-loop μ-loop) → c .before .before .before .before .before .before .args .span .base + c .owner-of .result < 896
 slot c = omega (arith, own c, c .before .before .before .before .before .before .pre .room)
 
 add-key : tie.Need-add-key Inv-loop μ-loop

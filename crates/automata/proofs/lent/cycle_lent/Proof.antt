@@ -70,10 +70,10 @@ use Rattle.automata.proofs.lent.cycle_lent.Statement as stated
 use Rattle.automata.proofs.lent.cycle_lent.Code as code
 
 abbrev Firsts : RattleType
-Firsts = Array u16 1280
+Firsts = Array u16 896
 
 abbrev FirstsS : Slot 4
-FirstsS = ArrayOf (plain (λ _. u16)) (λ _. tt) 1280
+FirstsS = ArrayOf (plain (λ _. u16)) (λ _. tt) 896
 
 abbrev Nexts : RattleType
 Nexts = Array u16 14_536

@@ -91,7 +91,7 @@ element-copy-out-result c =
     omega (arith, known-clock c, most-clocks (now (a .args .s)) (a .args .shape) (a .pre .0 .shape))
 
 ticks-of-requires : tie.Need-ticks-of-requires
-ticks-of-requires c κs = search needs
+ticks-of-requires c κs = (c .before .before .before .before .before .before .pre .0 .shape, known-clock (c .before))
 
 returns-2 : tie.Need-returns-2
 returns-2 c vars =

@@ -1,25 +1,18 @@
 -- `runs::cap_for` meets its contract. Assumes nothing.
 use mathlib.Core.Path.{sym, ap}
-use Rattle.automata_files.specs.Parts.{timingFor}
-use Rattle.automata.specs.RunOf.{capFor}
 use borrow.Author.Needs.{needs}
+use Rattle.automata.specs.RunOf.{timingIf, capFor}
 use Rattle.automata.proofs.runs.cap_for.Statement.{statement}
 use Rattle.automata.proofs.runs.cap_for.Tie as tie
-
-enum-told : tie.Need-enum-told
-enum-told c = search needs
 
 add-result : tie.Need-add-result
 add-result c = search needs
 
-enum-told-2 : tie.Need-enum-told-2
-enum-told-2 c = search needs
-
 returns : tie.Need-returns
-returns c = ap (λ t. capFor (timingFor t) (c .before .before .args .ticks)) (sym (c .enum-told .given .1))
+returns c = ap (λ b. capFor (timingIf b) (c .before .args .ticks)) (sym (c .if1 .taken))
 
 returns-2 : tie.Need-returns-2
-returns-2 c = ap (λ t. capFor (timingFor t) (c .before .before .args .ticks)) (sym (c .enum-told2 .given .1))
+returns-2 c = search needs
 
 pub cap-for-spec : {M : Type 1} → statement M
-cap-for-spec = tie.close (tie.spec enum-told add-result enum-told-2 returns returns-2)
+cap-for-spec = tie.close (tie.spec add-result returns returns-2)

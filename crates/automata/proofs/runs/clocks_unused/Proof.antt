@@ -1,34 +1,28 @@
--- `runs::clocks_unused` meets its contract: the invariant is that the places before k passed. Assumes nothing.
-use mathlib.Core.Path.{_≡_, refl, sym}
+-- `runs::clocks_unused` meets its contract: the invariant is what was read of the places before k. Assumes nothing.
+use mathlib.Core.Path.{refl}
 use Prim.Native.Nat.{_-_}
 use native.Mathlib.Omega.{arith}
 use borrow.Author.Needs.{needs}
-use borrow.Author.Tests.{eq-eqb, ne-eqb}
+use denote.Ref.{now}
 use lib.Dec.{eqb}
-use lib.ListN.{length}
-use Rattle.machines.proofs.Behind.{Behind, behind-more, behind-not, behind-all}
+use Rattle.automata.proofs.AllRead.{ReadOn, read-on, read-end}
 use Rattle.automata.proofs.runs.clocks_unused.Statement.{statement}
 use Rattle.automata.proofs.runs.clocks_unused.Tie as tie
 
 abbrev Inv-loop : tie.InvT-loop
-Inv-loop count clocks k₀ k = (length clocks ≡ 256) × Behind (λ x. eqb x 0) 0 count clocks k
+Inv-loop count clocks unused₀ k₀ unused k = ReadOn (λ x. eqb x 0) 0 count clocks unused k
 
 abbrev μ-loop : tie.MeasureT-loop
-μ-loop count clocks k₀ k = 256 - k
+μ-loop count clocks unused₀ k₀ unused k = 256 - k
 
 loop-holds : tie.Need-loop-holds Inv-loop μ-loop
-loop-holds c = (search needs, refl)
+loop-holds c = refl
 
-mul-if1 : tie.Need-mul-if1 Inv-loop μ-loop
-mul-if1 c = search needs
+mul-unused : tie.Need-mul-unused Inv-loop μ-loop
+mul-unused c = search needs
 
-array-read-if1 : tie.Need-array-read-if1 Inv-loop μ-loop
-array-read-if1 c = search needs
-
-returns : tie.Need-returns Inv-loop μ-loop
-returns c =
-    let a = c .before .before .before .args in
-    sym (behind-not (λ x. eqb x 0) 0 (a .count) (a .t2) (c .before .before .loop .k) (c .before .before .loop .inv .1) (omega arith) (ne-eqb _ 0 (c .if1 .taken)))
+element-copy-out-unused : tie.Need-element-copy-out-unused Inv-loop μ-loop
+element-copy-out-unused c = search needs
 
 add-k : tie.Need-add-k Inv-loop μ-loop
 add-k c = search needs
@@ -38,14 +32,15 @@ loop-less c = search needs
 
 loop-again : tie.Need-loop-again Inv-loop μ-loop
 loop-again c =
-    let a = c .before .before .before .args in
+    let b = c .before .before .before in
     let l = c .before .before .loop in
-    (l .inv .0, behind-more (λ x. eqb x 0) 0 (a .count) (a .t2) (l .k) (l .inv .1) (omega arith) (eq-eqb _ 0 (c .if1 .left)))
+    read-on (λ x. eqb x 0) 0 (b .args .count) (now (b .args .clocks)) (l .unused) (l .k) (l .inv) (omega (arith, b .pre))
 
-returns-2 : tie.Need-returns-2 Inv-loop μ-loop
-returns-2 c =
-    let a = c .before .before .args in
-    sym (behind-all (λ x. eqb x 0) 0 (a .count) (a .t2) (c .before .loop .k) (c .before .loop .inv .1) (omega arith))
+returns : tie.Need-returns Inv-loop μ-loop
+returns c =
+    let b = c .before .before in
+    let l = c .before .loop in
+    read-end (λ x. eqb x 0) 0 (b .args .count) (now (b .args .clocks)) (l .unused) (l .k) (l .inv) (omega (arith, b .pre))
 
 pub clocks-unused-spec : {M : Type 1} → statement M
-clocks-unused-spec = tie.close (tie.spec Inv-loop μ-loop loop-holds mul-if1 array-read-if1 returns add-k loop-less loop-again returns-2)
+clocks-unused-spec = tie.close (tie.spec Inv-loop μ-loop loop-holds mul-unused element-copy-out-unused add-k loop-less loop-again returns)

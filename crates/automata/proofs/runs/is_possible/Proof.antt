@@ -6,7 +6,7 @@ use lib.ListN.{length}
 use Rattle.model.specs.Runs.{timersPossible}
 use Rattle.model.specs.AutomataTable.{readAutomata}
 use Rattle.model.specs.Automata.{automata}
-use Rattle.automata_files.proofs.Readings.{most-automata, most-clocks, length-initial, length-clocks}
+use Rattle.automata_files.proofs.Readings.{most-automata, length-initial, length-clocks}
 use Rattle.machines.specs.Checks.{zeros, shared}
 use Rattle.machines.proofs.Possible.{possible-is}
 use Rattle.automata.specs.RunOf.{runOf}
@@ -25,9 +25,7 @@ shared-possible-requires c κs =
     (most-automata (now (b .args .s)) (b .args .shape) (b .pre), has-values (now (b .args .s)) (b .args .shape) (b .pre) (c .values-of .result) (c .values-of .ensures))
 
 clocks-possible-requires : tie.Need-clocks-possible-requires
-clocks-possible-requires c κs =
-    let b = c .before .before .before .before .before .before in
-    most-clocks (now (b .args .s)) (b .args .shape) (b .pre)
+clocks-possible-requires c κs = c .before .before .before .before .before .before .before .pre
 
 clocks-unused-requires : tie.Need-clocks-unused-requires
 clocks-unused-requires c κs = search needs
@@ -38,13 +36,13 @@ lengths c = (search needs, search needs, search needs)
 
 returns : tie.Need-returns
 returns c =
-    let b = c .before .before .before .before .before .before .before .before in
+    let b = c .before .before .before .before .before .before .before .before .before .before in
     let r = b .args .run in
     let s = now (b .args .s) in
     let sh = b .args .shape in
-    let v = c .before .before .before .values-of in
+    let v = c .before .before .before .before .before .values-of in
     let n = sym (length-initial s sh (b .pre)) in
-    (λ i. c .before .before .shared-possible .ensures i && (c .before .clocks-possible .ensures ∙ sym (clocks-are s sh (b .pre) (runOf r))) i && c .clocks-unused .ensures i)
+    (λ i. c .before .before .before .before .shared-possible .ensures i && (c .before .before .clocks-possible .ensures ∙ sym (clocks-are s sh (b .pre) (runOf r))) i && c .clocks-unused .ensures i)
     ∙ (λ i. shared (n i) (homes-in s sh (b .pre) i) (variables-in s sh (b .pre) (v .result) (v .ensures) i) (r .locations) (runOf r .world)
     && timersPossible (automata (readAutomata s)) (runOf r)
     && zeros (sym (length-clocks s sh (b .pre)) i) (r .clocks))

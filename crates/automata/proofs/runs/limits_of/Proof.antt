@@ -37,8 +37,8 @@ loop-holds c =
 cast-i : tie.Need-cast-i Inv-loop μ-loop
 cast-i c = search needs
 
-timing-of-requires : tie.Need-timing-of-requires Inv-loop μ-loop
-timing-of-requires c κs = search needs
+is-after-requires : tie.Need-is-after-requires Inv-loop μ-loop
+is-after-requires c κs = search needs
 
 ticks-of-requires : tie.Need-ticks-of-requires Inv-loop μ-loop
 ticks-of-requires c κs = search needs
@@ -58,8 +58,8 @@ mul-turn c = omega (arith, few (c .before .before .before))
 element-write-turn : tie.Need-element-write-turn Inv-loop μ-loop
 element-write-turn c = omega (arith, few (c .before .before .before))
 
-timing-of-requires-2 : tie.Need-timing-of-requires-2 Inv-loop μ-loop
-timing-of-requires-2 c κs = search needs
+is-after-requires-2 : tie.Need-is-after-requires-2 Inv-loop μ-loop
+is-after-requires-2 c κs = search needs
 
 ticks-of-requires-2 : tie.Need-ticks-of-requires-2 Inv-loop μ-loop
 ticks-of-requires-2 c κs = search needs
@@ -88,9 +88,9 @@ loop-again c =
     let l = c .before .before .before .before .before .before .before .before .loop in (
       omega (arith, c .before .before .before .before .before .before .if1 .taken),
       filled-more (turns (now (a .s)) (a .shape)) 0 (now (a .turn)) (l .turn) (l .k) _
-          (c .before .before .before .turn-for .ensures ∙ (λ i. turnFor (c .before .before .before .before .before .timing-of .ensures i) (c .before .before .before .before .ticks-of .ensures i))) (l .inv .1) (omega (arith, few (c .before .before .before .before .before .before), b .pre .1 .0)),
+          (c .before .before .before .turn-for .ensures ∙ (λ i. turnFor (c .before .before .before .before .before .is-after .ensures i) (c .before .before .before .before .ticks-of .ensures i))) (l .inv .1) (omega (arith, few (c .before .before .before .before .before .before), b .pre .1 .0)),
       filled-more (caps (now (a .s)) (a .shape)) 0 (now (a .cap)) (l .cap) (l .k) _
-          (c .cap-for .ensures ∙ (λ i. capFor (c .before .before .timing-of2 .ensures i) (c .before .ticks-of2 .ensures i))) (l .inv .2) (omega (arith, few (c .before .before .before .before .before .before), b .pre .1 .1)),
+          (c .cap-for .ensures ∙ (λ i. capFor (c .before .before .is-after2 .ensures i) (c .before .ticks-of2 .ensures i))) (l .inv .2) (omega (arith, few (c .before .before .before .before .before .before), b .pre .1 .1)),
     )
 
 returns : tie.Need-returns Inv-loop μ-loop
@@ -111,12 +111,12 @@ limits-of-spec =
     μ-loop
     loop-holds
     cast-i
-    timing-of-requires
+    is-after-requires
     ticks-of-requires
     turn-for-requires
     mul-turn
     element-write-turn
-    timing-of-requires-2
+    is-after-requires-2
     ticks-of-requires-2
     cap-for-requires
     mul-cap

@@ -8,9 +8,9 @@ use Rattle.model.specs.Owned.{of}
 use Rattle.model.specs.AutomataTable.{readAutomata}
 use Rattle.model.specs.Automata.{reset}
 use Rattle.automata_files.specs.Places.{firstReset, resetIn}
-use Rattle.automata_files.proofs.Readings.{most-edges, most-clocks}
+use Rattle.automata_files.proofs.Readings.{most-clocks}
 use Rattle.automata.specs.Index.{ownerIn}
-use Rattle.automata.proofs.Chained.{Walk, walk-start, walk-at, walk-rises, walk-more, walk-done}
+use Rattle.automata.proofs.Chained.{Walk, walk-from, walk-at, walk-rises, walk-more, walk-done}
 use Rattle.automata.proofs.TableLaws.{few-records, resets-of}
 use Rattle.automata.proofs.StepLaws.{resetOn, reset-one, reset-none}
 use borrow.Author.Needs.{needs}
@@ -18,51 +18,36 @@ use Rattle.automata.proofs.steps.reset_clocks.Statement.{statement}
 use Rattle.automata.proofs.steps.reset_clocks.Tie as tie
 
 abbrev Inv-loop : tie.InvT-loop
-Inv-loop s shape first next e clocks₀ n₀ clocks n =
+Inv-loop s shape next start e clocks₀ n₀ clocks n =
     Walk (resetOn (λ m. resetIn s m .1)) (reset (of e (readAutomata s .resets)) clocks₀) s (firstReset shape) (firstReset shape + shape .resets) e clocks n
 
 abbrev μ-loop : tie.MeasureT-loop
-μ-loop s shape first next e clocks₀ n₀ clocks n = 65536 - n
-
-few-edges : (c : tie.Start Inv-loop μ-loop) → c .args .e < 384
-few-edges c = omega (arith, c .pre .2, most-edges (now (c .args .s)) (c .args .shape) (c .pre .0 .shape))
+μ-loop s shape next start e clocks₀ n₀ clocks n = 65536 - n
 
 small : (c : tie.Start Inv-loop μ-loop) → firstReset (c .args .shape) + c .args .shape .resets ≤ 14536
 small c = few-records (now (c .args .s)) (c .args .shape) (c .pre .0 .shape)
 
-add-n : tie.Need-add-n Inv-loop μ-loop
-add-n c = omega (arith, few-edges (c .before .before))
-
-cast-n : tie.Need-cast-n Inv-loop μ-loop
-cast-n c = omega (arith, few-edges (c .before .before))
-
-mul-n : tie.Need-mul-n Inv-loop μ-loop
-mul-n c = omega (arith, few-edges (c .before .before))
-
-element-copy-out-n : tie.Need-element-copy-out-n Inv-loop μ-loop
-element-copy-out-n c = omega (arith, few-edges (c .before .before))
-
 loop-holds : tie.Need-loop-holds Inv-loop μ-loop
 loop-holds c =
-    let a = c .before .before .before in
+    let a = c .before .before in
     let x = a .args in
-    walk-start (a .pre .1 .resets) (small a) (now (x .clocks)) _ refl (few-edges a) (ap (λ ks. reset ks (now (x .clocks))) (resets-of (now (x .s)) (x .shape) (a .pre .0 .shape) (x .e)))
+    walk-from (small a) (now (x .clocks)) _ (a .pre .3) (ap (λ ks. reset ks (now (x .clocks))) (resets-of (now (x .s)) (x .shape) (a .pre .0 .shape) (x .e)))
 
 place : (c : tie.In-loop Inv-loop μ-loop) →
-    let x = c .before .before .before .before .before .args in
+    let x = c .before .before .before .before .args in
     (firstReset (x .shape) ≤ c .before .loop .n) × (c .before .loop .n < firstReset (x .shape) + x .shape .resets) × (ownerIn (now (x .s)) (c .before .loop .n) ≡ x .e)
-place c = let a = c .before .before .before .before .before in walk-at (a .pre .1 .resets) (small a) (c .before .loop .inv) (c .loop-test .taken)
+place c = let a = c .before .before .before .before in walk-at (small a) (c .before .loop .inv) (c .loop-test .taken)
 
 clock-of-requires : tie.Need-clock-of-requires Inv-loop μ-loop
-clock-of-requires c κs = (c .before .before .before .before .before .pre .0, place c .0, place c .1)
+clock-of-requires c κs = (c .before .before .before .before .pre .0, place c .0, place c .1)
 
 few-clocks : (c : tie.After-clock-of Inv-loop μ-loop) → c .clock-of .result < 256
 few-clocks c =
-    let a = c .before .before .before .before .before .before in
+    let a = c .before .before .before .before .before in
     omega (arith, c .clock-of .ensures .1, most-clocks (now (a .args .s)) (a .args .shape) (a .pre .0 .shape))
 
 inside : (c : tie.After-clock-of Inv-loop μ-loop) → c .before .before .loop .n < 14536
-inside c = omega (arith, place (c .before), small (c .before .before .before .before .before .before))
+inside c = omega (arith, place (c .before), small (c .before .before .before .before .before))
 
 cast-k : tie.Need-cast-k Inv-loop μ-loop
 cast-k c = omega (arith, few-clocks c)
@@ -73,14 +58,14 @@ mul-clocks c = omega (arith, few-clocks c)
 element-write-clocks : tie.Need-element-write-clocks Inv-loop μ-loop
 element-write-clocks c = few-clocks c
 
-in-index : (c : tie.After-clock-of Inv-loop μ-loop) → c .before .before .loop .n < length (now (c .before .before .before .before .before .before .args .next))
-in-index c = omega (arith, place (c .before), c .before .before .before .before .before .before .pre .1 .places)
+in-index : (c : tie.After-clock-of Inv-loop μ-loop) → c .before .before .loop .n < length (now (c .before .before .before .before .before .args .next))
+in-index c = omega (arith, place (c .before), c .before .before .before .before .before .pre .2)
 
-cast-n-2 : tie.Need-cast-n-2 Inv-loop μ-loop
-cast-n-2 c = omega (arith, inside c)
+cast-n : tie.Need-cast-n Inv-loop μ-loop
+cast-n c = omega (arith, inside c)
 
-mul-n-2 : tie.Need-mul-n-2 Inv-loop μ-loop
-mul-n-2 c = omega (arith, inside c)
+mul-n : tie.Need-mul-n Inv-loop μ-loop
+mul-n c = omega (arith, inside c)
 
 shared-slice-read-n : tie.Need-shared-slice-read-n Inv-loop μ-loop
 shared-slice-read-n c = in-index (c .before)
@@ -88,21 +73,21 @@ shared-slice-read-n c = in-index (c .before)
 loop-less : tie.Need-loop-less Inv-loop μ-loop
 loop-less c =
     let i = c .before .before in
-    let a = i .before .before .before .before .before in
-    omega (arith, walk-rises (a .pre .1 .resets) (small a) (i .before .loop .inv) (i .loop-test .taken))
+    let a = i .before .before .before .before in
+    omega (arith, walk-rises (small a) (i .before .loop .inv) (i .loop-test .taken) (now (a .args .next)) (a .pre .1))
 
 loop-again : tie.Need-loop-again Inv-loop μ-loop
 loop-again c =
     let i = c .before .before in
-    let a = i .before .before .before .before .before in
+    let a = i .before .before .before .before in
     let x = a .args in
     let l = i .before .loop in
-    walk-more (a .pre .1 .resets) (small a) (l .inv) (i .loop-test .taken) _
+    walk-more (small a) (l .inv) (i .loop-test .taken) (now (x .next)) (a .pre .1) _
     (reset-one (λ m. resetIn (now (x .s)) m .1) (l .n) (c .before .clock-of .result) (l .clocks) (c .before .clock-of .ensures .0))
 
 returns : tie.Need-returns Inv-loop μ-loop
 returns c =
-    let x = c .before .before .before .before .before .args in
+    let x = c .before .before .before .before .args in
     sym (walk-done (c .before .loop .inv) (c .loop-test .left) ∙ reset-none (λ m. resetIn (now (x .s)) m .1) (c .before .loop .clocks))
 
 pub reset-clocks-spec : {M : Type 1} → statement M
@@ -111,17 +96,13 @@ reset-clocks-spec =
     (tie.spec
     Inv-loop
     μ-loop
-    add-n
-    cast-n
-    mul-n
-    element-copy-out-n
     loop-holds
     clock-of-requires
     cast-k
     mul-clocks
     element-write-clocks
-    cast-n-2
-    mul-n-2
+    cast-n
+    mul-n
     shared-slice-read-n
     loop-less
     loop-again
