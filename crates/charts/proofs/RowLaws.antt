@@ -18,7 +18,7 @@ use Rattle.chart_files.specs.Places.{transitionAt}
 use Rattle.chart_files.proofs.ListLaws.{keep-keep}
 use Rattle.chart_files.proofs.Readings.{transition-is, length-transitions, most-transitions}
 use Rattle.charts.specs.Accepted.{Accepted}
-use Rattle.charts.specs.Tables.{headOr, earliest, named, leaves, HasRows}
+use Rattle.charts.specs.Tables.{headOr, earliest, named, leaves, placed, HasRows}
 use Rattle.machines.proofs.Earliest.{keep-alike, only-one}
 use Rattle.charts.proofs.Sound.{all-kept, priority-known, differ}
 use Rattle.charts.proofs.TableLaws.{leaving, Rows}
@@ -111,7 +111,7 @@ module _ (s : List ℕ) (sh : Shape) (ok : Accepted s sh) where
   pub rows-are : (rows : List (List ℕ)) → Rows (sourceAt s sh) (priorityAt s sh) (sh .transitions) rows 0 → HasRows (readCharts s) rows
   rows-are rows r st j h l =
       r .filled st j h l
-      ∙ ap (headOr 65535)
+      ∙ ap (λ l. placed (headOr 65535 l))
       (ap (λ n. keep (leaving (sourceAt s sh) (priorityAt s sh) (sh .transitions) st (j + 1)) (from 0 n)) (sub-zero (sh .transitions))
       ∙ keep-alike (leaving (sourceAt s sh) (priorityAt s sh) (sh .transitions) st (j + 1)) (leaves (readCharts s) st (j + 1)) 0 (sh .transitions)
       (λ i a b. let m : i < sh .transitions = omega arith in λ k. eqb (sym (transition-is s sh (ok .shape) i m) k .source) st && eqb (sym (transition-is s sh (ok .shape) i m) k .priority) (j + 1))

@@ -7,8 +7,8 @@ use mathlib.Core.List.{List, [], _∷_, _++_, map}
 use Prim.Native.Nat.{ℕ, zero, suc, _+_, _-_, _≤_, _<_}
 use native.Mathlib.Nat.{sub-zero}
 use native.Mathlib.Omega.{arith}
-use borrow.Author.Tests.{eq-eqb, ne-eqb}
-use lib.Dec.{eqb}
+use borrow.Author.Tests.{eq-eqb, ne-eqb, eqb-true, eqb-false, ltb-true, ltb-false}
+use lib.Dec.{eqb, ltb}
 use lib.IntN.{ℤ}
 use lib.ListN.{length}
 use Rattle.records.specs.Lists.{keep, gather, from, upto, sorted, caseOf}
@@ -22,7 +22,7 @@ use Rattle.chart_files.specs.declared.Shape.{Shape}
 use Rattle.chart_files.specs.Places.{transitionAt, actionAt}
 use Rattle.chart_files.proofs.Readings.{transition-is, length-transitions, most-states, most-transitions}
 use Rattle.charts.specs.Accepted.{Accepted}
-use Rattle.charts.specs.Tables.{earliest, named, leaves, keyed, deedsOf}
+use Rattle.charts.specs.Tables.{earliest, named, leaves, placed, keyed, deedsOf}
 use Rattle.charts.specs.RunOf.{runIn}
 use Rattle.charts.specs.StepOf.{choiceBy, slotHolds, entered, answerBy, movedBy}
 use Rattle.machines.specs.Worlds.{codedFault}
@@ -142,6 +142,23 @@ module _ (s : List ℕ) (sh : Shape) (ok : Accepted s sh) where
       let z : size - 0 ≡ size = sub-zero size in
       let e′ : t ≡ earliest (leaves (readCharts s) st q) 0 (size - 0) = e ∙ ap (earliest (leaves (readCharts s) st q) 0) (sym z) in
       omega (arith, e′, one-found (leaves (readCharts s) st q) 0 size (omega arith) (λ d. n (e′ ∙ d)) .before-end)
+
+  -- a place of a row that is 256 names none, and another the transition itself
+  pub unnamed : (st q : ℕ) → placed (slot (readCharts s) st q) ≡ 256 → slot (readCharts s) st q ≡ 65535
+  unnamed st q e = go (eqb (slot (readCharts s) st q) 65535) refl
+    where
+      go : (b : Bool) → eqb (slot (readCharts s) st q) 65535 ≡ b → slot (readCharts s) st q ≡ 65535
+      go true d = eqb-true (slot (readCharts s) st q) 65535 d
+      go false d =
+          let l = named-one st q (slot (readCharts s) st q) refl (eqb-false (slot (readCharts s) st q) 65535 d) in
+          absurd (omega (arith, l, e, most-transitions s sh (ok .shape)))
+
+  pub placed-one : (st q x : ℕ) → x ≡ placed (slot (readCharts s) st q) → (x ≡ 256 → ⊥) → x ≡ slot (readCharts s) st q
+  placed-one st q x e n = go (ltb (slot (readCharts s) st q) 256) refl
+    where
+      go : (b : Bool) → ltb (slot (readCharts s) st q) 256 ≡ b → x ≡ slot (readCharts s) st q
+      go true d = omega (arith, e, ltb-true (slot (readCharts s) st q) 256 d)
+      go false d = absurd (n (omega (arith, e, ltb-false (slot (readCharts s) st q) 256 d)))
 
   -- no transition leaves a state that the set does not have
   pub row-outside : (st : ℕ) → sh .states ≤ st → row (readCharts s) st ≡ []

@@ -8,7 +8,7 @@ use lib.Dec.{eqb}
 use lib.ListN.{length, getD, set, replicate, length-set, length-replicate, getD-replicate}
 use lib.Seq.{getD-set-same, getD-set-other}
 use borrow.Author.Tests.{eqb-true, eqb-false}
-use Rattle.charts.specs.Tables.{HasEnds, earliest}
+use Rattle.charts.specs.Tables.{HasEnds, earliest, placed}
 use Rattle.machines.proofs.Earliest.{earliest-one, earliest-none}
 
 -- ---- rows: each number u has a source and a priority
@@ -22,18 +22,18 @@ module _ (source priority : ℕ → ℕ) (size : ℕ) where
     pub bound : t ≤ size
     pub long : length rows ≡ 128
     pub wide : (st : ℕ) → st < 128 → length (getD rows st []) ≡ 16
-    pub filled : (st j : ℕ) → st < 128 → j < 16 → getD (getD rows st []) j 0 ≡ earliest (leaving st (j + 1)) t (size - t)
+    pub filled : (st j : ℕ) → st < 128 → j < 16 → getD (getD rows st []) j 0 ≡ placed (earliest (leaving st (j + 1)) t (size - t))
 
-  pub rows-none : Rows (replicate 128 (replicate {A = ℕ} 16 65535)) size
+  pub rows-none : Rows (replicate 128 (replicate {A = ℕ} 16 256)) size
   rows-none = record {
     bound = omega arith;
-    long = length-replicate 128 (replicate {A = ℕ} 16 65535);
-    wide = λ st h. ap length (getD-replicate 128 st (replicate {A = ℕ} 16 65535) [] h) ∙ length-replicate {A = ℕ} 16 65535;
+    long = length-replicate 128 (replicate {A = ℕ} 16 256);
+    wide = λ st h. ap length (getD-replicate 128 st (replicate {A = ℕ} 16 256) [] h) ∙ length-replicate {A = ℕ} 16 256;
     filled = λ st j h l.
-        ap (λ r. getD r j 0) (getD-replicate 128 st (replicate {A = ℕ} 16 65535) [] h) ∙ getD-replicate {A = ℕ} 16 j 65535 0 l ∙ sym (earliest-none (leaving st (j + 1)) size);
+        ap (λ r. getD r j 0) (getD-replicate 128 st (replicate {A = ℕ} 16 256) [] h) ∙ getD-replicate {A = ℕ} 16 j 256 0 l ∙ sym (ap placed (earliest-none (leaving st (j + 1)) size));
   }
 
-  module _ (rows : List (List ℕ)) (u i k : ℕ) (so-far : Rows rows (u + 1)) (at-source : source u ≡ i) (at-priority : priority u ≡ k + 1) (in-rows : i < 128) (in-row : k < 16) where
+  module _ (rows : List (List ℕ)) (u i k : ℕ) (so-far : Rows rows (u + 1)) (at-source : source u ≡ i) (at-priority : priority u ≡ k + 1) (in-rows : i < 128) (in-row : k < 16) (small : u < 256) where
     abbrev next-rows : List (List ℕ)
     next-rows = set rows i (set (getD rows i []) k u)
 
@@ -61,6 +61,10 @@ module _ (source priority : ℕ → ℕ) (size : ℕ) where
             ap (λ m. getD (getD next-rows m []) j 0) x ∙ ap (λ r. getD r j 0) row-here ∙ getD-set-other (getD rows i []) k j u 0 y ∙ ap (λ m. getD (getD rows m []) j 0) (sym x)
         go false e b d = ap (λ r. getD r j 0) (row-there st (λ q. eqb-false (source u) st e (at-source ∙ sym q)))
 
+    placed-one : (b : Bool) (e : ℕ) → cond b u (placed e) ≡ placed (cond b u e)
+    placed-one true e = omega arith
+    placed-one false e = refl
+
     pub rows-more : Rows (set rows i (set (getD rows i []) k u)) u
     rows-more = record {
       bound = omega (arith, so-far .bound);
@@ -69,7 +73,8 @@ module _ (source priority : ℕ → ℕ) (size : ℕ) where
       filled = λ st j h l.
           place st j h l
           ∙ ap (cond (leaving st (j + 1) u) u) (so-far .filled st j h l)
-          ∙ sym (earliest-one (leaving st (j + 1)) u size (omega (arith, so-far .bound)));
+          ∙ placed-one (leaving st (j + 1) u) (earliest (leaving st (j + 1)) (u + 1) (size - (u + 1)))
+          ∙ sym (ap placed (earliest-one (leaving st (j + 1)) u size (omega (arith, so-far .bound))));
     }
       where
         widths : (st : ℕ) → st < 128 → (b : Bool) → eqb st i ≡ b → length (getD next-rows st []) ≡ 16
@@ -81,12 +86,12 @@ module _ (source priority : ℕ → ℕ) (size : ℕ) where
 abbrev pub Ended : List (List ℕ) → List ℕ → Type 0
 Ended rows ends = (length ends ≡ 128) × HasEnds rows ends
 
-pub ends-none : Ended (replicate 128 (replicate {A = ℕ} 16 65535)) (replicate 128 0)
+pub ends-none : Ended (replicate 128 (replicate {A = ℕ} 16 256)) (replicate 128 0)
 ends-none = (
   length-replicate {A = ℕ} 128 0,
   λ st h. (
     omega (arith, getD-replicate {A = ℕ} 128 st 0 0 h),
-    λ j _ l. ap (λ r. getD r j 0) (getD-replicate 128 st (replicate {A = ℕ} 16 65535) [] h) ∙ getD-replicate {A = ℕ} 16 j 65535 0 l,
+    λ j _ l. ap (λ r. getD r j 0) (getD-replicate 128 st (replicate {A = ℕ} 16 256) [] h) ∙ getD-replicate {A = ℕ} 16 j 256 0 l,
   ),
 )
 
@@ -99,7 +104,7 @@ module _ (rows : List (List ℕ)) (ends : List ℕ) (i k u p : ℕ) (long : leng
       rows′ = set rows i (set (getD rows i []) k u)
 
       go : (st : ℕ) → st < 128 → (b : Bool) → eqb st i ≡ b →
-          (getD (set ends i p) st 0 ≤ 16) × ((j : ℕ) → getD (set ends i p) st 0 ≤ j → j < 16 → getD (getD rows′ st []) j 0 ≡ 65535)
+          (getD (set ends i p) st 0 ≤ 16) × ((j : ℕ) → getD (set ends i p) st 0 ≤ j → j < 16 → getD (getD rows′ st []) j 0 ≡ 256)
       go st h true e =
           let q : st ≡ i = eqb-true st i e in
           let a : getD (set ends i p) st 0 ≡ p = ap (λ n. getD (set ends i p) n 0) q ∙ getD-set-same ends i p 0 (omega (arith, so-far .0)) in

@@ -3,7 +3,7 @@ use mathlib.Core.Path.{_≡_}
 use mathlib.Core.Logic.{_⊎_}
 use mathlib.Core.Bool.{Bool, _&&_}
 use mathlib.Core.List.{List, [], _∷_, map}
-use Prim.Native.Nat.{ℕ, _+_, _-_, _≤_, _<_}
+use Prim.Native.Nat.{ℕ, _+_, _-_, _≤_, _<_, min}
 use lib.Dec.{eqb}
 use lib.ListN.{length, getD}
 use Rattle.records.specs.Lists.{keep, upto, caseOf}
@@ -20,14 +20,22 @@ use Rattle.chart_files.specs.Places.{placeAt, actionAt}
 abbrev pub leaves : ChartSet → ℕ → ℕ → ℕ → Bool
 leaves cs st q u = eqb (transition cs u .source) st && eqb (transition cs u .priority) q
 
+-- the transition that leaves a state with a priority; 65,535 is none
+abbrev pub slotAt : ChartSet → ℕ → ℕ → ℕ
+slotAt cs st q = earliest (leaves cs st q) 0 (length (cs .transitions))
+
+-- a place of a row: a transition's number, or 256 for none
+abbrev pub placed : ℕ → ℕ
+placed t = min 256 t
+
 -- rows have a place for each priority, 1 to 16, in order
 abbrev pub HasRows : ChartSet → List (List ℕ) → Type 0
 HasRows cs rows =
-    (st j : ℕ) → st < 128 → j < 16 → getD (getD rows st []) j 0 ≡ earliest (leaves cs st (j + 1)) 0 (length (cs .transitions))
+    (st j : ℕ) → st < 128 → j < 16 → getD (getD rows st []) j 0 ≡ placed (slotAt cs st (j + 1))
 
 -- of each state an end of its row: no place from there on names a transition
 abbrev pub HasEnds : List (List ℕ) → List ℕ → Type 0
-HasEnds rows ends = (st : ℕ) → st < 128 → (getD ends st 0 ≤ 16) × ((j : ℕ) → getD ends st 0 ≤ j → j < 16 → getD (getD rows st []) j 0 ≡ 65535)
+HasEnds rows ends = (st : ℕ) → st < 128 → (getD ends st 0 ≤ 16) × ((j : ℕ) → getD ends st 0 ≤ j → j < 16 → getD (getD rows st []) j 0 ≡ 256)
 
 -- ---- actions
 

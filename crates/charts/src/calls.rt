@@ -40,7 +40,7 @@ pub fn call_turn(s: &[u8], run: Run, events: u32) -> Turned
     match check(s) {
         Checked::Refused(refusal) => unready(run, Refusal::File(refusal)),
         Checked::Accepted(shape) => {
-            let empty = [65535u16; 16];
+            let empty = [256u16; 16];
             let mut rows = [empty; 128];
             let mut ends = [0u8; 128];
             let mut first = [65535u16; 512];
@@ -58,7 +58,7 @@ pub fn call_cycle(s: &[u8], run: Run, events: u32) -> Called
     match check(s) {
         Checked::Refused(refusal) => undone(run, Refusal::File(refusal)),
         Checked::Accepted(shape) => {
-            let empty = [65535u16; 16];
+            let empty = [256u16; 16];
             let mut rows = [empty; 128];
             let mut ends = [0u8; 128];
             let mut first = [65535u16; 512];

@@ -177,7 +177,7 @@ pub fn play(s: &[u8], run: Run, masks: &[u32]) -> Played
     match check(s) {
         Checked::Refused(refusal) => unplayed(run, Refusal::File(refusal)),
         Checked::Accepted(shape) => {
-            let empty = [65535u16; 16];
+            let empty = [256u16; 16];
             let mut rows = [empty; 128];
             let mut ends = [0u8; 128];
             let mut first = [65535u16; 512];

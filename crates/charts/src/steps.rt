@@ -15,6 +15,7 @@ ghost use Rattle.charts.specs.StepOf.{choiceBy, ChoiceOf, slotHolds, rep
 ghost use Rattle.charts.specs.TurnOf.{Known};
 use super::deeds::do_deeds;
 use super::runs::Run;
+use super::tables::slot_of;
 use super::transitions::holds;
 use super::transitions::source_of;
 use super::transitions::target_of;
@@ -92,7 +93,7 @@ fn first_that(
     let end = ends[i] as usize;
     let mut j: usize = 0;
     while j < end {
-        let t = rows[i][j];
+        let t = slot_of(s, shape, rows, state, j);
         match slot_holds(s, shape, vars, events, age, t) {
             Truth::Fault(w) => return fault_code(w),
             Truth::Value(holding) => {

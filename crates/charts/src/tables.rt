@@ -1,10 +1,10 @@
 // The tables that turns read, made once for a set.
 ghost use mathlib.Core.Path.{_≡_};
-ghost use Prim.Native.Nat.{ℕ, _≤_};
+ghost use Prim.Native.Nat.{ℕ, _+_, _≤_, _<_};
 ghost use lib.ListN.{replicate};
 ghost use Rattle.model.specs.ChartSet.{readCharts};
 ghost use Rattle.charts.specs.Accepted.{Accepted};
-ghost use Rattle.charts.specs.Tables.{HasRows, HasEnds, HasActions};
+ghost use Rattle.charts.specs.Tables.{HasRows, HasEnds, HasActions, slotAt};
 use super::actions::key_of;
 use super::transitions::source_of;
 use chart_files::Shape;
@@ -22,9 +22,9 @@ fn higher(a: u8, b: u8) -> u8
     if a < b { b } else { a }
 }
 
-// Of each state its leaving transitions, by priority, in rows of none; 65535 is none. And the highest priority of each.
+// Of each state its leaving transitions, by priority, in rows of none, which is 256: a number of two unlike bytes is put by plain stores, and one of two like bytes by a slower fill. And the highest priority of each.
 pub fn fill_rows(s: &[u8], shape: Shape, rows: &mut [[u16; 16]; 128], ends: &mut [u8; 128])
-    requires { ⌜ Accepted (now s) shape × (now rows ≡ replicate 128 (replicate 16 65535)) × (now ends ≡ replicate 128 0) ⌝ }
+    requires { ⌜ Accepted (now s) shape × (now rows ≡ replicate 128 (replicate 16 256)) × (now ends ≡ replicate 128 0) ⌝ }
     ensures { λ _. ⌜ HasRows (readCharts (now (s .entry))) (now (rows .exit)) × HasEnds (now (rows .exit)) (now (ends .exit)) ⌝ }
 {
     let mut t = shape.transitions;
@@ -42,11 +42,21 @@ pub fn rows_of(s: &[u8], shape: Shape) -> [[u16; 16]; 128]
     requires { ⌜ Accepted (now s) shape ⌝ }
     ensures { λ r. ⌜ HasRows (readCharts (now (s .entry))) r ⌝ }
 {
-    let empty = [65535u16; 16];
+    let empty = [256u16; 16];
     let mut rows = [empty; 128];
     let mut ends = [0u8; 128];
     fill_rows(s, shape, &mut rows, &mut ends);
     rows
+}
+
+// The transition at a place of a state's row; 65535 is none.
+pub fn slot_of(s: &[u8], shape: Shape, rows: &[[u16; 16]; 128], state: u16, place: usize) -> u16
+    requires { ⌜ Accepted (now s) shape × HasRows (readCharts (now s)) (now rows) × (state < shape .states) × (place < 16) ⌝ }
+    ensures { λ r. ⌜ r ≡ slotAt (readCharts (now (s .entry))) state (place + 1) ⌝ }
+{
+    let i = state as usize;
+    let t = rows[i][place];
+    if t == 256 { 65535 } else { t }
 }
 
 // From the last action down, so that each finds the one behind it.

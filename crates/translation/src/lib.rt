@@ -64,7 +64,7 @@ fn put_tests(s: &[u8], shape: Shape, clocks: &[u16; 256], out: &mut [u8], at: us
     requires { ⌜ Accepted (now s) shape × HasClocks (readCharts (now s)) (now clocks) × (at < 2 ^ 51) ⌝ }
     ensures { λ r. ⌜ Puts (now (out .entry)) at (testsText (twin (readCharts (now (s .entry))))) (now (out .exit)) r (2 ^ 43) ⌝ }
 {
-    let empty = [65535u16; 16];
+    let empty = [256u16; 16];
     let mut rows = [empty; 128];
     let mut ends = [0u8; 128];
     fill_rows(s, shape, &mut rows, &mut ends);

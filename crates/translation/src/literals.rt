@@ -21,6 +21,7 @@ use super::writing::put_record;
 use chart_files::Shape;
 use chart_files::fields::Guard;
 use chart_files::fields::Trigger;
+use charts::tables::slot_of;
 use charts::transitions::source_of;
 
 fn guard_number(guard: Guard) -> u16
@@ -90,11 +91,10 @@ fn put_negations(
     requires { ⌜ Accepted (now s) shape × HasClocks (readCharts (now s)) (now clocks) × HasRows (readCharts (now s)) (now rows) × (state < shape .states) × (count ≤ 16) × (at < 2 ^ 61) ⌝ }
     ensures { λ r. ⌜ Puts (now (out .entry)) at (literalTexts edge (map (literal (readCharts (now (s .entry))) false) (above (readCharts (now (s .entry))) state (count + 1)))) (now (out .exit)) r (2 ^ 20) ⌝ }
 {
-    let i = state as usize;
     let mut next = at;
     let mut j: usize = 0;
     while j < count {
-        let t = rows[i][j];
+        let t = slot_of(s, shape, rows, state, j);
         next = put_negation(s, shape, clocks, out, next, edge, t);
         j += 1;
     }

@@ -17,7 +17,7 @@ use Rattle.model.specs.Charts.{firstThat, transitionHolds}
 use Rattle.chart_files.proofs.Readings.{most-states, most-transitions}
 use Rattle.machines.specs.Worlds.{bareWorld}
 use Rattle.charts.specs.StepOf.{ChoiceOf, slotHolds}
-use Rattle.charts.proofs.StepLaws.{choice-some, slot, Tried, tried-none, tried-more, tried-found, tried-fault, tried-end, holds-named, named-one, row-outside}
+use Rattle.charts.proofs.StepLaws.{choice-some, slot, Tried, tried-none, tried-more, tried-found, tried-fault, tried-end, holds-named, named-one, unnamed, row-outside}
 use Rattle.charts.proofs.steps.first_that.Statement.{statement}
 use Rattle.charts.proofs.steps.first_that.Tie as tie
 
@@ -61,23 +61,16 @@ in-row : (c : tie.In-loop Inv-loop μ-loop) → c .before .loop .j < 16
 in-row c = omega (arith, c .loop-test .taken, small-end (c .before .before .before))
 
 -- the place that is read
-abbrev t-of : (c : tie.After-t Inv-loop μ-loop) → ℕ
-t-of c = getD (getD (now (c .before .before .before .before .before .before .before .args .rows)) (c .before .before .before .before .before .before .before .args .state) []) (c .before .before .loop .j) 0
+abbrev t-of : (c : tie.After-slot-of Inv-loop μ-loop) → ℕ
+t-of c = c .slot-of .result
 
-slot-here : (c : tie.After-t Inv-loop μ-loop) → t-of c ≡ slot (readCharts (now (c .before .before .before .before .before .before .before .args .s))) (c .before .before .before .before .before .before .before .args .state) (c .before .before .loop .j + 1)
-slot-here c = c .before .before .before .before .before .before .before .pre .1 (c .before .before .before .before .before .before .before .args .state) (c .before .before .loop .j) (small-state (c .before .before .before .before)) (in-row (c .before))
+slot-here : (c : tie.After-slot-of Inv-loop μ-loop) → t-of c ≡ slot (readCharts (now (c .before .before .before .before .before .before .before .args .s))) (c .before .before .before .before .before .before .before .args .state) (c .before .before .loop .j + 1)
+slot-here c = c .slot-of .ensures
 
-mul-t : tie.Need-mul-t Inv-loop μ-loop
-mul-t c = omega (arith, small-state (c .before .before .before))
-
-mul-t-2 : tie.Need-mul-t-2 Inv-loop μ-loop
-mul-t-2 c = omega (arith, in-row c)
-
-index-1-t : tie.Need-index-1-t Inv-loop μ-loop
-index-1-t c = small-state (c .before .before .before)
-
-index-2-t : tie.Need-index-2-t Inv-loop μ-loop
-index-2-t c = in-row c
+slot-of-requires : tie.Need-slot-of-requires Inv-loop μ-loop
+slot-of-requires c κs =
+    let a = c .before .before .before .before .before .before in
+    (a .pre .0, a .pre .1, c .before .before .before .if1 .left, in-row c)
 
 slot-holds-requires : tie.Need-slot-holds-requires Inv-loop μ-loop
 slot-holds-requires c κs =
@@ -155,7 +148,7 @@ returns-4 c =
     let h = small-state (c .before .before .before) in
     let past = c .loop-test .left in (
       tried-end (readCharts (now (x .s))) (x .state) (transitionHolds (readCharts (now (x .s))) (bareWorld (now (x .vars)) (x .events)) (x .age)) (16 - l .j) (l .j) (omega (arith, l .inv .0)) (l .inv)
-          (λ i le lt. sym (a .pre .1 (x .state) i h lt) ∙ a .pre .2 (x .state) h .1 i (omega (arith, past)) lt),
+          (λ i le lt. unnamed (now (x .s)) (x .shape) (a .pre .0) (x .state) (i + 1) (sym (a .pre .1 (x .state) i h lt) ∙ a .pre .2 (x .state) h .1 i (omega (arith, past)) lt)),
       none-chosen (x .shape .transitions),
     )
 
@@ -169,10 +162,7 @@ first-that-spec =
     element-copy-out-end
     cast-end
     loop-holds
-    mul-t
-    mul-t-2
-    index-1-t
-    index-2-t
+    slot-of-requires
     slot-holds-requires
     enum-known-w
     fault-code-requires

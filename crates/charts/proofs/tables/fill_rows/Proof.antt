@@ -4,7 +4,7 @@ use Prim.Native.Nat.{ℕ, _+_, _-_, _≤_, _<_}
 use native.Mathlib.Omega.{arith}
 use denote.Ref.{now}
 use lib.ListN.{replicate}
-use Rattle.chart_files.proofs.Readings.{most-states}
+use Rattle.chart_files.proofs.Readings.{most-states, most-transitions}
 use Rattle.charts.proofs.Sound.{source-known, priority-known}
 use Rattle.charts.proofs.TableLaws.{Rows, rows-none, rows-more, Ended, ends-none, ends-more}
 use Rattle.charts.proofs.RowLaws.{sourceAt, priorityAt, rows-are}
@@ -22,7 +22,7 @@ loop-holds c =
     let b = c .before in
     let x = b .args in (
       subst (λ rows. Rows (sourceAt (now (x .s)) (x .shape)) (priorityAt (now (x .s)) (x .shape)) (x .shape .transitions) rows (x .shape .transitions)) (sym (b .pre .1)) (rows-none (sourceAt (now (x .s)) (x .shape)) (priorityAt (now (x .s)) (x .shape)) (x .shape .transitions)),
-      subst (λ rows. Ended rows (now (x .ends))) (sym (b .pre .1)) (subst (Ended (replicate 128 (replicate {A = ℕ} 16 65535))) (sym (b .pre .2)) ends-none),
+      subst (λ rows. Ended rows (now (x .ends))) (sym (b .pre .1)) (subst (Ended (replicate 128 (replicate {A = ℕ} 16 256))) (sym (b .pre .2)) ends-none),
     )
 
 sub-t : tie.Need-sub-t Inv-loop μ-loop
@@ -93,7 +93,7 @@ loop-again c =
     let e : l .t ≡ l .t - 1 + 1 = omega (arith, more) in (
       rows-more (sourceAt (now (x .s)) (x .shape)) (priorityAt (now (x .s)) (x .shape)) (x .shape .transitions) (l .rows) (l .t - 1) (c .before .before .before .source-of .result) (u .priority-of .result - 1)
           (subst (Rows (sourceAt (now (x .s)) (x .shape)) (priorityAt (now (x .s)) (x .shape)) (x .shape .transitions) (l .rows)) e (l .inv .0))
-          (sym (c .before .before .before .source-of .ensures)) (omega (arith, priority-fits u, u .priority-of .ensures)) (source-fits u) (omega (arith, priority-fits u)),
+          (sym (c .before .before .before .source-of .ensures)) (omega (arith, priority-fits u, u .priority-of .ensures)) (source-fits u) (omega (arith, priority-fits u)) (omega (arith, in-file u, most-transitions (now (x .s)) (x .shape) (c .before .before .before .before .before .before .before .pre .0 .shape))),
       ends-more (l .rows) (l .ends) (c .before .before .before .source-of .result) (u .priority-of .result - 1) (l .t - 1) (c .higher .result) (l .inv .0 .long) (l .inv .1) (source-fits u) (c .higher .ensures .0)
           (omega (arith, priority-fits u, c .higher .ensures .1)) (c .higher .ensures .2 16 (l .inv .1 .1 (c .before .before .before .source-of .result) (source-fits u) .0) (priority-fits u .1)),
     )

@@ -3,15 +3,13 @@ use mathlib.Core.Path.{_≡_, sym, ap, _∙_}
 use Prim.Native.Nat.{_+_, _-_, _<_, _^_}
 use native.Mathlib.Omega.{arith}
 use denote.Ref.{now}
-use mathlib.Core.List.{[], map}
+use mathlib.Core.List.{map}
 use mathlib.Core.Bool.{false}
-use lib.ListN.{getD}
 use Rattle.model.specs.ChartSet.{readCharts}
 use Rattle.model.specs.Translation.{literal}
-use Rattle.chart_files.proofs.Readings.{most-states}
 use Rattle.charts.specs.Tables.{named}
 use Rattle.charts.proofs.RowLaws.{place-of}
-use Rattle.charts.proofs.StepLaws.{slot, named-one}
+use Rattle.charts.proofs.StepLaws.{named-one}
 use Rattle.translation.specs.Texts.{literalTexts}
 use Rattle.translation.proofs.Written.{Texts, texts-start, texts-step, texts-end, puts-as}
 use Rattle.translation.proofs.EdgeLaws.{notsText, nots-text}
@@ -19,37 +17,18 @@ use Rattle.translation.proofs.literals.put_negations.Statement.{stateme
 use Rattle.translation.proofs.literals.put_negations.Tie as tie
 
 abbrev Inv-loop : tie.InvT-loop
-Inv-loop s shape clocks rows out₀ at edge state count i next₀ j₀ out next j = Texts (λ q. notsText (readCharts s) edge state (q + 1)) count 16 out₀ at out next j
+Inv-loop s shape clocks rows out₀ at edge state count next₀ j₀ out next j = Texts (λ q. notsText (readCharts s) edge state (q + 1)) count 16 out₀ at out next j
 
 abbrev μ-loop : tie.MeasureT-loop
-μ-loop s shape clocks rows out₀ at edge state count i next₀ j₀ out next j = count - j
+μ-loop s shape clocks rows out₀ at edge state count next₀ j₀ out next j = count - j
 
 loop-holds : tie.Need-loop-holds Inv-loop μ-loop
 loop-holds c = texts-start _ _ _ _ _
 
-known-state : (c : tie.In-loop Inv-loop μ-loop) → c .before .before .before .before .args .state < 128
-known-state c =
+slot-of-requires : tie.Need-slot-of-requires Inv-loop μ-loop
+slot-of-requires c κs =
     let entry = c .before .before .before .before in
-    let x = entry .args in
-    omega (arith, entry .pre .3, most-states (now (x .s)) (x .shape) (entry .pre .0 .shape))
-
--- the place that is read
-slot-here : (c : tie.In-loop Inv-loop μ-loop) → getD (getD (now (c .before .before .before .before .args .rows)) (c .before .before .before .before .args .state) []) (c .before .loop .j) 0 ≡ slot (readCharts (now (c .before .before .before .before .args .s))) (c .before .before .before .before .args .state) (c .before .loop .j + 1)
-slot-here c =
-    let entry = c .before .before .before .before in
-    entry .pre .2 (entry .args .state) (c .before .loop .j) (known-state c) (omega (arith, c .loop-test .taken, entry .pre .4))
-
-mul-t : tie.Need-mul-t Inv-loop μ-loop
-mul-t c = omega (arith, known-state c)
-
-mul-t-2 : tie.Need-mul-t-2 Inv-loop μ-loop
-mul-t-2 c = omega (arith, c .before .before .before .before .pre .4)
-
-index-1-t : tie.Need-index-1-t Inv-loop μ-loop
-index-1-t c = known-state c
-
-index-2-t : tie.Need-index-2-t Inv-loop μ-loop
-index-2-t c = omega (arith, c .before .before .before .before .pre .4)
+    (entry .pre .0, entry .pre .2, entry .pre .3, omega (arith, c .loop-test .taken, entry .pre .4))
 
 put-negation-requires : tie.Need-put-negation-requires Inv-loop μ-loop
 put-negation-requires c κs =
@@ -57,7 +36,7 @@ put-negation-requires c κs =
     let x = entry .args in (
       entry .pre .0,
       entry .pre .1,
-      λ n. named-one (now (x .s)) (x .shape) (entry .pre .0) (x .state) (c .before .before .before .loop .j + 1) _ (slot-here (c .before .before)) n,
+      λ n. named-one (now (x .s)) (x .shape) (entry .pre .0) (x .state) (c .before .before .before .loop .j + 1) _ (c .before .slot-of .ensures) n,
       omega (arith, c .before .before .before .loop .inv .near, c .before .before .loop-test .taken, entry .pre .4, entry .pre .5),
     )
 
@@ -76,7 +55,7 @@ loop-again c =
     let cs = readCharts (now (x .s)) in
     texts-step _ _ _ _ _ (l .inv) (c .before .before .before .before .before .loop-test .taken) (p .kept .1 .1 .1 .0)
     (puts-as _
-    (ap (λ ts. literalTexts (x .edge) (map (literal cs false) ts)) (ap named (slot-here (c .before .before .before .before .before)) ∙ sym (place-of (now (x .s)) (x .shape) (entry .pre .0) (x .state) (l .j + 1) (entry .pre .3))))
+    (ap (λ ts. literalTexts (x .edge) (map (literal cs false) ts)) (ap named (c .before .before .before .before .slot-of .ensures) ∙ sym (place-of (now (x .s)) (x .shape) (entry .pre .0) (x .state) (l .j + 1) (entry .pre .3))))
     (p .ensures))
 
 same-length : tie.Need-same-length Inv-loop μ-loop
@@ -95,10 +74,7 @@ put-negations-spec =
     Inv-loop
     μ-loop
     loop-holds
-    mul-t
-    mul-t-2
-    index-1-t
-    index-2-t
+    slot-of-requires
     put-negation-requires
     add-j
     loop-less
