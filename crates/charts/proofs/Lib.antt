@@ -7,6 +7,7 @@ pub mod Holding
 pub mod TableLaws
 pub mod StepLaws
 pub mod Acting
+pub mod Growing
 pub mod ChartTurns
 pub mod Kept
 pub mod Turning

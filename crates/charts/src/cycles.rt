@@ -54,9 +54,7 @@ pub fn cycle_in_place(
     if 4294967295 < after {
         return Done::Fault(reason_by(after));
     }
-    let was = *ages;
-    let grown = older(shape.charts, was);
-    *ages = grown;
+    older(shape.charts, ages);
     Done::Events(0)
 }
 

@@ -127,19 +127,19 @@ pub fn moved(mut run: Run) -> Run
     run
 }
 
-pub fn older(charts: u16, ages: [u32; 8]) -> [u32; 8]
+// In place: a copy of the ages would be read back wider than it was written.
+pub fn older(charts: u16, ages: &mut [u32; 8])
     requires { ⌜ charts ≤ 8 ⌝ }
-    requires { ⌜ ((k : ℕ) → k < charts → getD ages k 0 < 4294967295) ⌝ }
-    ensures { λ r. ⌜ r ≡ mapFrom 0 (aged charts) ages ⌝ }
+    requires { ⌜ ((k : ℕ) → k < charts → getD (now ages) k 0 < 4294967295) ⌝ }
+    ensures { λ _. ⌜ now (ages .exit) ≡ mapFrom 0 (aged charts) (now (ages .entry)) ⌝ }
 {
-    let mut next = ages;
     let mut k: u16 = 0;
     while k < charts {
         let i = k as usize;
-        next[i] = ages[i] + 1;
+        let age = ages[i];
+        ages[i] = age + 1;
         k += 1;
     }
-    next
 }
 
 // Position n + 1 empties the events and adds 1 to each chart's age and to the count of cycles.
@@ -148,9 +148,9 @@ pub fn time_passed(charts: u16, mut run: Run) -> Run
     requires { ⌜ Young charts (runOf run) ⌝ }
     ensures { λ r. ⌜ ((cs : ChartSet) → length (cs .initial) ≡ charts → runOf r ≡ timePassed (machine cs) (runOf run)) ⌝ }
 {
-    let ages = run.ages;
-    let next = older(charts, ages);
-    run.ages = next;
+    let mut ages = run.ages;
+    older(charts, &mut ages);
+    run.ages = ages;
     run.events = 0;
     run.position = 1;
     run.cycles += 1;

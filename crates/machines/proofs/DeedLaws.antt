@@ -1,22 +1,20 @@
--- Deeds: an assignment's cases, a raised event's bits, and deeds one by one along a chain. Assumes nothing.
+-- Deeds: an assignment's cases, and a raised event's bits. Assumes nothing.
 use mathlib.Core.Path.{_≡_, sym, ap, _∙_}
 use mathlib.Core.Bool.{Bool, true, false, not}
-use mathlib.Core.List.{List, [], _∷_, map}
+use mathlib.Core.List.{List}
 use Prim.Native.Nat.{ℕ, suc, _+_, _-_, _*_, _/_, _%_, _^_, _≤_, _<_}
-use native.Mathlib.Nat.{mod-lt, mul-le-mul-right, pow-succ', sub-zero}
+use native.Mathlib.Nat.{mod-lt, mul-le-mul-right, pow-succ'}
 use native.Mathlib.Omega.{arith}
-use borrow.Author.Tests.{leb-true, eq-eqb, ne-eqb, eqb-true, eqb-false}
-use lib.Dec.{eqb}
+use borrow.Author.Tests.{leb-true, eqb-false}
 use lib.IntN.{ℤ, pos, negsuc}
 use lib.ListN.{getD, set}
 use lib.Pow.{pow-pos, pow-add, split, shr-lt}
 use lib.Signed.{leZ, mag}
-use Rattle.records.specs.Lists.{keep, from, upto}
 use Rattle.records.specs.Refusal.{Refusal, Out, val, fault, out-of-bounds, _>>=_, _>>_, fault-if}
 use Rattle.records.proofs.FramingLaws.{impossible}
 use Rattle.expressions.specs.Nodes.{Node, nodeOf}
 use Rattle.expressions.specs.Values.{number}
-use Rattle.model.specs.Runs.{Variable, noVariable, within, present, World, setVar, Deed, assign, deed, deeds}
+use Rattle.model.specs.Runs.{Variable, noVariable, within, present, World, setVar, assign, deed}
 use Rattle.machines.specs.Worlds.{worldIn}
 
 -- ---- numbers within bounds
@@ -69,32 +67,3 @@ bit-fits e mask h m off =
     let s : mask / 2 ^ e * 2 ^ e + mask % 2 ^ e ≡ mask = split mask e in
     let r : mask % 2 ^ e < 2 ^ e = mod-lt mask (pow-pos e) in
     omega arith
-
--- ---- deeds one by one
-
-module _ (nodes : List Node) (variables : List Variable) (act : ℕ → Deed) (vars₀ : List ℤ) (events₀ : ℕ) (all-of : List ℕ) where
-  -- what is left to do of all the deeds: those of the list, in the world as it is now
-  abbrev pub Left : List ℤ → ℕ → List ℕ → Type 0
-  Left vars events rest = (q c : ℕ) → deeds nodes variables (map act all-of) (worldIn vars₀ events₀ q c) ≡ deeds nodes variables (map act rest) (worldIn vars events q c)
-
-  pub left-all : (rest : List ℕ) → all-of ≡ rest → Left vars₀ events₀ rest
-  left-all rest e q c = ap (λ l. deeds nodes variables (map act l) (worldIn vars₀ events₀ q c)) e
-
-  module _ (vars : List ℤ) (events a : ℕ) (rest behind : List ℕ) (left : Left vars events rest) (one : rest ≡ a ∷ behind) where
-    one-more : (q c : ℕ) → deeds nodes variables (map act all-of) (worldIn vars₀ events₀ q c)
-        ≡ (deed nodes variables (act a) (worldIn vars events q c) >>= λ w. deeds nodes variables (map act behind) w)
-    unfolding deeds
-    one-more q c = left q c ∙ ap (λ l. deeds nodes variables (map act l) (worldIn vars events q c)) one
-
-    pub left-fault : (w : Refusal) → ((q c : ℕ) → fault w ≡ deed nodes variables (act a) (worldIn vars events q c)) →
-        (q c : ℕ) → fault w ≡ deeds nodes variables (map act all-of) (worldIn vars₀ events₀ q c)
-    left-fault w d q c = ap (λ o. o >>= λ w. deeds nodes variables (map act behind) w) (d q c) ∙ sym (one-more q c)
-
-    pub left-more : (vars′ : List ℤ) (events′ : ℕ) → ((q c : ℕ) → val (worldIn vars′ events′ q c) ≡ deed nodes variables (act a) (worldIn vars events q c)) →
-        Left vars′ events′ behind
-    left-more vars′ events′ d q c = one-more q c ∙ ap (λ o. o >>= λ w. deeds nodes variables (map act behind) w) (sym (d q c))
-
-  pub left-none : (vars : List ℤ) (events : ℕ) (rest : List ℕ) → Left vars events rest → rest ≡ [] →
-      (q c : ℕ) → val (worldIn vars events q c) ≡ deeds nodes variables (map act all-of) (worldIn vars₀ events₀ q c)
-  unfolding deeds
-  left-none vars events rest left e q c = sym (left q c ∙ ap (λ l. deeds nodes variables (map act l) (worldIn vars events q c)) e)

@@ -1,8 +1,7 @@
 -- `cycles::cycle_in_place` meets its contract: the charts' turns, and then time's. Assumes nothing.
-use mathlib.Core.Path.{_≡_, sym, ap, _∙_}
+use mathlib.Core.Path.{sym, ap, _∙_}
 use Prim.Native.Nat.{_+_, _-_, _≤_}
 use native.Mathlib.Omega.{arith}
-use borrow.Author.Needs.{needs}
 use denote.Ref.{now}
 use Rattle.records.specs.Lists.{mapFrom}
 use Rattle.records.specs.Refusal.{val, fault}

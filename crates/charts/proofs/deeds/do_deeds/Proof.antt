@@ -1,20 +1,15 @@
 -- `deeds::do_deeds` meets its contract: left to do are the key's deeds from action a on, and those of the keys behind. Assumes nothing.
-use mathlib.Core.Path.{_≡_, refl, sym, ap, _∙_, subst}
+use mathlib.Core.Path.{_≡_, refl, sym, ap, _∙_}
 use mathlib.Core.Logic.{⊎-elim}
-use mathlib.Core.List.{List}
 use Prim.Native.Nat.{ℕ, _+_, _-_, _*_, _≤_, _<_}
 use native.Mathlib.Omega.{arith}
-use borrow.Author.Needs.{needs}
-use borrow.Author.Tests.{eq-eqb, ne-eqb}
 use denote.Ref.{now}
 use lib.ListN.{getD}
-use Rattle.chart_files.specs.declared.Shape.{Shape}
 use Rattle.chart_files.proofs.Readings.{most-actions}
 use Rattle.machines.specs.Chains.{withKey, remaining, Chained}
 use Rattle.machines.specs.Worlds.{codedFault}
 use Rattle.machines.proofs.Chaining.{At, chain-start, chain-all, chain-next, chain-one, chain-rises, chain-done}
 use Rattle.machines.proofs.Codes.{world-value, world-fault}
-use Rattle.charts.specs.Accepted.{Accepted}
 use Rattle.charts.specs.Tables.{keyAt}
 use Rattle.charts.proofs.ActionLaws.{chained}
 use Rattle.charts.proofs.Acting.{keyAfter, key-crossing, key-entering, key-inside, Left, left-start, left-more, left-fault, left-next, left-none}

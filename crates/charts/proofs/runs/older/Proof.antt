@@ -1,39 +1,41 @@
 -- `runs::older` meets its contract: the invariant is that the ages before k are one more. Assumes nothing.
-use mathlib.Core.Path.{_≡_, refl, subst}
+use mathlib.Core.Path.{_≡_, subst}
 use Prim.Native.Nat.{_+_, _-_, _≤_}
 use native.Mathlib.Omega.{arith}
 use borrow.Author.Needs.{needs}
-use lib.ListN.{length, getD}
-use Rattle.machines.proofs.Filled.{Filled, filled-none, filled-more, filled-mapped}
+use denote.Ref.{now}
+use Rattle.charts.proofs.Growing.{Renewed, renewed-none, renewed-more, renewed-all}
 use Rattle.charts.proofs.runs.older.Statement.{statement}
 use Rattle.charts.proofs.runs.older.Tie as tie
 
 abbrev Inv-loop : tie.InvT-loop
-Inv-loop charts ages next₀ k₀ next k = (length ages ≡ 8) × (k ≤ charts) × Filled (λ j. getD ages j 0 + 1) 0 ages next k
+Inv-loop charts ages₀ k₀ ages k = (k ≤ charts) × Renewed (λ age. age + 1) ages₀ ages k
 
 abbrev μ-loop : tie.MeasureT-loop
-μ-loop charts ages next₀ k₀ next k = charts - k
+μ-loop charts ages₀ k₀ ages k = charts - k
 
 loop-holds : tie.Need-loop-holds Inv-loop μ-loop
-loop-holds c = let a = c .args .t2 in (search needs, omega arith, filled-none (λ j. getD a j 0 + 1) 0 a)
+loop-holds c = (omega arith, renewed-none (λ age. age + 1) (now (c .args .ages)))
 
 cast-i : tie.Need-cast-i Inv-loop μ-loop
 cast-i c = search needs
 
-mul-next : tie.Need-mul-next Inv-loop μ-loop
-mul-next c = omega arith
+mul-age : tie.Need-mul-age Inv-loop μ-loop
+mul-age c = omega arith
 
-array-read-next : tie.Need-array-read-next Inv-loop μ-loop
-array-read-next c = omega arith
+element-copy-out-age : tie.Need-element-copy-out-age Inv-loop μ-loop
+element-copy-out-age c = omega arith
 
-add-next : tie.Need-add-next Inv-loop μ-loop
-add-next c = omega (arith, c .before .before .pre .1 (c .before .loop .k) (omega arith))
+add-ages : tie.Need-add-ages Inv-loop μ-loop
+add-ages c =
+    let l = c .before .before .loop in
+    omega (arith, l .inv .1 .kept (l .k) (omega arith), c .before .before .before .pre .1 (l .k) (omega arith))
 
-mul-next-2 : tie.Need-mul-next-2 Inv-loop μ-loop
-mul-next-2 c = omega arith
+mul-ages : tie.Need-mul-ages Inv-loop μ-loop
+mul-ages c = omega arith
 
-array-write-next : tie.Need-array-write-next Inv-loop μ-loop
-array-write-next c = omega arith
+element-write-ages : tie.Need-element-write-ages Inv-loop μ-loop
+element-write-ages c = omega arith
 
 add-k : tie.Need-add-k Inv-loop μ-loop
 add-k c = omega arith
@@ -43,16 +45,30 @@ loop-less c = omega arith
 
 loop-again : tie.Need-loop-again Inv-loop μ-loop
 loop-again c =
-    let a = c .before .before .args in
-    let l = c .before .loop in
-    (l .inv .0, omega arith, filled-more (λ j. getD (a .t2) j 0 + 1) 0 (a .t2) (l .next) (l .k) _ refl (l .inv .2) (omega arith))
+    let l = c .before .before .loop in
+    (omega arith, renewed-more (λ age. age + 1) (now (c .before .before .before .args .ages)) (l .ages) (l .k) (l .inv .1))
 
 returns : tie.Need-returns Inv-loop μ-loop
 returns c =
-    let a = c .before .before .args in
+    let x = c .before .before .args in
     let l = c .before .loop in
-    let end : l .k ≡ a .charts = omega arith in
-    filled-mapped (λ _ age. age + 1) (a .charts) (a .t2) (l .next) (subst (Filled (λ j. getD (a .t2) j 0 + 1) 0 (a .t2) (l .next)) end (l .inv .2))
+    let end : l .k ≡ x .charts = omega arith in
+    renewed-all (λ age. age + 1) (now (x .ages)) (l .ages) (x .charts) (subst (Renewed (λ age. age + 1) (now (x .ages)) (l .ages)) end (l .inv .1))
 
 pub older-spec : {M : Type 1} → statement M
-older-spec = tie.close (tie.spec Inv-loop μ-loop loop-holds cast-i mul-next array-read-next add-next mul-next-2 array-write-next add-k loop-less loop-again returns)
+older-spec =
+    tie.close
+    (tie.spec
+    Inv-loop
+    μ-loop
+    loop-holds
+    cast-i
+    mul-age
+    element-copy-out-age
+    add-ages
+    mul-ages
+    element-write-ages
+    add-k
+    loop-less
+    loop-again
+    returns)

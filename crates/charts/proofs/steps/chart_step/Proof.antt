@@ -1,8 +1,7 @@
 -- `steps::chart_step` meets its contract: the turn in place, on a copy, with whole rows. Assumes nothing.
 use mathlib.Core.Path.{_≡_, refl, sym, ap, _∙_}
-use Prim.Native.Nat.{ℕ, _+_}
+use Prim.Native.Nat.{ℕ}
 use native.Mathlib.Omega.{arith}
-use borrow.Author.Needs.{needs}
 use denote.Ref.{now}
 use Rattle.records.specs.Refusal.{Out, val, fault, _>>=_}
 use Rattle.model.specs.Runs.{Answer}

@@ -1,5 +1,5 @@
 -- `steps::reply_by` meets its contract. Assumes nothing.
-use mathlib.Core.Path.{sym, ap}
+use mathlib.Core.Path.{sym}
 use borrow.Author.Tests.{eq-eqb, ne-eqb}
 use Rattle.charts.proofs.steps.reply_by.Statement.{statement}
 use Rattle.charts.proofs.steps.reply_by.Tie as tie

@@ -1,6 +1,5 @@
 -- `deeds::assign` meets its contract: what `assign_code` answers, as an enum. Assumes nothing.
 use mathlib.Core.Path.{_∙_}
-use borrow.Author.Needs.{needs}
 use Rattle.machines.proofs.deeds.assign.Statement.{statement}
 use Rattle.machines.proofs.deeds.assign.Tie as tie
 
