@@ -6,7 +6,7 @@ use mathlib.Core.List.{List}
 use Prim.Native.Nat.{ℕ, _+_, _≤_, _<_, min}
 use lib.Dec.{eqb, ltb}
 use lib.IntN.{ℤ}
-use lib.ListN.{getD}
+use lib.ListN.{length, getD}
 use Rattle.model.specs.Runs.{Run}
 use Rattle.model.specs.AutomataTable.{Timing, after, every}
 use Rattle.model.specs.Automata.{top, grown}
@@ -21,6 +21,10 @@ runIn at clocks vars events position cycles = record {
   timers = clocks;
   world = record { vars = vars; events = events; position = position; cycles = cycles };
 }
+
+-- the places that its arrays have by their types
+abbrev pub Sized : List ℕ → List ℕ → List ℤ → Type 0
+Sized at clocks vars = (length at ≡ 8) × (length clocks ≡ 256) × (length vars ≡ 64)
 
 abbrev pub runOf : declared-run.Run → Run
 runOf r = runIn (r .locations) (r .clocks) (r .variables) (r .events) (r .position) (r .cycles)

@@ -45,6 +45,18 @@ endingOf (declared-ending.the-variants.Refused w) = fault (refusalOf w)
 abbrev pub calledOf : Called → Outcome (Unit {0}) M.Run
 calledOf t = record { answer = endingOf (t .answer); lent = runOf (t .run) }
 
+-- a turn, and a cycle, by the run in the places after it
+abbrev pub takenOf : Answer → M.Run → Out (M.Answer × M.Run)
+takenOf (Taken e) r = val (M.taken e, r)
+takenOf Time r = val (M.time, r)
+takenOf (Fault w) r = fault (reasonOf w)
+takenOf (Refused w) r = fault (refusalOf w)
+
+abbrev pub endedOf : declared-ending.Ending → M.Run → Out (Unit {0} × M.Run)
+endedOf declared-ending.the-variants.Done r = val (tt, r)
+endedOf (declared-ending.the-variants.Fault w) r = fault (reasonOf w)
+endedOf (declared-ending.the-variants.Refused w) r = fault (refusalOf w)
+
 -- What is known of a table whose turns are taken: it is accepted, and its index is its own.
 pub record Known (s : List ℕ) (sh : Shape) (first next : List ℕ) : Type 0 where
   pub accepted : Accepted s sh

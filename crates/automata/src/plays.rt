@@ -173,7 +173,7 @@ fn play_indexed(s: &[u8], shape: Shape, next: &mut [u16], run: Run, masks: &[u32
     cycles_played(s, shape, &first, next, run, masks)
 }
 
-// The file checked once, then many cycles.
+// The file checked once, then many cycles. The index is that of a single turn.
 pub fn play(s: &[u8], run: Run, masks: &[u32]) -> Played
     ensures { λ r. ⌜ playedOf r ≡ playCall automataTables (now (s .entry)) (now (masks .entry)) (runOf run) ⌝ }
 {

@@ -1,7 +1,8 @@
 // Runs of automata: the fresh run, what is checked before a turn, and time.
 ghost use mathlib.Core.Path.{_≡_};
 ghost use Prim.Native.Nat.{ℕ, _≤_, _<_};
-ghost use lib.Dec.{leb};
+ghost use mathlib.Core.Bool.{cond};
+ghost use lib.Dec.{leb, eqb};
 ghost use lib.ListN.{length, getD};
 ghost use Rattle.records.specs.Lists.{all, upto, mapFrom};
 ghost use Rattle.model.specs.Runs.{start as started, possible, checked, give as given, timePassed};
@@ -11,7 +12,7 @@ ghost use Rattle.automata_files.specs.Shape.{IsShape};
 ghost use Rattle.automata_files.specs.Places.{clockAt};
 ghost use Rattle.machines.specs.Checks.{zeros, beforeOf};
 ghost use Rattle.automata.specs.Accepted.{Accepted};
-ghost use Rattle.automata.specs.RunOf.{runOf, timingIf, topAt, grownAt, Low, turnFor, capFor, grownTo, HasLimits};
+ghost use Rattle.automata.specs.RunOf.{runIn, runOf, Sized, timingIf, topAt, grownAt, Low, turnFor, capFor, grownTo, HasLimits};
 use super::fields::is_after;
 use super::fields::ticks_of;
 use super::values::values_of;
@@ -31,6 +32,30 @@ pub struct Run {
     pub events: u32,
     pub position: u32,
     pub cycles: u32,
+}
+
+// A run by its places.
+pub fn run_in(
+    locations: &[u16; 8],
+    clocks: &[u16; 256],
+    vars: &[i16; 64],
+    events: u32,
+    position: u32,
+    cycles: u32,
+) -> Run
+    ensures { λ r. ⌜ runOf r ≡ runIn (now (locations .entry)) (now (clocks .entry)) (now (vars .entry)) events position cycles ⌝ }
+{
+    let locations = *locations;
+    let clocks = *clocks;
+    let variables = *vars;
+    Run {
+        locations,
+        clocks,
+        variables,
+        events,
+        position,
+        cycles,
+    }
 }
 
 // The fresh run of a table.
@@ -100,44 +125,84 @@ fn clocks_unused(count: u16, clocks: &[u16; 256]) -> bool
 }
 
 // Whether a run is possible for a table.
-fn is_possible(s: &[u8], shape: Shape, run: Run) -> bool
-    requires { ⌜ IsShape (now s) shape ⌝ }
-    ensures { λ r. ⌜ r ≡ possible (machine (readAutomata (now (s .entry)))) (runOf run) ⌝ }
+fn is_possible(
+    s: &[u8],
+    shape: Shape,
+    locations: &[u16; 8],
+    clocks: &[u16; 256],
+    vars: &[i16; 64],
+    events: u32,
+    position: u32,
+    cycles: u32,
+) -> bool
+    requires { ⌜ IsShape (now s) shape × Sized (now locations) (now clocks) (now vars) ⌝ }
+    ensures { λ r. ⌜ r ≡ possible (machine (readAutomata (now (s .entry)))) (runIn (now (locations .entry)) (now (clocks .entry)) (now (vars .entry)) events position cycles) ⌝ }
 {
-    let locations = run.locations;
-    let clocks = run.clocks;
-    let variables = run.variables;
     let values = values_of(shape);
     let shared = shared_possible(
         s,
         shape.automata,
         shape.locations,
         values,
-        locations,
-        variables,
-        run.events,
-        run.position,
-        run.cycles,
+        *locations,
+        *vars,
+        events,
+        position,
+        cycles,
     );
-    shared & clocks_possible(s, shape, &clocks) & clocks_unused(shape.clocks, &clocks)
+    shared & clocks_possible(s, shape, clocks) & clocks_unused(shape.clocks, clocks)
 }
 
-// What is checked before a turn, or a cycle.
-pub fn before_turn(s: &[u8], shape: Shape, run: Run, events: u32) -> Before
+// What is checked before a turn, or a cycle, of a run by its places.
+pub fn before_turn(
+    s: &[u8],
+    shape: Shape,
+    locations: &[u16; 8],
+    clocks: &[u16; 256],
+    vars: &[i16; 64],
+    present: u32,
+    position: u32,
+    cycles: u32,
+    events: u32,
+) -> Before
+    requires { ⌜ IsShape (now s) shape × Sized (now locations) (now clocks) (now vars) ⌝ }
+    ensures { λ r. ⌜ beforeOf r ≡ checked (machine (readAutomata (now (s .entry)))) events (runIn (now (locations .entry)) (now (clocks .entry)) (now (vars .entry)) present position cycles) ⌝ }
+{
+    let possible = is_possible(s, shape, locations, clocks, vars, present, position, cycles);
+    decide(possible, events, position, cycles)
+}
+
+pub fn before_turn_of(s: &[u8], shape: Shape, run: Run, events: u32) -> Before
     requires { ⌜ IsShape (now s) shape ⌝ }
     ensures { λ r. ⌜ beforeOf r ≡ checked (machine (readAutomata (now (s .entry)))) events (runOf run) ⌝ }
 {
-    let possible = is_possible(s, shape, run);
-    decide(possible, events, run.position, run.cycles)
+    let locations = run.locations;
+    let clocks = run.clocks;
+    let variables = run.variables;
+    before_turn(
+        s,
+        shape,
+        &locations,
+        &clocks,
+        &variables,
+        run.events,
+        run.position,
+        run.cycles,
+        events,
+    )
 }
 
 // Input events are given at position 1.
+pub fn events_given(events: u32, position: u32, present: u32) -> u32
+    ensures { λ r. ⌜ r ≡ cond (eqb position 1) events present ⌝ }
+{
+    if position == 1 { events } else { present }
+}
+
 pub fn give(mut run: Run, events: u32) -> Run
     ensures { λ r. ⌜ runOf r ≡ given events (runOf run) ⌝ }
 {
-    if run.position == 1 {
-        run.events = events;
-    }
+    run.events = events_given(events, run.position, run.events);
     run
 }
 
@@ -204,6 +269,19 @@ pub fn grow(s: &[u8], shape: Shape, turn: &[u16; 256], cap: &[u16; 256], clocks:
     }
 }
 
+// Each clock in use grows, its limits read for this once.
+pub fn pass_time(s: &[u8], shape: Shape, clocks: &mut [u16; 256])
+    requires { ⌜ Accepted (now s) shape ⌝ }
+    requires { ⌜ length (now clocks) ≡ 256 ⌝ }
+    requires { ⌜ Low (shape .clocks) (now clocks) ⌝ }
+    ensures { λ _. ⌜ now (clocks .exit) ≡ mapFrom 0 (grownAt (now (s .entry)) shape) (now (clocks .entry)) ⌝ }
+{
+    let mut turn = [65535u16; 256];
+    let mut cap = [65535u16; 256];
+    limits_of(s, shape, &mut turn, &mut cap);
+    grow(s, shape, &turn, &cap, clocks);
+}
+
 // Position n + 1 empties the events, lets each clock grow, and adds 1 to the count of cycles.
 pub fn time_passed(s: &[u8], shape: Shape, mut run: Run) -> Run
     requires { ⌜ Accepted (now s) shape ⌝ }
@@ -211,11 +289,8 @@ pub fn time_passed(s: &[u8], shape: Shape, mut run: Run) -> Run
     requires { ⌜ Low (shape .clocks) (run .clocks) ⌝ }
     ensures { λ r. ⌜ runOf r ≡ timePassed (machine (readAutomata (now (s .entry)))) (runOf run) ⌝ }
 {
-    let mut turn = [65535u16; 256];
-    let mut cap = [65535u16; 256];
-    limits_of(s, shape, &mut turn, &mut cap);
     let mut clocks = run.clocks;
-    grow(s, shape, &turn, &cap, &mut clocks);
+    pass_time(s, shape, &mut clocks);
     run.clocks = clocks;
     run.events = 0;
     run.position = 1;

@@ -73,14 +73,7 @@ fn clock_of(s: &[u8], shape: Shape, n: u16) -> u16
 }
 
 // An edge's resets, from the record on where they start.
-fn reset_clocks(
-    s: &[u8],
-    shape: Shape,
-    next: &[u16],
-    start: u16,
-    e: u16,
-    clocks: &mut [u16; 256],
-)
+fn reset_clocks(s: &[u8], shape: Shape, next: &[u16], start: u16, e: u16, clocks: &mut [u16; 256])
     requires { ⌜ Accepted (now s) shape × NextOf (now s) (firstReset shape) (firstReset shape + shape .resets) (now next) × RoomFor shape (now next) × (start ≡ earliest (owned (now s) e) (firstReset shape) (firstReset shape + shape .resets - firstReset shape)) ⌝ }
     ensures { λ _. ⌜ now (clocks .exit) ≡ reset (of e (readAutomata (now (s .entry)) .resets)) (now (clocks .entry)) ⌝ }
 {

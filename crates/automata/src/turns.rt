@@ -1,20 +1,21 @@
 // Turns and cycles of automata.
 ghost use mathlib.Core.Path.{_≡_};
-ghost use Prim.Native.Nat.{_+_, _-_, _≤_};
+ghost use Prim.Native.Nat.{ℕ, _+_, _-_, _≤_};
 ghost use lib.ListN.{length};
 ghost use Rattle.model.specs.Outcome.{settled};
 ghost use Rattle.model.specs.Runs.{stepped, turn as model-turn, cycle as model-cycle};
 ghost use Rattle.model.specs.AutomataTable.{readAutomata};
 ghost use Rattle.model.specs.Automata.{automata as machine};
 ghost use Rattle.machines.specs.Turns.{after, finish};
-ghost use Rattle.automata.specs.RunOf.{runIn, runOf, HasLimits};
-ghost use Rattle.automata.specs.TurnOf.{turnOf, calledOf, Known, Ready, goneOf, GoneLow, cycledOf};
+ghost use Rattle.automata.specs.RunOf.{runIn, runOf, Sized, HasLimits};
+ghost use Rattle.automata.specs.TurnOf.{turnOf, calledOf, takenOf, endedOf, Known, Ready, goneOf, GoneLow, cycledOf};
 use super::runs::Run;
 use super::runs::before_turn;
-use super::runs::give;
+use super::runs::events_given;
 use super::runs::grow;
 use super::runs::limits_of;
-use super::runs::time_passed;
+use super::runs::pass_time;
+use super::runs::run_in;
 use super::steps::Reason;
 use super::steps::Went;
 use super::steps::edge_step;
@@ -60,77 +61,165 @@ pub struct Called {
     pub run: Run,
 }
 
-// An automaton's turn, and the next position. Where it faults the run is the one that was lent.
+// An automaton's turn, and the next position.
 fn automaton_turn(
     s: &[u8],
     shape: Shape,
     first: &[u16; 896],
     next: &[u16],
-    lent: Run,
-    run: Run,
-) -> Turned
+    locations: &mut [u16; 8],
+    clocks: &mut [u16; 256],
+    vars: &mut [i16; 64],
+    events: &mut u32,
+    position: &mut u32,
+) -> Answer
     requires { ⌜ Known (now s) shape (now first) (now next) ⌝ }
-    requires { ⌜ Ready shape (runOf run) ⌝ }
-    requires { ⌜ run .position ≤ shape .automata ⌝ }
-    ensures { λ r. ⌜ turnOf r ≡ settled (runOf lent) (stepped (machine (readAutomata (now (s .entry)))) (runOf run)) ⌝ }
+    requires { ⌜ (1 ≤ now position) × (now position ≤ shape .automata) ⌝ }
+    ensures { λ r. ⌜ ((c : ℕ) → takenOf r (runIn (now (locations .exit)) (now (clocks .exit)) (now (vars .exit)) (now (events .exit)) (now (position .exit)) c) ≡ stepped (machine (readAutomata (now (s .entry)))) (runIn (now (locations .entry)) (now (clocks .entry)) (now (vars .entry)) (now (events .entry)) (now (position .entry)) c)) ⌝ }
 {
-    let automaton = (run.position - 1) as u16;
-    let mut locations = run.locations;
-    let mut clocks = run.clocks;
-    let mut variables = run.variables;
+    let place = *position;
     match edge_step(
         s,
         shape,
         first,
         next,
-        automaton,
-        &mut locations,
-        &mut clocks,
-        &mut variables,
-        run.events,
+        (place - 1) as u16,
+        locations,
+        clocks,
+        vars,
+        *events,
     ) {
-        Went::Taken(e, events) => {
-            let run = Run {
-                locations,
-                clocks,
-                variables,
-                events,
-                position: run.position + 1,
-                cycles: run.cycles,
-            };
-            Turned {
-                answer: Answer::Taken(e),
-                run,
-            }
+        Went::Fault(w) => Answer::Fault(w),
+        Went::Taken(e, x) => {
+            *events = x;
+            *position = place + 1;
+            Answer::Taken(e)
         }
-        Went::Fault(w) => Turned {
-            answer: Answer::Fault(w),
-            run: lent,
-        },
     }
 }
 
-// The turn of the present position: an automaton's, or time's.
+// The turn of the present position: an automaton's, or time's. After a fault the places are of no use.
 fn turn_taken(
     s: &[u8],
     shape: Shape,
     first: &[u16; 896],
     next: &[u16],
-    lent: Run,
-    run: Run,
-) -> Turned
+    locations: &mut [u16; 8],
+    clocks: &mut [u16; 256],
+    vars: &mut [i16; 64],
+    events: &mut u32,
+    position: &mut u32,
+    cycles: &mut u32,
+) -> Answer
     requires { ⌜ Known (now s) shape (now first) (now next) ⌝ }
-    requires { ⌜ Ready shape (runOf run) ⌝ }
-    ensures { λ r. ⌜ turnOf r ≡ settled (runOf lent) (stepped (machine (readAutomata (now (s .entry)))) (runOf run)) ⌝ }
+    requires { ⌜ Ready shape (runIn (now locations) (now clocks) (now vars) (now events) (now position) (now cycles)) ⌝ }
+    requires { ⌜ length (now clocks) ≡ 256 ⌝ }
+    ensures { λ r. ⌜ takenOf r (runIn (now (locations .exit)) (now (clocks .exit)) (now (vars .exit)) (now (events .exit)) (now (position .exit)) (now (cycles .exit))) ≡ stepped (machine (readAutomata (now (s .entry)))) (runIn (now (locations .entry)) (now (clocks .entry)) (now (vars .entry)) (now (events .entry)) (now (position .entry)) (now (cycles .entry))) ⌝ }
 {
-    if run.position <= (shape.automata as u32) {
-        automaton_turn(s, shape, first, next, lent, run)
+    if *position <= (shape.automata as u32) {
+        automaton_turn(
+            s,
+            shape,
+            first,
+            next,
+            locations,
+            clocks,
+            vars,
+            events,
+            position,
+        )
     } else {
-        let run = time_passed(s, shape, run);
-        Turned {
-            answer: Answer::Time,
-            run,
+        pass_time(s, shape, clocks);
+        *events = 0;
+        *position = 1;
+        *cycles += 1;
+        Answer::Time
+    }
+}
+
+// A turn of an accepted table, of a run by its places. After a fault they are of no use.
+pub fn turn_places(
+    s: &[u8],
+    shape: Shape,
+    first: &[u16; 896],
+    next: &[u16],
+    locations: &mut [u16; 8],
+    clocks: &mut [u16; 256],
+    vars: &mut [i16; 64],
+    present: &mut u32,
+    position: &mut u32,
+    cycles: &mut u32,
+    events: u32,
+) -> Answer
+    requires { ⌜ Known (now s) shape (now first) (now next) ⌝ }
+    requires { ⌜ Sized (now locations) (now clocks) (now vars) ⌝ }
+    ensures { λ r. ⌜ takenOf r (runIn (now (locations .exit)) (now (clocks .exit)) (now (vars .exit)) (now (present .exit)) (now (position .exit)) (now (cycles .exit))) ≡ model-turn (machine (readAutomata (now (s .entry)))) events (runIn (now (locations .entry)) (now (clocks .entry)) (now (vars .entry)) (now (present .entry)) (now (position .entry)) (now (cycles .entry))) ⌝ }
+{
+    match before_turn(
+        s,
+        shape,
+        locations,
+        clocks,
+        vars,
+        *present,
+        *position,
+        *cycles,
+        events,
+    ) {
+        Before::Impossible => Answer::Refused(Refusal::Impossible),
+        Before::Misplaced => Answer::Refused(Refusal::Misplaced),
+        Before::Finished => Answer::Refused(Refusal::Finished),
+        Before::Fine => {
+            *present = events_given(events, *position, *present);
+            turn_taken(
+                s,
+                shape,
+                first,
+                next,
+                locations,
+                clocks,
+                vars,
+                present,
+                position,
+                cycles,
+            )
         }
+    }
+}
+
+// A turn's answer with the run after it: what is in the places, or what was lent where no turn was taken.
+pub fn settle_turn(
+    lent: Run,
+    locations: &[u16; 8],
+    clocks: &[u16; 256],
+    vars: &[i16; 64],
+    events: u32,
+    position: u32,
+    cycles: u32,
+    answer: Answer,
+) -> Turned
+    ensures { λ r. ⌜ turnOf r ≡ settled (runOf lent) (takenOf answer (runIn (now (locations .entry)) (now (clocks .entry)) (now (vars .entry)) events position cycles)) ⌝ }
+{
+    match answer {
+        Answer::Taken(e) => {
+            let run = run_in(locations, clocks, vars, events, position, cycles);
+            Turned {
+                answer: Answer::Taken(e),
+                run,
+            }
+        }
+        Answer::Time => {
+            let run = run_in(locations, clocks, vars, events, position, cycles);
+            Turned {
+                answer: Answer::Time,
+                run,
+            }
+        }
+        Answer::Fault(w) => Turned {
+            answer: Answer::Fault(w),
+            run: lent,
+        },
+        Answer::Refused(w) => unready(lent, w),
     }
 }
 
@@ -156,15 +245,35 @@ pub fn turn_of(
     requires { ⌜ Known (now s) shape (now first) (now next) ⌝ }
     ensures { λ r. ⌜ turnOf r ≡ settled (runOf run) (model-turn (machine (readAutomata (now (s .entry)))) events (runOf run)) ⌝ }
 {
-    match before_turn(s, shape, run, events) {
-        Before::Impossible => unready(run, Refusal::Impossible),
-        Before::Misplaced => unready(run, Refusal::Misplaced),
-        Before::Finished => unready(run, Refusal::Finished),
-        Before::Fine => {
-            let given = give(run, events);
-            turn_taken(s, shape, first, next, run, given)
-        }
-    }
+    let mut locations = run.locations;
+    let mut clocks = run.clocks;
+    let mut variables = run.variables;
+    let mut present = run.events;
+    let mut position = run.position;
+    let mut cycles = run.cycles;
+    let answer = turn_places(
+        s,
+        shape,
+        first,
+        next,
+        &mut locations,
+        &mut clocks,
+        &mut variables,
+        &mut present,
+        &mut position,
+        &mut cycles,
+        events,
+    );
+    settle_turn(
+        run,
+        &locations,
+        &clocks,
+        &variables,
+        present,
+        position,
+        cycles,
+        answer,
+    )
 }
 
 pub fn turn(
@@ -223,6 +332,47 @@ fn automata_taken(
     Gone::All
 }
 
+// A cycle in place, from the present position on. After a fault the places are of no use.
+fn cycle_gone(
+    s: &[u8],
+    shape: Shape,
+    first: &[u16; 896],
+    next: &[u16],
+    turn: &[u16; 256],
+    cap: &[u16; 256],
+    locations: &mut [u16; 8],
+    clocks: &mut [u16; 256],
+    vars: &mut [i16; 64],
+    events: u32,
+    position: u32,
+    cycles: u32,
+) -> Gone
+    requires { ⌜ Known (now s) shape (now first) (now next) ⌝ }
+    requires { ⌜ Ready shape (runIn (now locations) (now clocks) (now vars) events position cycles) ⌝ }
+    requires { ⌜ length (now clocks) ≡ 256 ⌝ }
+    requires { ⌜ HasLimits (now s) shape (now turn) (now cap) ⌝ }
+    ensures { λ r. ⌜ cycledOf r (runIn (now (locations .exit)) (now (clocks .exit)) (now (vars .exit)) 0 1 (cycles + 1)) ≡ after (machine (readAutomata (now (s .entry)))) (shape .automata + 2 - position) (runIn (now (locations .entry)) (now (clocks .entry)) (now (vars .entry)) events position cycles) ⌝ }
+{
+    match automata_taken(
+        s,
+        shape,
+        first,
+        next,
+        locations,
+        clocks,
+        vars,
+        events,
+        position,
+        cycles,
+    ) {
+        Gone::Fault(w) => Gone::Fault(w),
+        Gone::All => {
+            grow(s, shape, turn, cap, clocks);
+            Gone::All
+        }
+    }
+}
+
 // A cycle in place, from the present position on: all its turns, or none.
 pub fn cycle_in_place(
     s: &[u8],
@@ -248,11 +398,13 @@ pub fn cycle_in_place(
     let locations_before = *locations;
     let clocks_before = *clocks;
     let vars_before = *vars;
-    match automata_taken(
+    match cycle_gone(
         s,
         shape,
         first,
         next,
+        turn,
+        cap,
         locations,
         clocks,
         vars,
@@ -266,64 +418,100 @@ pub fn cycle_in_place(
             *vars = vars_before;
             Gone::Fault(w)
         }
-        Gone::All => {
-            grow(s, shape, turn, cap, clocks);
-            Gone::All
-        }
+        Gone::All => Gone::All,
     }
 }
 
-// The turns from the present position up to time's. Where one faults the run is the one that was lent.
+// A cycle whose clocks' limits are read for this once. After a fault the places are of no use.
 fn cycle_taken(
     s: &[u8],
     shape: Shape,
     first: &[u16; 896],
     next: &[u16],
-    lent: Run,
-    run: Run,
-) -> Called
+    locations: &mut [u16; 8],
+    clocks: &mut [u16; 256],
+    vars: &mut [i16; 64],
+    events: u32,
+    position: u32,
+    cycles: &mut u32,
+) -> Ending
     requires { ⌜ Known (now s) shape (now first) (now next) ⌝ }
-    requires { ⌜ Ready shape (runOf run) ⌝ }
-    ensures { λ r. ⌜ calledOf r ≡ settled (runOf lent) (finish (after (machine (readAutomata (now (s .entry)))) (shape .automata + 2 - run .position) (runOf run))) ⌝ }
+    requires { ⌜ Ready shape (runIn (now locations) (now clocks) (now vars) events position (now cycles)) ⌝ }
+    requires { ⌜ length (now clocks) ≡ 256 ⌝ }
+    ensures { λ r. ⌜ endedOf r (runIn (now (locations .exit)) (now (clocks .exit)) (now (vars .exit)) 0 1 (now (cycles .exit))) ≡ finish (after (machine (readAutomata (now (s .entry)))) (shape .automata + 2 - position) (runIn (now (locations .entry)) (now (clocks .entry)) (now (vars .entry)) events position (now (cycles .entry)))) ⌝ }
 {
     let mut turn = [65535u16; 256];
     let mut cap = [65535u16; 256];
     limits_of(s, shape, &mut turn, &mut cap);
-    let mut locations = run.locations;
-    let mut clocks = run.clocks;
-    let mut variables = run.variables;
-    match cycle_in_place(
+    match cycle_gone(
         s,
         shape,
         first,
         next,
         &turn,
         &cap,
-        &mut locations,
-        &mut clocks,
-        &mut variables,
-        run.events,
-        run.position,
-        run.cycles,
+        locations,
+        clocks,
+        vars,
+        events,
+        position,
+        *cycles,
     ) {
+        Gone::Fault(w) => Ending::Fault(w),
         Gone::All => {
-            let run = Run {
+            *cycles += 1;
+            Ending::Done
+        }
+    }
+}
+
+// A cycle of an accepted table, of a run by its places: after it there are no events, at position 1. After a fault the places are of no use.
+pub fn cycle_places(
+    s: &[u8],
+    shape: Shape,
+    first: &[u16; 896],
+    next: &[u16],
+    locations: &mut [u16; 8],
+    clocks: &mut [u16; 256],
+    vars: &mut [i16; 64],
+    present: u32,
+    position: u32,
+    cycles: &mut u32,
+    events: u32,
+) -> Ending
+    requires { ⌜ Known (now s) shape (now first) (now next) ⌝ }
+    requires { ⌜ Sized (now locations) (now clocks) (now vars) ⌝ }
+    ensures { λ r. ⌜ endedOf r (runIn (now (locations .exit)) (now (clocks .exit)) (now (vars .exit)) 0 1 (now (cycles .exit))) ≡ model-cycle (machine (readAutomata (now (s .entry)))) events (runIn (now (locations .entry)) (now (clocks .entry)) (now (vars .entry)) present position (now (cycles .entry))) ⌝ }
+{
+    match before_turn(
+        s,
+        shape,
+        locations,
+        clocks,
+        vars,
+        present,
+        position,
+        *cycles,
+        events,
+    ) {
+        Before::Impossible => Ending::Refused(Refusal::Impossible),
+        Before::Misplaced => Ending::Refused(Refusal::Misplaced),
+        Before::Finished => Ending::Refused(Refusal::Finished),
+        Before::Fine => {
+            let given = events_given(events, position, present);
+            cycle_taken(
+                s,
+                shape,
+                first,
+                next,
                 locations,
                 clocks,
-                variables,
-                events: 0,
-                position: 1,
-                cycles: run.cycles + 1,
-            };
-            Called {
-                answer: Ending::Done,
-                run,
-            }
+                vars,
+                given,
+                position,
+                cycles,
+            )
         }
-        Gone::Fault(w) => Called {
-            answer: Ending::Fault(w),
-            run: lent,
-        },
     }
 }
 
@@ -333,6 +521,33 @@ pub fn undone(run: Run, refusal: Refusal) -> Called
     Called {
         answer: Ending::Refused(refusal),
         run,
+    }
+}
+
+// A cycle's ending with the run after it: what is in the places, or what was lent where the cycle was not done.
+pub fn settle_cycle(
+    lent: Run,
+    locations: &[u16; 8],
+    clocks: &[u16; 256],
+    vars: &[i16; 64],
+    cycles: u32,
+    ending: Ending,
+) -> Called
+    ensures { λ r. ⌜ calledOf r ≡ settled (runOf lent) (endedOf ending (runIn (now (locations .entry)) (now (clocks .entry)) (now (vars .entry)) 0 1 cycles)) ⌝ }
+{
+    match ending {
+        Ending::Done => {
+            let run = run_in(locations, clocks, vars, 0, 1, cycles);
+            Called {
+                answer: Ending::Done,
+                run,
+            }
+        }
+        Ending::Fault(w) => Called {
+            answer: Ending::Fault(w),
+            run: lent,
+        },
+        Ending::Refused(w) => undone(lent, w),
     }
 }
 
@@ -348,15 +563,24 @@ pub fn cycle_of(
     requires { ⌜ Known (now s) shape (now first) (now next) ⌝ }
     ensures { λ r. ⌜ calledOf r ≡ settled (runOf run) (model-cycle (machine (readAutomata (now (s .entry)))) events (runOf run)) ⌝ }
 {
-    match before_turn(s, shape, run, events) {
-        Before::Impossible => undone(run, Refusal::Impossible),
-        Before::Misplaced => undone(run, Refusal::Misplaced),
-        Before::Finished => undone(run, Refusal::Finished),
-        Before::Fine => {
-            let given = give(run, events);
-            cycle_taken(s, shape, first, next, run, given)
-        }
-    }
+    let mut locations = run.locations;
+    let mut clocks = run.clocks;
+    let mut variables = run.variables;
+    let mut cycles = run.cycles;
+    let ending = cycle_places(
+        s,
+        shape,
+        first,
+        next,
+        &mut locations,
+        &mut clocks,
+        &mut variables,
+        run.events,
+        run.position,
+        &mut cycles,
+        events,
+    );
+    settle_cycle(run, &locations, &clocks, &variables, cycles, ending)
 }
 
 pub fn cycle(

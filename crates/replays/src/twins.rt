@@ -17,7 +17,7 @@ ghost use Rattle.lines.specs.Text.{chosenOf, lineText, traceText};
 ghost use Rattle.replays.specs.Played.{runAfter, turnLine};
 ghost use Rattle.replays.specs.Twins.{stepOf, linedOf, wentOf};
 use automata::runs::Run;
-use automata::runs::before_turn;
+use automata::runs::before_turn_of;
 use automata::runs::give;
 use automata::runs::time_passed;
 use automata::steps::Reason;
@@ -275,7 +275,7 @@ pub fn cycle_into(
     ensures { λ r. ⌜ r .size ≤ 3856 ⌝ }
     ensures { λ r. ⌜ linedOf r ≡ settled (runOf run) (model-cycle (machine (readAutomata (now (s .entry)))) events (runOf run)) ⌝ }
 {
-    match before_turn(s, shape, run, events) {
+    match before_turn_of(s, shape, run, events) {
         Before::Impossible => refused(run, Refusal::Impossible),
         Before::Misplaced => refused(run, Refusal::Misplaced),
         Before::Finished => refused(run, Refusal::Finished),

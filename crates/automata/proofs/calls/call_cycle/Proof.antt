@@ -1,4 +1,4 @@
--- `calls::call_cycle` meets its contract: a file that is not refused is one that `cycle` takes. Assumes nothing.
+-- `calls::call_cycle` meets its contract: a file that is not refused is one whose cycles are taken. Assumes nothing.
 use mathlib.Core.Path.{sym, ap, _∙_}
 use borrow.Author.Needs.{needs}
 use denote.Ref.{now}
@@ -10,7 +10,6 @@ use Rattle.model.specs.Automata.{automata}
 use Rattle.automata.specs.Accepted.{Accepted}
 use Rattle.automata.specs.RunOf.{runOf}
 use Rattle.automata.specs.TurnOf.{endingOf}
-use Rattle.automata.proofs.TableLaws.{room-short, room-long}
 use Rattle.automata.proofs.Checking.{accepted-of, refused-of}
 use Rattle.automata.proofs.calls.call_cycle.Statement.{statement}
 use Rattle.automata.proofs.calls.call_cycle.Tie as tie
@@ -32,17 +31,11 @@ accepted c =
     let k = c .before .before .before in
     accepted-of (now (k .before .before .args .s)) (k .check .result) (k .check .ensures) (c .before .shape .given .0 .0) (c .before .shape .given .1)
 
-slice-aggregate-cycle-indexed : tie.Need-slice-aggregate-cycle-indexed
-slice-aggregate-cycle-indexed c = search needs
+cycle-sized-requires : tie.Need-cycle-sized-requires
+cycle-sized-requires c κs = (accepted (c .before .before .before .before .before .before .before), (search needs, search needs, search needs))
 
-cycle-indexed-requires : tie.Need-cycle-indexed-requires
-cycle-indexed-requires c κs = let ok = accepted (c .before .before) in (ok, room-short _ _ (ok .shape) (c .before .if1 .taken))
-
-slice-aggregate-cycle-indexed-2 : tie.Need-slice-aggregate-cycle-indexed-2
-slice-aggregate-cycle-indexed-2 c = search needs
-
-cycle-indexed-requires-2 : tie.Need-cycle-indexed-requires-2
-cycle-indexed-requires-2 c κs = let ok = accepted (c .before .before) in (ok, room-long _ _ (ok .shape))
+settle-cycle-requires : tie.Need-settle-cycle-requires
+settle-cycle-requires c κs = search needs
 
 returns : tie.Need-returns
 returns c =
@@ -56,16 +49,10 @@ returns c =
 
 returns-2 : tie.Need-returns-2
 returns-2 c =
-    let t = c .before .before .before .before in
+    let t = c .before .before .before .before .before .before .before .before .before .before .before .before in
     let a = t .before .before .before .before .before .args in
-    c .before .cycle-indexed .ensures
-    ∙ sym (ap (λ o. settled (runOf (a .run)) (unless-refused o (cycle (automata (readAutomata (now (a .s)))) (a .events) (runOf (a .run))))) (accepted t .unrefused))
-
-returns-3 : tie.Need-returns-3
-returns-3 c =
-    let t = c .before .before .before .before in
-    let a = t .before .before .before .before .before .args in
-    c .before .cycle-indexed2 .ensures
+    c .settle-cycle .ensures
+    ∙ ap (settled (runOf (a .run))) (c .before .before .before .before .cycle-sized .ensures)
     ∙ sym (ap (λ o. settled (runOf (a .run)) (unless-refused o (cycle (automata (readAutomata (now (a .s)))) (a .events) (runOf (a .run))))) (accepted t .unrefused))
 
 pub call-cycle-spec : {M : Type 1} → statement M
@@ -76,10 +63,7 @@ call-cycle-spec =
     enum-told
     undone-requires
     enum-known-shape
-    slice-aggregate-cycle-indexed
-    cycle-indexed-requires
-    slice-aggregate-cycle-indexed-2
-    cycle-indexed-requires-2
+    cycle-sized-requires
+    settle-cycle-requires
     returns
-    returns-2
-    returns-3)
+    returns-2)

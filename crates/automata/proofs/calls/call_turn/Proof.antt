@@ -1,4 +1,4 @@
--- `calls::call_turn` meets its contract: a file that is not refused is one that `turn` takes. Assumes nothing.
+-- `calls::call_turn` meets its contract: a file that is not refused is one whose turns are taken. Assumes nothing.
 use mathlib.Core.Path.{sym, ap, _∙_}
 use borrow.Author.Needs.{needs}
 use denote.Ref.{now}
@@ -10,7 +10,6 @@ use Rattle.model.specs.Automata.{automata}
 use Rattle.automata.specs.Accepted.{Accepted}
 use Rattle.automata.specs.RunOf.{runOf}
 use Rattle.automata.specs.TurnOf.{answerOf}
-use Rattle.automata.proofs.TableLaws.{room-short, room-long}
 use Rattle.automata.proofs.Checking.{accepted-of, refused-of}
 use Rattle.automata.proofs.calls.call_turn.Statement.{statement}
 use Rattle.automata.proofs.calls.call_turn.Tie as tie
@@ -32,17 +31,11 @@ accepted c =
     let k = c .before .before .before in
     accepted-of (now (k .before .before .args .s)) (k .check .result) (k .check .ensures) (c .before .shape .given .0 .0) (c .before .shape .given .1)
 
-slice-aggregate-turn-indexed : tie.Need-slice-aggregate-turn-indexed
-slice-aggregate-turn-indexed c = search needs
+turn-sized-requires : tie.Need-turn-sized-requires
+turn-sized-requires c κs = (accepted (c .before .before .before .before .before .before .before .before .before), (search needs, search needs, search needs))
 
-turn-indexed-requires : tie.Need-turn-indexed-requires
-turn-indexed-requires c κs = let ok = accepted (c .before .before) in (ok, room-short _ _ (ok .shape) (c .before .if1 .taken))
-
-slice-aggregate-turn-indexed-2 : tie.Need-slice-aggregate-turn-indexed-2
-slice-aggregate-turn-indexed-2 c = search needs
-
-turn-indexed-requires-2 : tie.Need-turn-indexed-requires-2
-turn-indexed-requires-2 c κs = let ok = accepted (c .before .before) in (ok, room-long _ _ (ok .shape))
+settle-turn-requires : tie.Need-settle-turn-requires
+settle-turn-requires c κs = search needs
 
 returns : tie.Need-returns
 returns c =
@@ -56,16 +49,10 @@ returns c =
 
 returns-2 : tie.Need-returns-2
 returns-2 c =
-    let t = c .before .before .before .before in
+    let t = c .before .before .before .before .before .before .before .before .before .before .before .before .before .before in
     let a = t .before .before .before .before .before .args in
-    c .before .turn-indexed .ensures
-    ∙ sym (ap (λ o. settled (runOf (a .run)) (unless-refused o (turn (automata (readAutomata (now (a .s)))) (a .events) (runOf (a .run))))) (accepted t .unrefused))
-
-returns-3 : tie.Need-returns-3
-returns-3 c =
-    let t = c .before .before .before .before in
-    let a = t .before .before .before .before .before .args in
-    c .before .turn-indexed2 .ensures
+    c .settle-turn .ensures
+    ∙ ap (settled (runOf (a .run))) (c .before .before .before .before .turn-sized .ensures)
     ∙ sym (ap (λ o. settled (runOf (a .run)) (unless-refused o (turn (automata (readAutomata (now (a .s)))) (a .events) (runOf (a .run))))) (accepted t .unrefused))
 
 pub call-turn-spec : {M : Type 1} → statement M
@@ -76,10 +63,7 @@ call-turn-spec =
     enum-told
     unready-requires
     enum-known-shape
-    slice-aggregate-turn-indexed
-    turn-indexed-requires
-    slice-aggregate-turn-indexed-2
-    turn-indexed-requires-2
+    turn-sized-requires
+    settle-turn-requires
     returns
-    returns-2
-    returns-3)
+    returns-2)

@@ -12,7 +12,7 @@ decide-requires : tie.Need-decide-requires
 decide-requires c κs = search needs
 
 returns : tie.Need-returns
-returns c = let a = c .before .before .before .args in c .decide .ensures ∙ ap (λ b. checkedBy b (a .events) (a .run .position) (a .run .cycles)) (c .before .is-possible .ensures)
+returns c = let a = c .before .before .before .args in c .decide .ensures ∙ ap (λ b. checkedBy b (a .events) (a .position) (a .cycles)) (c .before .is-possible .ensures)
 
 pub before-turn-spec : {M : Type 1} → statement M
 before-turn-spec = tie.close (tie.spec is-possible-requires decide-requires returns)

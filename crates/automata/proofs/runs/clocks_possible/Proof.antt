@@ -1,5 +1,4 @@
 -- `runs::clocks_possible` meets its contract: the invariant is what was read of the clocks before k. Assumes nothing.
-use mathlib.Core.Path.{_≡_}
 use mathlib.Core.Bool.{Bool}
 use mathlib.Core.List.{List}
 use Prim.Native.Nat.{ℕ, _-_, _<_}

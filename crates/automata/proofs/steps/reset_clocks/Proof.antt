@@ -1,5 +1,5 @@
 -- `steps::reset_clocks` meets its contract: what is left is to be reset from record n on. Assumes nothing.
-use mathlib.Core.Path.{_≡_, refl, sym, ap, _∙_}
+use mathlib.Core.Path.{_≡_, sym, ap, _∙_}
 use Prim.Native.Nat.{_+_, _-_, _≤_, _<_}
 use native.Mathlib.Omega.{arith}
 use denote.Ref.{now}
@@ -13,7 +13,6 @@ use Rattle.automata.specs.Index.{ownerIn}
 use Rattle.automata.proofs.Chained.{Walk, walk-from, walk-at, walk-rises, walk-more, walk-done}
 use Rattle.automata.proofs.TableLaws.{few-records, resets-of}
 use Rattle.automata.proofs.StepLaws.{resetOn, reset-one, reset-none}
-use borrow.Author.Needs.{needs}
 use Rattle.automata.proofs.steps.reset_clocks.Statement.{statement}
 use Rattle.automata.proofs.steps.reset_clocks.Tie as tie
 

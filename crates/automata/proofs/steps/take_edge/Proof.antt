@@ -18,7 +18,7 @@ use Rattle.machines.specs.Chains.{earliest}
 use Rattle.machines.specs.Worlds.{reasonOf, worldIn, worldAfter}
 use Rattle.automata.specs.Index.{ownerIn, owned}
 use Rattle.automata.specs.RunOf.{runIn}
-use Rattle.automata.proofs.Chained.{Walk, walk-from, walk-at, walk-to, walk-ends, walk-done, upTo, Ahead, ahead-first, ahead-second, rises, here-first}
+use Rattle.automata.proofs.Chained.{Walk, walk-from, walk-at, walk-to, walk-ends, walk-done, upTo, Ahead, ahead-first, ahead-second, rises}
 use Rattle.automata.proofs.Kept.{length-reset}
 use Rattle.automata.proofs.TableLaws.{few-records, updates-of}
 use Rattle.automata.proofs.StepLaws.{doOn, do-fault, do-more, do-none, take-fault, take-done}
@@ -168,9 +168,11 @@ loop-less c =
     let i = c .before .before .before .before .before .before in
     let x = start i .args in
     let n = i .before .loop .n in
-    omega
-    (arith, here i,
-    rises (owned (now (x .s)) (x .e)) (firstReset (x .shape) + x .shape .resets) (omega (arith, small (start i))) n (getD (now (x .next)) n 0) (omega (arith, here i)) (next-is i))
+    omega (
+      arith,
+      here i,
+      rises (owned (now (x .s)) (x .e)) (firstReset (x .shape) + x .shape .resets) (omega (arith, small (start i))) n (getD (now (x .next)) n 0) (omega (arith, here i)) (next-is i),
+    )
 
 loop-again : tie.Need-loop-again Inv-loop μ-loop
 loop-again c =

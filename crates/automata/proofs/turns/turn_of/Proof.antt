@@ -1,107 +1,19 @@
--- `turns::turn_of` meets its contract: what the checks let pass is ready. Assumes nothing.
-use mathlib.Core.Path.{_≡_, sym, ap, _∙_, subst}
-use borrow.Author.Needs.{needs}
-use denote.Ref.{now}
-use Rattle.records.specs.Refusal.{impossible-run, misplaced-events, cycles-done, val}
+-- `turns::turn_of` meets its contract. Assumes nothing.
+use mathlib.Core.Path.{ap, _∙_}
 use Rattle.model.specs.Outcome.{settled}
-use Rattle.model.specs.Runs.{stepped, checked}
-use Rattle.model.specs.AutomataTable.{readAutomata}
-use Rattle.model.specs.Automata.{automata}
-use Rattle.machines.specs.Checks.{beforeOf}
 use Rattle.automata.specs.RunOf.{runOf}
-use Rattle.automata.specs.TurnOf.{answerOf, Ready}
-use Rattle.machines.proofs.Turning.{turn-refused, turn-fine}
-use Rattle.automata.proofs.Turning.{ready}
+use borrow.Author.Needs.{needs}
 use Rattle.automata.proofs.turns.turn_of.Statement.{statement}
 use Rattle.automata.proofs.turns.turn_of.Tie as tie
 
-before-turn-requires : tie.Need-before-turn-requires
-before-turn-requires c κs = c .before .before .pre .accepted .shape
+turn-places-requires : tie.Need-turn-places-requires
+turn-places-requires c κs = search needs
 
-enum-told : tie.Need-enum-told
-enum-told c = search needs
-
-unready-requires : tie.Need-unready-requires
-unready-requires c κs = search needs
-
-enum-told-2 : tie.Need-enum-told-2
-enum-told-2 c = search needs
-
-unready-requires-2 : tie.Need-unready-requires-2
-unready-requires-2 c κs = search needs
-
-enum-told-3 : tie.Need-enum-told-3
-enum-told-3 c = search needs
-
-unready-requires-3 : tie.Need-unready-requires-3
-unready-requires-3 c κs = search needs
-
-enum-told-4 : tie.Need-enum-told-4
-enum-told-4 c = search needs
-
-give-requires : tie.Need-give-requires
-give-requires c κs = search needs
-
-passed : (c : tie.After-enum-told4) →
-    let b = c .before .before .before .before .before in
-    checked (automata (readAutomata (now (b .args .s)))) (b .args .events) (runOf (b .args .run)) ≡ val tt
-passed c = sym (c .before .before .before-turn .ensures) ∙ ap beforeOf (c .enum-told4 .given .1)
-
-turn-taken-requires : tie.Need-turn-taken-requires
-turn-taken-requires c κs =
-    let b = c .before .before .before .before .before .before in
-    (b .pre, subst (Ready (b .args .shape)) (sym (c .give .ensures)) (ready (now (b .args .s)) (b .args .shape) (b .pre .accepted) (b .args .events) (runOf (b .args .run)) (passed (c .before))))
+settle-turn-requires : tie.Need-settle-turn-requires
+settle-turn-requires c κs = search needs
 
 returns : tie.Need-returns
-returns c =
-    let b = c .before .before .before .before .before .before in
-    (λ i. record { answer = answerOf (c .unready .ensures .0 i); lent = runOf (c .unready .ensures .1 i) })
-    ∙ sym
-    (ap (settled (runOf (b .args .run)))
-    (turn-refused (automata (readAutomata (now (b .args .s)))) (b .args .events) (runOf (b .args .run)) impossible-run
-    (sym (c .before .before .before .before-turn .ensures) ∙ ap beforeOf (c .before .enum-told .given .1))))
-
-returns-2 : tie.Need-returns-2
-returns-2 c =
-    let b = c .before .before .before .before .before .before in
-    (λ i. record { answer = answerOf (c .unready2 .ensures .0 i); lent = runOf (c .unready2 .ensures .1 i) })
-    ∙ sym
-    (ap (settled (runOf (b .args .run)))
-    (turn-refused (automata (readAutomata (now (b .args .s)))) (b .args .events) (runOf (b .args .run)) misplaced-events
-    (sym (c .before .before .before .before-turn .ensures) ∙ ap beforeOf (c .before .enum-told2 .given .1))))
-
-returns-3 : tie.Need-returns-3
-returns-3 c =
-    let b = c .before .before .before .before .before .before in
-    (λ i. record { answer = answerOf (c .unready3 .ensures .0 i); lent = runOf (c .unready3 .ensures .1 i) })
-    ∙ sym
-    (ap (settled (runOf (b .args .run)))
-    (turn-refused (automata (readAutomata (now (b .args .s)))) (b .args .events) (runOf (b .args .run)) cycles-done
-    (sym (c .before .before .before .before-turn .ensures) ∙ ap beforeOf (c .before .enum-told3 .given .1))))
-
-returns-4 : tie.Need-returns-4
-returns-4 c =
-    let b = c .before .before .before .before .before .before .before in
-    let m = automata (readAutomata (now (b .args .s))) in
-    c .turn-taken .ensures
-    ∙ ap (λ q. settled (runOf (b .args .run)) (stepped m q)) (c .before .give .ensures)
-    ∙ sym (ap (settled (runOf (b .args .run))) (turn-fine m (b .args .events) (runOf (b .args .run)) (passed (c .before .before))))
+returns c = c .settle-turn .ensures ∙ ap (settled (runOf (c .before .before .before .before .before .before .before .before .before .before .before .before .before .before .before .before .args .run))) (c .before .before .before .before .turn-places .ensures)
 
 pub turn-of-spec : {M : Type 1} → statement M
-turn-of-spec =
-    tie.close
-    (tie.spec
-    before-turn-requires
-    enum-told
-    unready-requires
-    enum-told-2
-    unready-requires-2
-    enum-told-3
-    unready-requires-3
-    enum-told-4
-    give-requires
-    turn-taken-requires
-    returns
-    returns-2
-    returns-3
-    returns-4)
+turn-of-spec = tie.close (tie.spec turn-places-requires settle-turn-requires returns)

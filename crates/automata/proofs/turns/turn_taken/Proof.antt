@@ -1,16 +1,16 @@
 -- `turns::turn_taken` meets its contract. Assumes nothing.
 use mathlib.Core.Path.{sym, ap, _∙_}
-use native.Mathlib.Omega.{arith}
-use borrow.Author.Needs.{needs}
+use Prim.Native.Nat.{_+_}
 use denote.Ref.{now}
 use Rattle.records.specs.Refusal.{val}
-use Rattle.model.specs.Outcome.{settled}
 use Rattle.model.specs.Runs.{time}
 use Rattle.model.specs.AutomataTable.{readAutomata}
 use Rattle.model.specs.Automata.{automata}
 use Rattle.automata_files.proofs.Readings.{length-initial}
-use Rattle.automata.specs.RunOf.{runOf}
+use Rattle.automata.specs.RunOf.{runIn}
+use Rattle.automata.proofs.Clocks.{grown-are}
 use Rattle.machines.proofs.Turning.{at-time}
+use borrow.Author.Needs.{needs}
 use Rattle.automata.proofs.turns.turn_taken.Statement.{statement}
 use Rattle.automata.proofs.turns.turn_taken.Tie as tie
 
@@ -20,21 +20,24 @@ cast-if1 c = search needs
 automaton-turn-requires : tie.Need-automaton-turn-requires
 automaton-turn-requires c κs = search needs
 
-time-passed-requires : tie.Need-time-passed-requires
-time-passed-requires c κs =
-    let b = c .before .before .before .before .before in
-    (b .pre .0 .accepted, (b .pre .1 .unfinished, b .pre .1 .timers))
+pass-time-requires : tie.Need-pass-time-requires
+pass-time-requires c κs = search needs
+
+add-cycles : tie.Need-add-cycles
+add-cycles c = search needs
 
 returns : tie.Need-returns
-returns c = search needs
+returns c = c .automaton-turn .ensures (now (c .before .before .before .before .before .before .before .before .before .before .before .args .cycles))
 
 returns-2 : tie.Need-returns-2
 returns-2 c =
-    let b = c .before .before .before .before .before .before in
-    let s = now (b .args .s) in
+    let b = c .before .before .before .before .before .before .before .before in
+    let x = b .args in
+    let s = now (x .s) in
     let is = b .pre .0 .accepted .shape in
-    ap (λ q. record { answer = val time; lent = q }) (c .time-passed .ensures)
-    ∙ sym (ap (settled (runOf (b .args .lent))) (at-time (automata (readAutomata s)) (b .args .shape .automata) (length-initial s (b .args .shape) is) (runOf (b .args .run)) (omega arith)))
+    let r = runIn (now (x .locations)) (now (x .clocks)) (now (x .vars)) (now (x .events)) (now (x .position)) (now (x .cycles)) in
+    ap (λ l. val (time, runIn (now (x .locations)) l (now (x .vars)) 0 1 (now (x .cycles) + 1))) (c .before .pass-time .ensures ∙ sym (grown-are s (x .shape) is r))
+    ∙ sym (at-time (automata (readAutomata s)) (x .shape .automata) (length-initial s (x .shape) is) r (c .before .before .before .if1 .left))
 
 pub turn-taken-spec : {M : Type 1} → statement M
-turn-taken-spec = tie.close (tie.spec cast-if1 automaton-turn-requires time-passed-requires returns returns-2)
+turn-taken-spec = tie.close (tie.spec cast-if1 automaton-turn-requires pass-time-requires add-cycles returns returns-2)

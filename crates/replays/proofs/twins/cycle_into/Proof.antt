@@ -28,8 +28,8 @@ use Rattle.replays.proofs.Lines.{given-lines, refused-text, refused-end
 use Rattle.replays.proofs.twins.cycle_into.Statement.{statement}
 use Rattle.replays.proofs.twins.cycle_into.Tie as tie
 
-before-turn-requires : tie.Need-before-turn-requires
-before-turn-requires c κs = c .before .before .pre .accepted .shape
+before-turn-of-requires : tie.Need-before-turn-of-requires
+before-turn-of-requires c κs = c .before .before .pre .accepted .shape
 
 enum-told : tie.Need-enum-told
 enum-told c = search needs
@@ -58,7 +58,7 @@ give-requires c κs = search needs
 passed : (c : tie.After-enum-told4) →
     let b = c .before .before .before .before .before in
     checked (automata (readAutomata (now (b .args .s)))) (b .args .events) (runOf (b .args .run)) ≡ val tt
-passed c = sym (c .before .before .before-turn .ensures) ∙ ap beforeOf (c .enum-told4 .given .1)
+passed c = sym (c .before .before .before-turn-of .ensures) ∙ ap beforeOf (c .enum-told4 .given .1)
 
 turns-into-requires : tie.Need-turns-into-requires
 turns-into-requires c κs =
@@ -82,19 +82,19 @@ returns : tie.Need-returns
 returns c =
     let b = c .before .before .before .before .before .before in
     refused-call (now (b .args .s)) (b .args .events) (b .args .run) Impossible (c .refused .result)
-    (sym (c .before .before .before .before-turn .ensures) ∙ ap beforeOf (c .before .enum-told .given .1)) (c .refused .ensures) (b .args .out .now)
+    (sym (c .before .before .before .before-turn-of .ensures) ∙ ap beforeOf (c .before .enum-told .given .1)) (c .refused .ensures) (b .args .out .now)
 
 returns-2 : tie.Need-returns-2
 returns-2 c =
     let b = c .before .before .before .before .before .before in
     refused-call (now (b .args .s)) (b .args .events) (b .args .run) Misplaced (c .refused2 .result)
-    (sym (c .before .before .before .before-turn .ensures) ∙ ap beforeOf (c .before .enum-told2 .given .1)) (c .refused2 .ensures) (b .args .out .now)
+    (sym (c .before .before .before .before-turn-of .ensures) ∙ ap beforeOf (c .before .enum-told2 .given .1)) (c .refused2 .ensures) (b .args .out .now)
 
 returns-3 : tie.Need-returns-3
 returns-3 c =
     let b = c .before .before .before .before .before .before in
     refused-call (now (b .args .s)) (b .args .events) (b .args .run) Finished (c .refused3 .result)
-    (sym (c .before .before .before .before-turn .ensures) ∙ ap beforeOf (c .before .enum-told3 .given .1)) (c .refused3 .ensures) (b .args .out .now)
+    (sym (c .before .before .before .before-turn-of .ensures) ∙ ap beforeOf (c .before .enum-told3 .given .1)) (c .refused3 .ensures) (b .args .out .now)
 
 same-length : tie.Need-same-length
 same-length c = search needs
@@ -121,7 +121,7 @@ pub cycle-into-spec : {M : Type 1} → statement M
 cycle-into-spec =
     tie.close
     (tie.spec
-    before-turn-requires
+    before-turn-of-requires
     enum-told
     refused-requires
     enum-told-2
