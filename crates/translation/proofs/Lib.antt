@@ -6,3 +6,4 @@ pub mod ClockLaws
 pub mod EdgeLaws
 pub mod FileLaws
 pub mod CountLaws
+pub mod NodeLaws

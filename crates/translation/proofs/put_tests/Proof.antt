@@ -42,7 +42,7 @@ put-variables-requires c κs =
 put-nodes-requires : tie.Need-put-nodes-requires
 put-nodes-requires c κs =
     let entry = c .before .before .before .before .before .before .before .before .before .before .before .before .before .before .before .before .before .before .before .before .before .before .before .before .before in
-    (entry .pre .0 .shape, omega (arith, entry .pre .2, c .before .before .before .before .before .before .before .before .before .before .before .before .before .before .before .before .before .put-literals .ensures .near, c .before .before .before .before .before .before .before .before .before .before .before .put-idle-literals .ensures .near, c .before .before .before .before .before .before .before .put-clocks .ensures .near, c .before .before .before .put-variables .ensures .near))
+    (entry .pre .0, omega (arith, entry .pre .2, c .before .before .before .before .before .before .before .before .before .before .before .before .before .before .before .before .before .put-literals .ensures .near, c .before .before .before .before .before .before .before .before .before .before .before .put-idle-literals .ensures .near, c .before .before .before .before .before .before .before .put-clocks .ensures .near, c .before .before .before .put-variables .ensures .near))
 
 same-length : tie.Need-same-length
 same-length c = search needs

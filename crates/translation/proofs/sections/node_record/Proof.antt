@@ -1,143 +1,101 @@
--- `sections::node_record` meets its contract, by the node's cases. Assumes nothing.
-use mathlib.Core.Path.{_≡_, sym, ap, _∙_}
-use mathlib.Core.List.{[], _∷_, _++_}
-use Prim.Native.Nat.{_^_}
-use lib.IntN.{pos}
-use mir.Syntax.{w32}
-use mir.Val.{toZ, ofZ}
-use Rattle.records.specs.Bytes.{unsigned, bytes2, bytes4}
-use Rattle.expressions.specs.Nodes.{nodeBytes, writeNode}
-use Rattle.expressions.specs.Answers.{nodeFor}
-use Rattle.translation.specs.Texts.{recordText}
+-- `sections::node_record` meets its contract: the fields are those that stand in the file. Assumes nothing.
+use mathlib.Core.Path.{ap, _∙_}
+use mathlib.Core.List.{List}
+use Prim.Native.Nat.{ℕ, _+_, _*_, _<_, _^_}
+use native.Mathlib.Omega.{arith}
 use borrow.Author.Needs.{needs}
+use denote.Ref.{now}
+use lib.ListN.{length}
+use Rattle.records.specs.Bytes.{byte, two, four}
+use Rattle.chart_files.proofs.Readings.{inside}
+use Rattle.translation.specs.Texts.{recordText}
+use Rattle.translation.proofs.NodeLaws.{nodeText, node-text}
 use Rattle.translation.proofs.sections.node_record.Statement.{statement}
 use Rattle.translation.proofs.sections.node_record.Tie as tie
 
-enum-known-node : tie.Need-enum-known-node
-enum-known-node c = search needs
+-- the record is in the file
+here : (c : tie.After-first-node) → 16 * (c .first-node .result + c .before .before .args .n) + 15 < length (now (c .before .before .args .s))
+here c =
+    let entry = c .before .before in
+    omega (arith, c .first-node .ensures, entry .pre .1, inside (now (entry .args .s)) (entry .args .shape) (entry .pre .0 .shape))
 
-unsigned32-requires : tie.Need-unsigned32-requires
-unsigned32-requires c κs = search needs
+first-node-requires : tie.Need-first-node-requires
+first-node-requires c κs = search needs
+
+add-at : tie.Need-add-at
+add-at c = search needs
+
+mul-at : tie.Need-mul-at
+mul-at c = search needs
+
+add-node-bytes : tie.Need-add-node-bytes
+add-node-bytes c = search needs
+
+shared-slice-read-node-bytes : tie.Need-shared-slice-read-node-bytes
+shared-slice-read-node-bytes c = omega (arith, here (c .before))
+
+add-u16-within : tie.Need-add-u16-within
+add-u16-within c = search needs
+
+u16-within-requires : tie.Need-u16-within-requires
+u16-within-requires c κs = omega (arith, here (c .before))
+
+add-u16-within-2 : tie.Need-add-u16-within-2
+add-u16-within-2 c = search needs
+
+u16-within-requires-2 : tie.Need-u16-within-requires-2
+u16-within-requires-2 c κs = omega (arith, here (c .before .before))
+
+add-u16-within-3 : tie.Need-add-u16-within-3
+add-u16-within-3 c = search needs
+
+u16-within-requires-3 : tie.Need-u16-within-requires-3
+u16-within-requires-3 c κs = omega (arith, here (c .before .before .before))
+
+add-u32-within : tie.Need-add-u32-within
+add-u32-within c = search needs
+
+u32-within-requires : tie.Need-u32-within-requires
+u32-within-requires c κs = omega (arith, here (c .before .before .before .before))
 
 node-bytes-requires : tie.Need-node-bytes-requires
 node-bytes-requires c κs = search needs
 
-enum-known-node-2 : tie.Need-enum-known-node-2
-enum-known-node-2 c = search needs
-
-node-bytes-requires-2 : tie.Need-node-bytes-requires-2
-node-bytes-requires-2 c κs = search needs
-
-enum-known-node-3 : tie.Need-enum-known-node-3
-enum-known-node-3 c = search needs
-
-operator-code-requires : tie.Need-operator-code-requires
-operator-code-requires c κs = search needs
-
-node-bytes-requires-3 : tie.Need-node-bytes-requires-3
-node-bytes-requires-3 c κs = search needs
-
-enum-known-node-4 : tie.Need-enum-known-node-4
-enum-known-node-4 c = search needs
-
-node-bytes-requires-4 : tie.Need-node-bytes-requires-4
-node-bytes-requires-4 c κs = search needs
-
-enum-known-node-5 : tie.Need-enum-known-node-5
-enum-known-node-5 c = search needs
-
-relation-code-requires : tie.Need-relation-code-requires
-relation-code-requires c κs = search needs
-
-node-bytes-requires-5 : tie.Need-node-bytes-requires-5
-node-bytes-requires-5 c κs = search needs
-
-enum-known-node-6 : tie.Need-enum-known-node-6
-enum-known-node-6 c = search needs
-
-node-bytes-requires-6 : tie.Need-node-bytes-requires-6
-node-bytes-requires-6 c κs = search needs
-
-enum-known-node-7 : tie.Need-enum-known-node-7
-enum-known-node-7 c = search needs
-
-node-bytes-requires-7 : tie.Need-node-bytes-requires-7
-node-bytes-requires-7 c κs = search needs
-
-enum-known-node-8 : tie.Need-enum-known-node-8
-enum-known-node-8 c = search needs
-
-node-bytes-requires-8 : tie.Need-node-bytes-requires-8
-node-bytes-requires-8 c κs = search needs
-
-enum-told : tie.Need-enum-told
-enum-told c = search needs
-
-node-bytes-requires-9 : tie.Need-node-bytes-requires-9
-node-bytes-requires-9 c κs = search needs
+four-low : (s : List ℕ) (k : ℕ) → ((i : ℕ) → byte s i < 256) → four s k < 2 ^ 32
+four-low s k bytes = omega (arith, bytes k, bytes (k + 1), bytes (k + 2), bytes (k + 2 + 1))
 
 returns : tie.Need-returns
 returns c =
-    let z : toZ w32 (ofZ w32 (c .before .before .before .node .given .0 .0)) ≡ c .before .before .before .node .given .0 .0 = search needs in
+    let first = c .before .before .before .before .before .before in
+    let entry = first .before .before in
+    let x = entry .args in
+    let s = now (x .s) in
+    let n = first .first-node .ensures in
     c .node-bytes .ensures
-    ∙ ap (λ n. recordText 39 (1 ∷ bytes2 0 ++ bytes2 0 ++ bytes2 0 ++ bytes4 n ++ (0 ∷ 0 ∷ 0 ∷ 0 ∷ []))) (c .before .unsigned32 .ensures ∙ ap (unsigned (2 ^ 31)) z)
-    ∙ ap (λ x. recordText 39 (writeNode (nodeFor x))) (sym (c .before .before .before .node .given .1))
-
-returns-2 : tie.Need-returns-2
-returns-2 c = c .node-bytes2 .ensures ∙ ap (λ x. recordText 39 (writeNode (nodeFor x))) (sym (c .before .before .node2 .given .1))
-
-returns-3 : tie.Need-returns-3
-returns-3 c = c .node-bytes3 .ensures ∙ ap (λ o. recordText 39 (nodeBytes o (c .before .before .before .node3 .given .0 .1 .0) (c .before .before .before .node3 .given .0 .1 .1 .0) 0 (pos 0))) (c .before .operator-code .ensures) ∙ ap (λ x. recordText 39 (writeNode (nodeFor x))) (sym (c .before .before .before .node3 .given .1))
-
-returns-4 : tie.Need-returns-4
-returns-4 c = c .node-bytes4 .ensures ∙ ap (λ x. recordText 39 (writeNode (nodeFor x))) (sym (c .before .before .node4 .given .1))
-
-returns-5 : tie.Need-returns-5
-returns-5 c = c .node-bytes5 .ensures ∙ ap (λ o. recordText 39 (nodeBytes o (c .before .before .before .node5 .given .0 .1 .0) (c .before .before .before .node5 .given .0 .1 .1 .0) 0 (pos 0))) (c .before .relation-code .ensures) ∙ ap (λ x. recordText 39 (writeNode (nodeFor x))) (sym (c .before .before .before .node5 .given .1))
-
-returns-6 : tie.Need-returns-6
-returns-6 c = c .node-bytes6 .ensures ∙ ap (λ x. recordText 39 (writeNode (nodeFor x))) (sym (c .before .before .node6 .given .1))
-
-returns-7 : tie.Need-returns-7
-returns-7 c = c .node-bytes7 .ensures ∙ ap (λ x. recordText 39 (writeNode (nodeFor x))) (sym (c .before .before .node7 .given .1))
-
-returns-8 : tie.Need-returns-8
-returns-8 c = c .node-bytes8 .ensures ∙ ap (λ x. recordText 39 (writeNode (nodeFor x))) (sym (c .before .before .node8 .given .1))
-
-returns-9 : tie.Need-returns-9
-returns-9 c = c .node-bytes9 .ensures ∙ ap (λ x. recordText 39 (writeNode (nodeFor x))) (sym (c .before .enum-told .given .1))
+    ∙ ap (recordText 39)
+    ((λ i. nodeText (byte s (16 * (n i + x .n) + 1))
+    ((c .before .before .before .before .u16-within .ensures ∙ (λ j. two s (16 * (n j + x .n) + 2))) i)
+    ((c .before .before .before .u16-within2 .ensures ∙ (λ j. two s (16 * (n j + x .n) + 4))) i)
+    ((c .before .before .u16-within3 .ensures ∙ (λ j. two s (16 * (n j + x .n) + 6))) i)
+    ((c .before .u32-within .ensures ∙ (λ j. four s (16 * (n j + x .n) + 8))) i))
+    ∙ node-text s (x .shape) (entry .pre .0) (x .n) (entry .pre .1) (four-low s _ (λ i. omega (arith, first .before .shared-slice-known .given i))))
 
 pub node-record-spec : {M : Type 1} → statement M
 node-record-spec =
     tie.close
     (tie.spec
-    enum-known-node
-    unsigned32-requires
+    first-node-requires
+    add-at
+    mul-at
+    add-node-bytes
+    shared-slice-read-node-bytes
+    add-u16-within
+    u16-within-requires
+    add-u16-within-2
+    u16-within-requires-2
+    add-u16-within-3
+    u16-within-requires-3
+    add-u32-within
+    u32-within-requires
     node-bytes-requires
-    enum-known-node-2
-    node-bytes-requires-2
-    enum-known-node-3
-    operator-code-requires
-    node-bytes-requires-3
-    enum-known-node-4
-    node-bytes-requires-4
-    enum-known-node-5
-    relation-code-requires
-    node-bytes-requires-5
-    enum-known-node-6
-    node-bytes-requires-6
-    enum-known-node-7
-    node-bytes-requires-7
-    enum-known-node-8
-    node-bytes-requires-8
-    enum-told
-    node-bytes-requires-9
-    returns
-    returns-2
-    returns-3
-    returns-4
-    returns-5
-    returns-6
-    returns-7
-    returns-8
-    returns-9)
+    returns)

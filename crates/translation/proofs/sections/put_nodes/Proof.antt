@@ -1,5 +1,4 @@
 -- `sections::put_nodes` meets its contract: those before n are written. Assumes nothing.
-use mathlib.Core.Path.{ap, _∙_}
 use Prim.Native.Nat.{_-_, _^_}
 use native.Mathlib.Omega.{arith}
 use borrow.Author.Needs.{needs}
@@ -15,22 +14,18 @@ use Rattle.translation.proofs.sections.put_nodes.Statement.{statement}
 use Rattle.translation.proofs.sections.put_nodes.Tie as tie
 
 abbrev Inv-loop : tie.InvT-loop
-Inv-loop s shape out₀ at nodes next₀ n₀ out next n = Texts (λ i. recordText 39 (writeNode (nodeAt (nodePart s shape) i))) (shape .nodes) 16 out₀ at out next n
+Inv-loop s shape out₀ at next₀ n₀ out next n = Texts (λ i. recordText 39 (writeNode (nodeAt (nodePart s shape) i))) (shape .nodes) 16 out₀ at out next n
 
 abbrev μ-loop : tie.MeasureT-loop
-μ-loop s shape out₀ at nodes next₀ n₀ out next n = (shape .nodes) - n
-
-node-records-requires : tie.Need-node-records-requires Inv-loop μ-loop
-node-records-requires c κs = search needs
+μ-loop s shape out₀ at next₀ n₀ out next n = (shape .nodes) - n
 
 loop-holds : tie.Need-loop-holds Inv-loop μ-loop
 loop-holds c = texts-start _ _ _ _ _
 
-node-at-requires : tie.Need-node-at-requires Inv-loop μ-loop
-node-at-requires c κs = search needs
-
 node-record-requires : tie.Need-node-record-requires Inv-loop μ-loop
-node-record-requires c κs = search needs
+node-record-requires c κs =
+    let entry = c .before .before .before .before .before in
+    (entry .pre .0, c .if1 .taken)
 
 put-record-requires : tie.Need-put-record-requires Inv-loop μ-loop
 put-record-requires c κs = search needs
@@ -43,18 +38,18 @@ loop-less c = omega arith
 
 loop-again : tie.Need-loop-again Inv-loop μ-loop
 loop-again c =
-    let l = c .before .before .before .before .before .before .before .before .loop in
+    let l = c .before .before .before .before .before .before .before .loop in
     let p = c .before .before .put-record in
-    texts-step _ _ _ _ _ (l .inv) (c .before .before .before .before .before .before .if1 .taken) (p .kept .0) (puts-as _ (c .before .before .before .before .node-record .ensures ∙ ap (λ x. recordText 39 (writeNode x)) (c .before .before .before .before .before .node-at .ensures ∙ ap (λ part. nodeAt part (l .n)) (c .before .before .before .before .before .before .before .before .before .node-records .ensures))) (p .ensures))
+    texts-step _ _ _ _ _ (l .inv) (c .before .before .before .before .before .if1 .taken) (p .kept .0) (puts-as _ (c .before .before .before .before .node-record .ensures) (p .ensures))
 
 same-length : tie.Need-same-length Inv-loop μ-loop
 same-length c = c .before .before .loop .inv .long
 
 returns : tie.Need-returns Inv-loop μ-loop
 returns c =
-    let entry = c .before .before .before .before .before .before in
+    let entry = c .before .before .before .before .before in
     let x = entry .args in
-    let is = entry .pre .0 in
+    let is = entry .pre .0 .shape in
     texts-end _ _ _ _ _ _ (placed-text 39 writeNode (nodeAt (nodePart (now (x .s)) (x .shape))) (readCharts (now (x .s)) .nodes) (x .shape .nodes) (nodes-are (now (x .s)) (x .shape) is)) (2 ^ 40) (omega (arith, most-nodes (now (x .s)) (x .shape) is)) (c .before .before .loop .inv) (c .if1 .left)
 
 pub put-nodes-spec : {M : Type 1} → statement M
@@ -63,9 +58,7 @@ put-nodes-spec =
     (tie.spec
     Inv-loop
     μ-loop
-    node-records-requires
     loop-holds
-    node-at-requires
     node-record-requires
     put-record-requires
     add-n
