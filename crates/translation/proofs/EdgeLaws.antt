@@ -27,6 +27,7 @@ use Rattle.charts.specs.Tables.{leaves, named, HasRows, keyed}
 use Rattle.machines.specs.Chains.{headOr, earliest, withKey, Chained}
 use Rattle.machines.proofs.Earliest.{keep-alike}
 use Rattle.charts.proofs.RowLaws.{sourceAt, place-of}
+use Rattle.charts.proofs.StepLaws.{unnamed}
 use Rattle.charts.proofs.ActionLaws.{of-key}
 use Rattle.charts.proofs.Sound.{source-known, target-known}
 use Rattle.translation.specs.Texts.{recordText, literalTexts, updateTexts, resetTexts}
@@ -88,7 +89,7 @@ module _ (s : List ℕ) (sh : Shape) (ok : Accepted s sh) where
 
   -- ---- a row's end: no must-nots behind it
 
-  module _ (rows : List (List ℕ)) (has : HasRows (readCharts s) rows) (st end : ℕ) (h : st < sh .states) (most : end ≤ 16) (none : (j : ℕ) → end ≤ j → j < 16 → getD (getD rows st []) j 0 ≡ 65535) where
+  module _ (rows : List (List ℕ)) (has : HasRows (readCharts s) rows) (st end : ℕ) (h : st < sh .states) (most : end ≤ 16) (none : (j : ℕ) → end ≤ j → j < 16 → getD (getD rows st []) j 0 ≡ 256) where
     abbrev ranked : ℕ → List ℕ
     ranked q = keep (leaves (readCharts s) st q) (upto (length (readCharts s .transitions)))
 
@@ -96,7 +97,7 @@ module _ (s : List ℕ) (sh : Shape) (ok : Accepted s sh) where
     behind q a b =
         place-of s sh ok st q h
         ∙ ap (λ p. named (earliest (leaves (readCharts s) st p) 0 (length (readCharts s .transitions)))) (let e : q ≡ q - 1 + 1 = omega arith in e)
-        ∙ ap named (sym (has st (q - 1) (omega (arith, most-states s sh (ok .shape))) (omega arith)) ∙ none (q - 1) (omega arith) (omega arith))
+        ∙ ap named (unnamed s sh ok st (q - 1 + 1) (sym (has st (q - 1) (omega (arith, most-states s sh (ok .shape))) (omega arith)) ∙ none (q - 1) (omega arith) (omega arith)))
         ∙ ap (λ x. cond x [] (65535 ∷ [])) (eq-eqb 65535 65535 refl)
 
     pub above-end : above (readCharts s) st (end + 1) ≡ above (readCharts s) st 17
