@@ -36,26 +36,37 @@ pub fn guard_sorted(guard: Guard, nodes: &[u8]) -> bool
     }
 }
 
-fn guard_fits(s: &[u8], shape: Shape, nodes: &[u8], t: u16) -> bool
-    ensures { λ r. ⌜ r ≡ truths (nodeAt (now (nodes .entry))) (guardAt (now (s .entry)) shape t) ⌝ }
+fn count_guard(guard: Guard, uses: &mut [u8])
+    ensures { λ _. ⌜ now (uses .exit) ≡ addUses (now (uses .entry)) (file.guardNodes (guardFor guard)) ⌝ }
 {
-    guard_sorted(guard_of(s, shape, t), nodes)
+    match guard {
+        Guard::Free => {}
+        Guard::Node(n) => add_use(uses, n),
+    }
 }
 
-fn guards_fit(s: &[u8], shape: Shape) -> bool
+fn guard_fits(s: &[u8], shape: Shape, nodes: &[u8], t: u16, uses: &mut [u8]) -> bool
+    ensures { λ r. ⌜ (r ≡ truths (nodeAt (now (nodes .entry))) (guardAt (now (s .entry)) shape t)) × (now (uses .exit) ≡ addUses (now (uses .entry)) (guardAt (now (s .entry)) shape t)) ⌝ }
+{
+    let guard = guard_of(s, shape, t);
+    count_guard(guard, uses);
+    guard_sorted(guard, nodes)
+}
+
+// Counts them too, so that each is read once.
+fn guards_fit(s: &[u8], shape: Shape, uses: &mut [u8]) -> bool
     requires { ⌜ IsShape (now s) shape ⌝ }
-    ensures { λ r. ⌜ r ≡ truths (nodeOf (readCharts (now (s .entry)) .nodes)) (file.guards (readCharts (now (s .entry)))) ⌝ }
+    ensures { λ r. ⌜ (r ≡ truths (nodeOf (readCharts (now (s .entry)) .nodes)) (file.guards (readCharts (now (s .entry))))) × (now (uses .exit) ≡ addUses (now (uses .entry)) (gather (guardAt (now (s .entry)) shape) (upto (shape .transitions)))) ⌝ }
 {
     let nodes = node_records(s, shape);
     let n = shape.transitions;
+    let mut fit = true;
     let mut t = 0;
     while t < n {
-        if !guard_fits(s, shape, nodes, t) {
-            return false;
-        }
+        fit = fit & guard_fits(s, shape, nodes, t, uses);
         t += 1;
     }
-    true
+    fit
 }
 
 // An assigned node is a number.
@@ -68,67 +79,37 @@ pub fn deed_sorted(deed: Deed, nodes: &[u8]) -> bool
     }
 }
 
-fn assigned_fits(s: &[u8], shape: Shape, nodes: &[u8], i: u16) -> bool
-    ensures { λ r. ⌜ r ≡ numbers (nodeAt (now (nodes .entry))) (assignedAt (now (s .entry)) shape i) ⌝ }
+fn count_assigned(deed: Deed, uses: &mut [u8])
+    ensures { λ _. ⌜ now (uses .exit) ≡ addUses (now (uses .entry)) (file.assignedNodes (deedFor deed)) ⌝ }
 {
-    deed_sorted(deed_of(s, shape, i), nodes)
-}
-
-// All actions have a place, so no place is asked for.
-fn assigned_fit(s: &[u8], shape: Shape) -> bool
-    requires { ⌜ IsShape (now s) shape × (all file.inCode (records (now s)) ≡ true) ⌝ }
-    ensures { λ r. ⌜ r ≡ numbers (nodeOf (readCharts (now (s .entry)) .nodes)) (file.assigned (readCharts (now (s .entry)))) ⌝ }
-{
-    let nodes = node_records(s, shape);
-    let n = shape.actions;
-    let mut i = 0;
-    while i < n {
-        if !assigned_fits(s, shape, nodes, i) {
-            return false;
-        }
-        i += 1;
-    }
-    true
-}
-
-fn count_guard(s: &[u8], shape: Shape, t: u16, uses: &mut [u8])
-    ensures { λ _. ⌜ now (uses .exit) ≡ addUses (now (uses .entry)) (guardAt (now (s .entry)) shape t) ⌝ }
-{
-    match guard_of(s, shape, t) {
-        Guard::Free => {}
-        Guard::Node(n) => add_use(uses, n),
-    }
-}
-
-fn count_guards(s: &[u8], shape: Shape, uses: &mut [u8])
-    ensures { λ _. ⌜ now (uses .exit) ≡ addUses (now (uses .entry)) (gather (guardAt (now (s .entry)) shape) (upto (shape .transitions))) ⌝ }
-{
-    let n = shape.transitions;
-    let mut t = 0;
-    while t < n {
-        count_guard(s, shape, t, uses);
-        t += 1;
-    }
-}
-
-fn count_assignment(s: &[u8], shape: Shape, i: u16, uses: &mut [u8])
-    ensures { λ _. ⌜ now (uses .exit) ≡ addUses (now (uses .entry)) (assignedAt (now (s .entry)) shape i) ⌝ }
-{
-    match deed_of(s, shape, i) {
+    match deed {
         Deed::Assign(_, n) => add_use(uses, n),
         Deed::Raise(_) => {}
     }
 }
 
-fn count_assignments(s: &[u8], shape: Shape, uses: &mut [u8])
-    ensures { λ _. ⌜ now (uses .exit) ≡ addUses (now (uses .entry)) (gather (assignedAt (now (s .entry)) shape) (upto (shape .actions))) ⌝ }
+fn assigned_fits(s: &[u8], shape: Shape, nodes: &[u8], i: u16, uses: &mut [u8]) -> bool
+    ensures { λ r. ⌜ (r ≡ numbers (nodeAt (now (nodes .entry))) (assignedAt (now (s .entry)) shape i)) × (now (uses .exit) ≡ addUses (now (uses .entry)) (assignedAt (now (s .entry)) shape i)) ⌝ }
 {
+    let deed = deed_of(s, shape, i);
+    count_assigned(deed, uses);
+    deed_sorted(deed, nodes)
+}
+
+// Counts them too. All actions have a place, so no place is asked for.
+fn assigned_fit(s: &[u8], shape: Shape, uses: &mut [u8]) -> bool
+    requires { ⌜ IsShape (now s) shape × (all file.inCode (records (now s)) ≡ true) ⌝ }
+    ensures { λ r. ⌜ (r ≡ numbers (nodeOf (readCharts (now (s .entry)) .nodes)) (file.assigned (readCharts (now (s .entry))))) × (now (uses .exit) ≡ addUses (now (uses .entry)) (gather (assignedAt (now (s .entry)) shape) (upto (shape .actions)))) ⌝ }
+{
+    let nodes = node_records(s, shape);
     let n = shape.actions;
+    let mut fit = true;
     let mut i = 0;
     while i < n {
-        count_assignment(s, shape, i, uses);
+        fit = fit & assigned_fits(s, shape, nodes, i, uses);
         i += 1;
     }
+    fit
 }
 
 // Each of the first `size` nodes is used once.
@@ -146,20 +127,12 @@ fn all_once(uses: &[u8], size: u16) -> bool
     true
 }
 
-// `uses` has those as operands.
-fn used_once(s: &[u8], shape: Shape, uses: &mut [u8]) -> bool
-    requires { ⌜ IsShape (now s) shape × (all file.inCode (records (now s)) ≡ true) × (now uses ≡ addUses (replicate 1024 0) (allOperands (nodeAt (nodePart (now s) shape)) (shape .nodes))) ⌝ }
-    ensures { λ r. ⌜ r ≡ all (λ n. eqb (file.uses (readCharts (now (s .entry))) n) 1) (upto (length (readCharts (now (s .entry)) .nodes))) ⌝ }
-{
-    count_guards(s, shape, uses);
-    count_assignments(s, shape, uses);
-    all_once(uses, shape.nodes)
-}
-
-// Of a framed file whose codes and ranges are kept, by what `test_nodes` found of its nodes.
+// Of a framed file whose codes and ranges are kept, by what `test_nodes` found of its nodes; `uses` has those as operands.
 pub fn nodes_fit(s: &[u8], shape: Shape, found: u8, uses: &mut [u8]) -> bool
     requires { ⌜ IsShape (now s) shape × (all file.inCode (records (now s)) ≡ true) × (found ≡ verdictOf (nodeAt (nodePart (now s) shape)) (shape .nodes) (shape .variables)) × (now uses ≡ addUses (replicate 1024 0) (allOperands (nodeAt (nodePart (now s) shape)) (shape .nodes))) ⌝ }
     ensures { λ r. ⌜ r ≡ file.nodesFit (readCharts (now (s .entry))) ⌝ }
 {
-    says_fit(found) & guards_fit(s, shape) & assigned_fit(s, shape) & used_once(s, shape, uses)
+    let guards = guards_fit(s, shape, uses);
+    let assigned = assigned_fit(s, shape, uses);
+    says_fit(found) & guards & assigned & all_once(uses, shape.nodes)
 }

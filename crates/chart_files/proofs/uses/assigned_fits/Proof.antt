@@ -2,6 +2,7 @@
 use mathlib.Core.Path.{ap, _∙_}
 use denote.Ref.{now}
 use Rattle.expressions.specs.Nodes.{nodeAt}
+use Rattle.expressions.specs.Uses.{addUses}
 use Rattle.model.specs.ChartFile.{assignedNodes}
 use Rattle.chart_files.specs.Used.{numbers}
 use borrow.Author.Needs.{needs}
@@ -11,13 +12,22 @@ use Rattle.chart_files.proofs.uses.assigned_fits.Tie as tie
 deed-of-requires : tie.Need-deed-of-requires
 deed-of-requires c κs = search needs
 
+count-assigned-requires : tie.Need-count-assigned-requires
+count-assigned-requires c κs = search needs
+
 deed-sorted-requires : tie.Need-deed-sorted-requires
 deed-sorted-requires c κs = search needs
 
+same-length : tie.Need-same-length
+same-length c = search needs
+
 returns : tie.Need-returns
 returns c =
-    let a = c .before .before .before .before .args in
-    c .deed-sorted .ensures ∙ ap (λ d. numbers (nodeAt (now (a .nodes))) (assignedNodes d)) (c .before .deed-of .ensures)
+    let a = c .before .before .before .before .before .before .before .before .before .args in
+    let read = c .before .before .before .before .before .deed-of .ensures in (
+      c .deed-sorted .ensures ∙ ap (λ x. numbers (nodeAt (now (a .nodes))) (assignedNodes x)) read,
+      c .before .before .before .count-assigned .ensures ∙ ap (λ x. addUses (now (a .uses)) (assignedNodes x)) read,
+    )
 
 pub assigned-fits-spec : {M : Type 1} → statement M
-assigned-fits-spec = tie.close (tie.spec deed-of-requires deed-sorted-requires returns)
+assigned-fits-spec = tie.close (tie.spec deed-of-requires count-assigned-requires deed-sorted-requires same-length returns)

@@ -1,6 +1,5 @@
 -- `uses::count_guard` meets its contract: a use for the guard, if there is one. Assumes nothing.
 use mathlib.Core.Path.{_≡_, sym, ap, _∙_}
-use mathlib.Core.Option.{Option}
 use mathlib.Core.List.{List}
 use Prim.Native.Nat.{ℕ}
 use borrow.Author.Needs.{needs}
@@ -13,33 +12,28 @@ use Rattle.chart_files.proofs.uses.count_guard.Statement.{statement}
 use Rattle.chart_files.proofs.uses.count_guard.Tie as tie
 
 -- the use by the node that an arm has
-told : (u : List ℕ) {o x : Guard} {g : Option ℕ} → o ≡ x → guardFor o ≡ g → addUses u (guardNodes (guardFor x)) ≡ addUses u (guardNodes g)
-told u e h = ap (λ g. addUses u (guardNodes g)) (ap guardFor (sym e) ∙ h)
-
-guard-of-requires : tie.Need-guard-of-requires
-guard-of-requires c κs = search needs
+told : (u : List ℕ) {o x : Guard} → o ≡ x → addUses u (guardNodes (guardFor x)) ≡ addUses u (guardNodes (guardFor o))
+told u e = ap (λ y. addUses u (guardNodes (guardFor y))) (sym e)
 
 enum-told : tie.Need-enum-told
 enum-told c = search needs
 
-enum-known-n : tie.Need-enum-known-n
-enum-known-n c = search needs
+enum-known-guard : tie.Need-enum-known-guard
+enum-known-guard c = search needs
 
 add-use-requires : tie.Need-add-use-requires
 add-use-requires c κs = search needs
 
 returns : tie.Need-returns
 unfolding addUses
-returns c = told (now (c .before .before .before .before .before .args .uses)) (c .enum-told .given .1) (c .before .before .guard-of .ensures)
+returns c = told (now (c .before .before .before .args .uses)) (c .enum-told .given .1)
 
 same-length : tie.Need-same-length
 same-length c = search needs
 
 returns-2 : tie.Need-returns-2
 unfolding addUses
-returns-2 c =
-    c .before .before .add-use .ensures
-    ∙ told (now (c .before .before .before .before .before .before .before .before .before .before .args .uses)) (c .before .before .before .before .before .n .given .1) (c .before .before .before .before .before .before .before .guard-of .ensures)
+returns-2 c = c .before .before .add-use .ensures ∙ told (now (c .before .before .before .before .before .before .before .before .args .uses)) (c .before .before .before .before .before .guard .given .1)
 
 pub count-guard-spec : {M : Type 1} → statement M
-count-guard-spec = tie.close (tie.spec guard-of-requires enum-told enum-known-n add-use-requires returns same-length returns-2)
+count-guard-spec = tie.close (tie.spec enum-told enum-known-guard add-use-requires returns same-length returns-2)

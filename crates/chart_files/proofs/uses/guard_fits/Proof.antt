@@ -2,6 +2,7 @@
 use mathlib.Core.Path.{ap, _∙_}
 use denote.Ref.{now}
 use Rattle.expressions.specs.Nodes.{nodeAt}
+use Rattle.expressions.specs.Uses.{addUses}
 use Rattle.model.specs.ChartFile.{guardNodes}
 use Rattle.chart_files.specs.Used.{truths}
 use borrow.Author.Needs.{needs}
@@ -11,13 +12,22 @@ use Rattle.chart_files.proofs.uses.guard_fits.Tie as tie
 guard-of-requires : tie.Need-guard-of-requires
 guard-of-requires c κs = search needs
 
+count-guard-requires : tie.Need-count-guard-requires
+count-guard-requires c κs = search needs
+
 guard-sorted-requires : tie.Need-guard-sorted-requires
 guard-sorted-requires c κs = search needs
 
+same-length : tie.Need-same-length
+same-length c = search needs
+
 returns : tie.Need-returns
 returns c =
-    let a = c .before .before .before .before .args in
-    c .guard-sorted .ensures ∙ ap (λ g. truths (nodeAt (now (a .nodes))) (guardNodes g)) (c .before .guard-of .ensures)
+    let a = c .before .before .before .before .before .before .before .before .before .args in
+    let read = c .before .before .before .before .before .guard-of .ensures in (
+      c .guard-sorted .ensures ∙ ap (λ x. truths (nodeAt (now (a .nodes))) (guardNodes x)) read,
+      c .before .before .before .count-guard .ensures ∙ ap (λ x. addUses (now (a .uses)) (guardNodes x)) read,
+    )
 
 pub guard-fits-spec : {M : Type 1} → statement M
-guard-fits-spec = tie.close (tie.spec guard-of-requires guard-sorted-requires returns)
+guard-fits-spec = tie.close (tie.spec guard-of-requires count-guard-requires guard-sorted-requires same-length returns)

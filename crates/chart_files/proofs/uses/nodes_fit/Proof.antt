@@ -1,17 +1,21 @@
--- `uses::nodes_fit` meets its contract: a test for each part. Assumes nothing.
-use mathlib.Core.Path.{sym, _∙_}
+-- `uses::nodes_fit` meets its contract: a test for each part, and the uses come one after the other. Assumes nothing.
+use mathlib.Core.Path.{_≡_, sym, ap, _∙_}
 use mathlib.Core.Bool.{_&&_}
+use native.Mathlib.Omega.{arith}
+use borrow.Author.Needs.{needs}
 use denote.Ref.{now}
+use lib.Dec.{eqb}
+use lib.ListN.{length, getD}
+use Rattle.records.specs.Lists.{all, gather, upto}
 use Rattle.expressions.specs.Nodes.{nodeAt}
 use Rattle.expressions.specs.Sorts.{nodesNamed, operandsFit}
+use Rattle.expressions.specs.Uses.{addUses}
 use Rattle.chart_files.specs.Places.{nodePart}
-use Rattle.chart_files.proofs.Readings.{lookup-is, length-nodes}
-use borrow.Author.Needs.{needs}
+use Rattle.chart_files.specs.Used.{guardAt, assignedAt}
+use Rattle.chart_files.proofs.Readings.{lookup-is, length-nodes, most-nodes}
+use Rattle.chart_files.proofs.NodeUses.{allUses, length-uses, used-is}
 use Rattle.chart_files.proofs.uses.nodes_fit.Statement.{statement}
 use Rattle.chart_files.proofs.uses.nodes_fit.Tie as tie
-
-says-fit-requires : tie.Need-says-fit-requires
-says-fit-requires c κs = search needs
 
 guards-fit-requires : tie.Need-guards-fit-requires
 guards-fit-requires c κs = search needs
@@ -19,30 +23,37 @@ guards-fit-requires c κs = search needs
 assigned-fit-requires : tie.Need-assigned-fit-requires
 assigned-fit-requires c κs = search needs
 
-used-once-requires : tie.Need-used-once-requires
-used-once-requires c κs = search needs
+says-fit-requires : tie.Need-says-fit-requires
+says-fit-requires c κs = search needs
+
+-- what the places hold once all is counted
+held : (c : tie.After-assigned-fit) → c .assigned-fit .last .1 .1 .0 ≡ allUses (now (c .before .before .before .before .before .before .before .before .args .s)) (c .before .before .before .before .before .before .before .before .args .shape)
+held c =
+    let b = c .before .before .before .before .before .before .before .before in
+    let s = now (b .args .s) in
+    let sh = b .args .shape in
+    c .assigned-fit .ensures .1
+    ∙ ap (λ u. addUses u (gather (assignedAt s sh) (upto (sh .actions)))) (c .before .before .before .before .guards-fit .ensures .1 ∙ ap (λ u. addUses u (gather (guardAt s sh) (upto (sh .transitions)))) (b .pre .3))
+
+all-once-requires : tie.Need-all-once-requires
+all-once-requires c κs =
+    let b = c .before .before .before .before .before .before .before .before .before .before .before .before in
+    omega (arith, most-nodes (now (b .args .s)) (b .args .shape) (b .pre .0), ap length (held (c .before .before .before .before)) ∙ length-uses (now (b .args .s)) (b .args .shape))
 
 same-length : tie.Need-same-length
 same-length c = search needs
 
 returns : tie.Need-returns
 returns c =
-    let b = c .before .before .before .before .before .before .before .before .before in
+    let b = c .before .before .before .before .before .before .before .before .before .before .before .before .before in
     let s = now (b .args .s) in
     let sh = b .args .shape in
     let operands =
-    c .before .before .before .before .before .before .says-fit .ensures (nodesNamed (nodeAt (nodePart s sh)) (sh .nodes) (sh .variables)) (operandsFit (nodeAt (nodePart s sh)) (sh .nodes)) (b .pre .2)
+    c .before .before .says-fit .ensures (nodesNamed (nodeAt (nodePart s sh)) (sh .nodes) (sh .variables)) (operandsFit (nodeAt (nodePart s sh)) (sh .nodes)) (b .pre .2)
     ∙ (λ i. operandsFit (sym (lookup-is s sh (b .pre .0)) i) (sym (length-nodes s sh (b .pre .0)) i))
     in
-    λ j. operands j && c .before .before .before .before .before .guards-fit .ensures j && c .before .before .before .before .assigned-fit .ensures j && c .before .before .used-once .ensures j
+    let once = c .all-once .ensures ∙ ap (λ l. all (λ n. eqb (getD l n 0) 1) (upto (sh .nodes))) (held (c .before .before .before .before .before)) ∙ sym (used-is s sh (b .pre .0) (b .pre .1)) in
+    λ j. operands j && c .before .before .before .before .before .before .before .before .before .guards-fit .ensures .0 j && c .before .before .before .before .before .assigned-fit .ensures .0 j && once j
 
 pub nodes-fit-spec : {M : Type 1} → statement M
-nodes-fit-spec =
-    tie.close
-    (tie.spec
-    says-fit-requires
-    guards-fit-requires
-    assigned-fit-requires
-    used-once-requires
-    same-length
-    returns)
+nodes-fit-spec = tie.close (tie.spec guards-fit-requires assigned-fit-requires says-fit-requires all-once-requires same-length returns)

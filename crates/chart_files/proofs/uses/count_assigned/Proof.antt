@@ -1,0 +1,39 @@
+-- `uses::count_assigned` meets its contract: a use for the node, if one is assigned. Assumes nothing.
+use mathlib.Core.Path.{_≡_, sym, ap, _∙_}
+use mathlib.Core.List.{List}
+use Prim.Native.Nat.{ℕ}
+use borrow.Author.Needs.{needs}
+use denote.Ref.{now}
+use Rattle.expressions.specs.Uses.{addUses}
+use Rattle.model.specs.ChartFile.{assignedNodes}
+use Rattle.chart_files.specs.declared.fields.Deed.{Deed}
+use Rattle.chart_files.specs.Parts.{deedFor}
+use Rattle.chart_files.proofs.uses.count_assigned.Statement.{statement}
+use Rattle.chart_files.proofs.uses.count_assigned.Tie as tie
+
+-- the use by the node that an arm has
+told : (u : List ℕ) {o x : Deed} → o ≡ x → addUses u (assignedNodes (deedFor x)) ≡ addUses u (assignedNodes (deedFor o))
+told u e = ap (λ y. addUses u (assignedNodes (deedFor y))) (sym e)
+
+enum-known-deed : tie.Need-enum-known-deed
+enum-known-deed c = search needs
+
+add-use-requires : tie.Need-add-use-requires
+add-use-requires c κs = search needs
+
+enum-told : tie.Need-enum-told
+enum-told c = search needs
+
+same-length : tie.Need-same-length
+same-length c = search needs
+
+returns : tie.Need-returns
+unfolding addUses
+returns c = c .before .before .add-use .ensures ∙ told (now (c .before .before .before .before .before .before .before .before .args .uses)) (c .before .before .before .before .before .deed .given .1)
+
+returns-2 : tie.Need-returns-2
+unfolding addUses
+returns-2 c = told (now (c .before .before .before .args .uses)) (c .enum-told .given .1)
+
+pub count-assigned-spec : {M : Type 1} → statement M
+count-assigned-spec = tie.close (tie.spec enum-known-deed add-use-requires enum-told same-length returns returns-2)
