@@ -102,7 +102,7 @@ fn put_twin(s: &[u8], shape: Shape, out: &mut [u8]) -> usize
     put_effects(s, shape, &clocks, out, effects_at)
 }
 
-// No twin is longer than 232,576 bytes; a buffer that has them needs no first pass.
+// The length is known before anything is written. No twin is longer than 232,576 bytes; for a buffer that has them nothing is counted.
 fn has_room(s: &[u8], shape: Shape, room: usize) -> bool
     requires { ⌜ Accepted (now s) shape ⌝ }
     ensures { λ r. ⌜ r ≡ leb (length (twinBytes (now (s .entry)))) room ⌝ }

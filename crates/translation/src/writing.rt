@@ -1,4 +1,4 @@
-// Records into a buffer. Bytes past its end are counted and not written, so that writing into a buffer of no use measures a text.
+// Records into a buffer. Bytes past its end are not written.
 ghost use mathlib.Core.Path.{_≡_};
 ghost use mathlib.Core.List.{[], _∷_, _++_};
 ghost use Prim.Native.Nat.{_+_, _/_, _%_, _≤_, _<_, _^_};
