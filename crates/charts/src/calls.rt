@@ -12,6 +12,7 @@ use super::turns::Ending;
 use super::turns::Refusal;
 use super::turns::Turned;
 use super::turns::cycle;
+use super::turns::time_turn;
 use super::turns::turn;
 use super::turns::undone;
 use super::turns::unready;
@@ -40,6 +41,9 @@ pub fn call_turn(s: &[u8], run: Run, events: u32) -> Turned
     match check(s) {
         Checked::Refused(refusal) => unready(run, Refusal::File(refusal)),
         Checked::Accepted(shape) => {
+            if (shape.charts as u32) < run.position {
+                return time_turn(s, shape, run, events);
+            }
             let empty = [256u16; 16];
             let mut rows = [empty; 128];
             let mut ends = [0u8; 128];

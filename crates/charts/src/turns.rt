@@ -1,10 +1,11 @@
 // Turns and cycles of chart sets.
 ghost use mathlib.Core.Path.{_≡_};
-ghost use Prim.Native.Nat.{_+_, _-_, _≤_};
+ghost use Prim.Native.Nat.{_+_, _-_, _≤_, _<_};
 ghost use Rattle.model.specs.Outcome.{settled};
 ghost use Rattle.model.specs.Runs.{stepped, turn as model-turn, cycle as model-cycle};
 ghost use Rattle.model.specs.ChartSet.{readCharts};
 ghost use Rattle.model.specs.Charts.{charts as machine};
+ghost use Rattle.charts.specs.Accepted.{Accepted};
 ghost use Rattle.charts.specs.RunOf.{runOf};
 ghost use Rattle.charts.specs.TurnOf.{turnOf, calledOf, after, finish, Known, Ready};
 use super::cycles::cycle_in_place;
@@ -128,6 +129,25 @@ pub fn unready(run: Run, refusal: Refusal) -> Turned
     Turned {
         answer: Answer::Refused(refusal),
         run,
+    }
+}
+
+// Time's turn of an accepted set reads no tables.
+pub fn time_turn(s: &[u8], shape: Shape, run: Run, events: u32) -> Turned
+    requires { ⌜ Accepted (now s) shape × (shape .charts < run .position) ⌝ }
+    ensures { λ r. ⌜ turnOf r ≡ settled (runOf run) (model-turn (machine (readCharts (now (s .entry)))) events (runOf run)) ⌝ }
+{
+    match before_turn(s, shape, run, events) {
+        Before::Impossible => unready(run, Refusal::Impossible),
+        Before::Misplaced => unready(run, Refusal::Misplaced),
+        Before::Finished => unready(run, Refusal::Finished),
+        Before::Fine => {
+            let after = time_passed(shape.charts, run);
+            Turned {
+                answer: Answer::Time,
+                run: after,
+            }
+        }
     }
 }
 
