@@ -22,7 +22,7 @@ fn higher(a: u8, b: u8) -> u8
     if a < b { b } else { a }
 }
 
-// Of each state its leaving transitions, by priority, in rows of none, which is 256: a number of two unlike bytes is put by plain stores, and one of two like bytes by a slower fill. And the highest priority of each.
+// Of each state its leaving transitions, by priority, in rows of none, which is 256: a number of two unlike bytes is put by plain stores, and one of two like bytes by one instruction repeated for each byte. And the highest priority of each.
 pub fn fill_rows(s: &[u8], shape: Shape, rows: &mut [[u16; 16]; 128], ends: &mut [u8; 128])
     requires { ⌜ Accepted (now s) shape × (now rows ≡ replicate 128 (replicate 16 256)) × (now ends ≡ replicate 128 0) ⌝ }
     ensures { λ _. ⌜ HasRows (readCharts (now (s .entry))) (now (rows .exit)) × HasEnds (now (rows .exit)) (now (ends .exit)) ⌝ }
