@@ -14,7 +14,7 @@ use Rattle.chart_files.proofs.Readings.{length-initial}
 use Rattle.machines.specs.Worlds.{codedFault}
 use Rattle.machines.proofs.Turning.{val-is, at-part, cycle-more, cycle-stop}
 use Rattle.charts.specs.RunOf.{runIn}
-use Rattle.charts.specs.StepOf.{movedBy, chartTurns}
+use Rattle.charts.specs.StepOf.{movedBy, chartTurn, chartTurns}
 use Rattle.charts.specs.TurnOf.{Ready, after}
 use Rattle.charts.proofs.StepLaws.{moved-value, moved-fault}
 use Rattle.charts.proofs.Turning.{ready-next}
@@ -95,6 +95,9 @@ module _ (cs : ChartSet) (chart : ℕ) (answer₀ : Answer) (r : Run) (code : �
   one-step : movedBy code answer states ages vars (p + (chart + 1 - chart)) c ≡ (chartStep cs chart r >>= λ y. val (onwards y))
   unfolding chartTurns
   one-step = turned ∙ ap (λ k. chartTurns cs chart k (answer₀, r)) (let z : chart + 1 - chart ≡ 1 = omega arith in z)
+
+  pub alone-turn : movedBy code answer states ages vars (p + 1) c ≡ chartTurn cs chart r
+  alone-turn = ap (λ n. movedBy code answer states ages vars n c) (let z : p + 1 ≡ p + (chart + 1 - chart) = omega arith in z) ∙ one-step
 
   pub alone-fault : 4_294_967_295 < code → fault (codedFault code) ≡ chartStep cs chart r
   alone-fault h = unmoved-fault (codedFault code) (chartStep cs chart r) (sym (moved-fault code answer states ages vars (p + (chart + 1 - chart)) c h) ∙ one-step)

@@ -16,7 +16,7 @@ use Rattle.model.specs.ChartFile.{prioritiesDiffer}
 use Rattle.chart_files.specs.declared.Shape.{Shape}
 use Rattle.chart_files.specs.Places.{transitionAt}
 use Rattle.chart_files.proofs.ListLaws.{keep-keep}
-use Rattle.chart_files.proofs.Readings.{transition-is, length-transitions, most-transitions}
+use Rattle.chart_files.proofs.Readings.{transition-is, length-homes, length-transitions, most-transitions}
 use Rattle.charts.specs.Accepted.{Accepted}
 use Rattle.charts.specs.Tables.{headOr, earliest, named, leaves, placed, HasRows}
 use Rattle.machines.proofs.Earliest.{keep-alike, only-one}
@@ -108,14 +108,17 @@ abbrev pub priorityAt : List ℕ → Shape → ℕ → ℕ
 priorityAt s sh u = transitionAt s sh u .priority
 
 module _ (s : List ℕ) (sh : Shape) (ok : Accepted s sh) where
-  pub rows-are : (rows : List (List ℕ)) → Rows (sourceAt s sh) (priorityAt s sh) (sh .transitions) rows 0 → HasRows (readCharts s) rows
-  rows-are rows r st j h l =
-      r .filled st j h l
-      ∙ ap (λ l. placed (headOr 65535 l))
-      (ap (λ n. keep (leaving (sourceAt s sh) (priorityAt s sh) (sh .transitions) st (j + 1)) (from 0 n)) (sub-zero (sh .transitions))
-      ∙ keep-alike (leaving (sourceAt s sh) (priorityAt s sh) (sh .transitions) st (j + 1)) (leaves (readCharts s) st (j + 1)) 0 (sh .transitions)
-      (λ i a b. let m : i < sh .transitions = omega arith in λ k. eqb (sym (transition-is s sh (ok .shape) i m) k .source) st && eqb (sym (transition-is s sh (ok .shape) i m) k .priority) (j + 1))
-      ∙ ap (λ n. keep (leaves (readCharts s) st (j + 1)) (from 0 n)) (sym (length-transitions s sh (ok .shape))))
+  pub rows-are : (rows : List (List ℕ)) → sh .states ≤ length rows → Rows (sourceAt s sh) (priorityAt s sh) (sh .transitions) (length rows) rows 0 → HasRows (readCharts s) rows
+  rows-are rows enough r = record {
+    enough = omega (arith, enough, length-homes s sh (ok .shape));
+    places = λ st j h l.
+        r .filled st j h l
+        ∙ ap (λ l. placed (headOr 65535 l))
+        (ap (λ n. keep (leaving (sourceAt s sh) (priorityAt s sh) (sh .transitions) (length rows) st (j + 1)) (from 0 n)) (sub-zero (sh .transitions))
+        ∙ keep-alike (leaving (sourceAt s sh) (priorityAt s sh) (sh .transitions) (length rows) st (j + 1)) (leaves (readCharts s) st (j + 1)) 0 (sh .transitions)
+        (λ i a b. let m : i < sh .transitions = omega arith in λ k. eqb (sym (transition-is s sh (ok .shape) i m) k .source) st && eqb (sym (transition-is s sh (ok .shape) i m) k .priority) (j + 1))
+        ∙ ap (λ n. keep (leaves (readCharts s) st (j + 1)) (from 0 n)) (sym (length-transitions s sh (ok .shape))));
+  }
 
   priorities : (t : ℕ) → t < length (readCharts s .transitions) → (1 ≤ transition (readCharts s) t .priority) × (transition (readCharts s) t .priority ≤ 16)
   priorities t l =

@@ -8,32 +8,32 @@ use lib.Dec.{eqb}
 use lib.ListN.{length, getD, set, replicate, length-set, length-replicate, getD-replicate}
 use lib.Seq.{getD-set-same, getD-set-other}
 use borrow.Author.Tests.{eqb-true, eqb-false}
-use Rattle.charts.specs.Tables.{HasEnds, earliest, placed}
+use Rattle.charts.specs.Tables.{EmptyRows, HasEnds, earliest, placed}
 use Rattle.machines.proofs.Earliest.{earliest-one, earliest-none}
 
--- ---- rows: each number u has a source and a priority
+-- ---- so many rows: each number u has a source and a priority
 
-module _ (source priority : ℕ → ℕ) (size : ℕ) where
+module _ (source priority : ℕ → ℕ) (size count : ℕ) where
   abbrev pub leaving : ℕ → ℕ → ℕ → Bool
   leaving st q u = eqb (source u) st && eqb (priority u) q
 
   -- filled down to t
   pub record Rows (rows : List (List ℕ)) (t : ℕ) : Type 0 where
     pub bound : t ≤ size
-    pub long : length rows ≡ 128
-    pub wide : (st : ℕ) → st < 128 → length (getD rows st []) ≡ 16
-    pub filled : (st j : ℕ) → st < 128 → j < 16 → getD (getD rows st []) j 0 ≡ placed (earliest (leaving st (j + 1)) t (size - t))
+    pub long : length rows ≡ count
+    pub wide : (st : ℕ) → st < count → length (getD rows st []) ≡ 16
+    pub filled : (st j : ℕ) → st < count → j < 16 → getD (getD rows st []) j 0 ≡ placed (earliest (leaving st (j + 1)) t (size - t))
 
-  pub rows-none : Rows (replicate 128 (replicate {A = ℕ} 16 256)) size
+  pub rows-none : Rows (replicate count (replicate {A = ℕ} 16 256)) size
   rows-none = record {
     bound = omega arith;
-    long = length-replicate 128 (replicate {A = ℕ} 16 256);
-    wide = λ st h. ap length (getD-replicate 128 st (replicate {A = ℕ} 16 256) [] h) ∙ length-replicate {A = ℕ} 16 256;
+    long = length-replicate count (replicate {A = ℕ} 16 256);
+    wide = λ st h. ap length (getD-replicate count st (replicate {A = ℕ} 16 256) [] h) ∙ length-replicate {A = ℕ} 16 256;
     filled = λ st j h l.
-        ap (λ r. getD r j 0) (getD-replicate 128 st (replicate {A = ℕ} 16 256) [] h) ∙ getD-replicate {A = ℕ} 16 j 256 0 l ∙ sym (ap placed (earliest-none (leaving st (j + 1)) size));
+        ap (λ r. getD r j 0) (getD-replicate count st (replicate {A = ℕ} 16 256) [] h) ∙ getD-replicate {A = ℕ} 16 j 256 0 l ∙ sym (ap placed (earliest-none (leaving st (j + 1)) size));
   }
 
-  module _ (rows : List (List ℕ)) (u i k : ℕ) (so-far : Rows rows (u + 1)) (at-source : source u ≡ i) (at-priority : priority u ≡ k + 1) (in-rows : i < 128) (in-row : k < 16) (small : u < 256) where
+  module _ (rows : List (List ℕ)) (u i k : ℕ) (so-far : Rows rows (u + 1)) (at-source : source u ≡ i) (at-priority : priority u ≡ k + 1) (in-rows : i < count) (in-row : k < 16) (small : u < 256) where
     abbrev next-rows : List (List ℕ)
     next-rows = set rows i (set (getD rows i []) k u)
 
@@ -46,7 +46,7 @@ module _ (source priority : ℕ → ℕ) (size : ℕ) where
     wide-here : length (set (getD rows i []) k u) ≡ 16
     wide-here = length-set (getD rows i []) k u ∙ so-far .wide i in-rows
 
-    place : (st j : ℕ) → st < 128 → j < 16 → getD (getD next-rows st []) j 0 ≡ cond (leaving st (j + 1) u) u (getD (getD rows st []) j 0)
+    place : (st j : ℕ) → st < count → j < 16 → getD (getD next-rows st []) j 0 ≡ cond (leaving st (j + 1) u) u (getD (getD rows st []) j 0)
     place st j h l = go (eqb (source u) st) refl (eqb (priority u) (j + 1)) refl
       where
         go : (a : Bool) → eqb (source u) st ≡ a → (b : Bool) → eqb (priority u) (j + 1) ≡ b → getD (getD next-rows st []) j 0 ≡ cond (a && b) u (getD (getD rows st []) j 0)
@@ -77,7 +77,7 @@ module _ (source priority : ℕ → ℕ) (size : ℕ) where
           ∙ sym (ap placed (earliest-one (leaving st (j + 1)) u size (omega (arith, so-far .bound))));
     }
       where
-        widths : (st : ℕ) → st < 128 → (b : Bool) → eqb st i ≡ b → length (getD next-rows st []) ≡ 16
+        widths : (st : ℕ) → st < count → (b : Bool) → eqb st i ≡ b → length (getD next-rows st []) ≡ 16
         widths st h true e = ap (λ m. length (getD next-rows m [])) (eqb-true st i e) ∙ ap length row-here ∙ wide-here
         widths st h false e = ap length (row-there st (eqb-false st i e)) ∙ so-far .wide st h
 
@@ -86,42 +86,49 @@ module _ (source priority : ℕ → ℕ) (size : ℕ) where
 abbrev pub Ended : List (List ℕ) → List ℕ → Type 0
 Ended rows ends = (length ends ≡ 128) × HasEnds rows ends
 
-pub ends-none : Ended (replicate 128 (replicate {A = ℕ} 16 256)) (replicate 128 0)
-ends-none = (
+pub ends-none : (count : ℕ) → Ended (replicate count (replicate {A = ℕ} 16 256)) (replicate 128 0)
+ends-none count = (
   length-replicate {A = ℕ} 128 0,
-  λ st h. (
-    omega (arith, getD-replicate {A = ℕ} 128 st 0 0 h),
-    λ j _ l. ap (λ r. getD r j 0) (getD-replicate 128 st (replicate {A = ℕ} 16 256) [] h) ∙ getD-replicate {A = ℕ} 16 j 256 0 l,
-  ),
+  λ st h k.
+      let l : st < count = omega (arith, h, length-replicate count (replicate {A = ℕ} 16 256)) in (
+        omega (arith, getD-replicate {A = ℕ} 128 st 0 0 k),
+        λ j _ m. ap (λ r. getD r j 0) (getD-replicate count st (replicate {A = ℕ} 16 256) [] l) ∙ getD-replicate {A = ℕ} 16 j 256 0 m,
+      ),
 )
 
 -- place k of row i is written, and its end is past it
-module _ (rows : List (List ℕ)) (ends : List ℕ) (i k u p : ℕ) (long : length rows ≡ 128) (so-far : Ended rows ends) (in-rows : i < 128) (low : getD ends i 0 ≤ p) (past : k + 1 ≤ p) (fits : p ≤ 16) where
+module _ (rows : List (List ℕ)) (ends : List ℕ) (i k u p : ℕ) (so-far : Ended rows ends) (in-rows : i < length rows) (in-ends : i < 128) (low : getD ends i 0 ≤ p) (past : k + 1 ≤ p) (fits : p ≤ 16) where
   pub ends-more : Ended (set rows i (set (getD rows i []) k u)) (set ends i p)
-  ends-more = (length-set ends i p ∙ so-far .0, λ st h. go st h (eqb st i) refl)
+  ends-more = (length-set ends i p ∙ so-far .0, λ st h l. go st (omega (arith, h, length-set rows i (set (getD rows i []) k u))) l (eqb st i) refl)
     where
       rows′ : List (List ℕ)
       rows′ = set rows i (set (getD rows i []) k u)
 
-      go : (st : ℕ) → st < 128 → (b : Bool) → eqb st i ≡ b →
+      go : (st : ℕ) → st < length rows → st < 128 → (b : Bool) → eqb st i ≡ b →
           (getD (set ends i p) st 0 ≤ 16) × ((j : ℕ) → getD (set ends i p) st 0 ≤ j → j < 16 → getD (getD rows′ st []) j 0 ≡ 256)
-      go st h true e =
+      go st h n true e =
           let q : st ≡ i = eqb-true st i e in
           let a : getD (set ends i p) st 0 ≡ p = ap (λ n. getD (set ends i p) n 0) q ∙ getD-set-same ends i p 0 (omega (arith, so-far .0)) in
-          let b : getD rows′ st [] ≡ set (getD rows i []) k u = ap (λ n. getD rows′ n []) q ∙ getD-set-same rows i (set (getD rows i []) k u) [] (omega (arith, long)) in (
+          let b : getD rows′ st [] ≡ set (getD rows i []) k u = ap (λ n. getD rows′ n []) q ∙ getD-set-same rows i (set (getD rows i []) k u) [] in-rows in (
             omega (arith, a),
             λ j l m.
                 ap (λ r. getD r j 0) b
                 ∙ getD-set-other (getD rows i []) k j u 0 (λ d. absurd (omega (arith, a, d)))
-                ∙ so-far .1 i in-rows .1 j (omega (arith, a)) m,
+                ∙ so-far .1 i in-rows in-ends .1 j (omega (arith, a)) m,
           )
-      go st h false e =
-          let n : st ≡ i → ⊥ = eqb-false st i e in
-          let a : getD (set ends i p) st 0 ≡ getD ends st 0 = getD-set-other ends i st p 0 n in (
-            omega (arith, a, so-far .1 st h .0),
-            λ j l m. ap (λ r. getD r j 0) (getD-set-other rows i st (set (getD rows i []) k u) [] n) ∙ so-far .1 st h .1 j (omega (arith, a)) m,
+      go st h n false e =
+          let d : st ≡ i → ⊥ = eqb-false st i e in
+          let a : getD (set ends i p) st 0 ≡ getD ends st 0 = getD-set-other ends i st p 0 d in (
+            omega (arith, a, so-far .1 st h n .0),
+            λ j l m. ap (λ r. getD r j 0) (getD-set-other rows i st (set (getD rows i []) k u) [] d) ∙ so-far .1 st h n .1 j (omega (arith, a)) m,
           )
 
 -- a row's whole length is an end
 pub whole-rows : (rows : List (List ℕ)) → HasEnds rows (replicate 128 16)
-whole-rows rows st h = let e : getD (replicate {A = ℕ} 128 16) st 0 ≡ 16 = getD-replicate {A = ℕ} 128 st 16 0 h in (omega (arith, e), λ j l m. absurd (omega (arith, e)))
+whole-rows rows st h n = let e : getD (replicate {A = ℕ} 128 16) st 0 ≡ 16 = getD-replicate {A = ℕ} 128 st 16 0 n in (omega (arith, e), λ j l m. absurd (omega (arith, e)))
+
+-- rows as they are made
+pub empty-rows : (states count : ℕ) → states ≤ count → EmptyRows states (replicate count (replicate 16 256))
+empty-rows states count h =
+    let e : length (replicate count (replicate {A = ℕ} 16 256)) ≡ count = length-replicate count (replicate {A = ℕ} 16 256) in
+    (omega (arith, e), ap (λ n. replicate n (replicate {A = ℕ} 16 256)) (sym e))

@@ -53,6 +53,10 @@ answerBy t = cond (eqb t 65535) idle (taken t)
 abbrev pub movedBy : ℕ → Answer → List ℕ → List ℕ → List ℤ → ℕ → ℕ → Out (Answer × Run)
 movedBy code answer states ages vars position cycles = coded code >>= λ events. val (answer, runIn states ages vars events position cycles)
 
+-- a chart's turn, and the next position
+abbrev pub chartTurn : ChartSet → ℕ → Run → Out (Answer × Run)
+chartTurn cs chart r = chartStep cs chart r >>= λ y. val (y .0, moved (y .1))
+
 -- The turns of so many charts, from one on: what the last of them answers, or what was answered before, and the run after them.
 unfoldable pub chartTurns : ChartSet → ℕ → ℕ → Answer × Run → Out (Answer × Run)
 chartTurns cs chart zero x = val x

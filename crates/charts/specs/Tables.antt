@@ -5,7 +5,7 @@ use mathlib.Core.Bool.{Bool, _&&_}
 use mathlib.Core.List.{List, [], _∷_, map}
 use Prim.Native.Nat.{ℕ, _+_, _-_, _≤_, _<_, min}
 use lib.Dec.{eqb}
-use lib.ListN.{length, getD}
+use lib.ListN.{length, getD, replicate}
 use Rattle.records.specs.Lists.{keep, upto, caseOf}
 use Rattle.records.specs.Refusal.{Out, _>>=_}
 use Rattle.model.specs.Runs.{World, deeds}
@@ -28,14 +28,18 @@ slotAt cs st q = earliest (leaves cs st q) 0 (length (cs .transitions))
 abbrev pub placed : ℕ → ℕ
 placed t = min 256 t
 
--- rows have a place for each priority, 1 to 16, in order
-abbrev pub HasRows : ChartSet → List (List ℕ) → Type 0
-HasRows cs rows =
-    (st j : ℕ) → st < 128 → j < 16 → getD (getD rows st []) j 0 ≡ placed (slotAt cs st (j + 1))
+-- a row for each state at least, and all name none
+abbrev pub EmptyRows : ℕ → List (List ℕ) → Type 0
+EmptyRows states rows = (states ≤ length rows) × (rows ≡ replicate (length rows) (replicate 16 256))
 
--- of each state an end of its row: no place from there on names a transition
+-- a row for each state at least, with a place for each priority, 1 to 16, in order
+pub record HasRows (cs : ChartSet) (rows : List (List ℕ)) : Type 0 where
+  pub enough : length (cs .homes) ≤ length rows
+  pub places : (st j : ℕ) → st < length rows → j < 16 → getD (getD rows st []) j 0 ≡ placed (slotAt cs st (j + 1))
+
+-- of each row an end: no place from there on names a transition
 abbrev pub HasEnds : List (List ℕ) → List ℕ → Type 0
-HasEnds rows ends = (st : ℕ) → st < 128 → (getD ends st 0 ≤ 16) × ((j : ℕ) → getD ends st 0 ≤ j → j < 16 → getD (getD rows st []) j 0 ≡ 256)
+HasEnds rows ends = (st : ℕ) → st < length rows → st < 128 → (getD ends st 0 ≤ 16) × ((j : ℕ) → getD ends st 0 ≤ j → j < 16 → getD (getD rows st []) j 0 ≡ 256)
 
 -- ---- actions
 

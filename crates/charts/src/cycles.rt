@@ -20,7 +20,7 @@ use machines::deeds::reason_by;
 pub fn cycle_in_place(
     s: &[u8],
     shape: Shape,
-    rows: &[[u16; 16]; 128],
+    rows: &[[u16; 16]],
     ends: &[u8; 128],
     first: &[u16; 512],
     next: &[u16; 512],

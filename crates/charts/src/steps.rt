@@ -76,7 +76,7 @@ fn slot_holds(s: &[u8], shape: Shape, vars: &[i16; 64], events: u32, age: u32, t
 fn first_that(
     s: &[u8],
     shape: Shape,
-    rows: &[[u16; 16]; 128],
+    rows: &[[u16; 16]],
     ends: &[u8; 128],
     vars: &[i16; 64],
     events: u32,
@@ -166,7 +166,7 @@ fn follow(
 fn step_in_place(
     s: &[u8],
     shape: Shape,
-    rows: &[[u16; 16]; 128],
+    rows: &[[u16; 16]],
     ends: &[u8; 128],
     first: &[u16; 512],
     next: &[u16; 512],
@@ -209,7 +209,7 @@ fn step_in_place(
 pub fn turns_in_place(
     s: &[u8],
     shape: Shape,
-    rows: &[[u16; 16]; 128],
+    rows: &[[u16; 16]],
     ends: &[u8; 128],
     first: &[u16; 512],
     next: &[u16; 512],

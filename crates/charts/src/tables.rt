@@ -4,7 +4,7 @@ ghost use Prim.Native.Nat.{ℕ, _+_, _≤_, _<_};
 ghost use lib.ListN.{replicate};
 ghost use Rattle.model.specs.ChartSet.{readCharts};
 ghost use Rattle.charts.specs.Accepted.{Accepted};
-ghost use Rattle.charts.specs.Tables.{HasRows, HasEnds, HasActions, slotAt};
+ghost use Rattle.charts.specs.Tables.{EmptyRows, HasRows, HasEnds, HasActions, slotAt};
 use super::actions::key_of;
 use super::transitions::source_of;
 use chart_files::Shape;
@@ -23,8 +23,8 @@ fn higher(a: u8, b: u8) -> u8
 }
 
 // Of each state its leaving transitions, by priority, in rows of none, which is 256: a number of two unlike bytes is put by plain stores, and one of two like bytes by one instruction repeated for each byte. And the highest priority of each.
-pub fn fill_rows(s: &[u8], shape: Shape, rows: &mut [[u16; 16]; 128], ends: &mut [u8; 128])
-    requires { ⌜ Accepted (now s) shape × (now rows ≡ replicate 128 (replicate 16 256)) × (now ends ≡ replicate 128 0) ⌝ }
+pub fn fill_rows(s: &[u8], shape: Shape, rows: &mut [[u16; 16]], ends: &mut [u8; 128])
+    requires { ⌜ Accepted (now s) shape × EmptyRows (shape .states) (now rows) × (now ends ≡ replicate 128 0) ⌝ }
     ensures { λ _. ⌜ HasRows (readCharts (now (s .entry))) (now (rows .exit)) × HasEnds (now (rows .exit)) (now (ends .exit)) ⌝ }
 {
     let mut t = shape.transitions;
@@ -50,7 +50,7 @@ pub fn rows_of(s: &[u8], shape: Shape) -> [[u16; 16]; 128]
 }
 
 // The transition at a place of a state's row; 65535 is none.
-pub fn slot_of(s: &[u8], shape: Shape, rows: &[[u16; 16]; 128], state: u16, place: usize) -> u16
+pub fn slot_of(s: &[u8], shape: Shape, rows: &[[u16; 16]], state: u16, place: usize) -> u16
     requires { ⌜ Accepted (now s) shape × HasRows (readCharts (now s)) (now rows) × (state < shape .states) × (place < 16) ⌝ }
     ensures { λ r. ⌜ r ≡ slotAt (readCharts (now (s .entry))) state (place + 1) ⌝ }
 {

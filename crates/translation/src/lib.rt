@@ -6,6 +6,7 @@ ghost use lib.ListN.{length};
 ghost use Rattle.model.specs.ChartSet.{readCharts};
 ghost use Rattle.model.specs.Translation.{twin, twinBytes, translate as translation};
 ghost use Rattle.charts.specs.Accepted.{Accepted};
+ghost use Rattle.charts.specs.Tables.{EmptyRows};
 ghost use Rattle.translation.specs.Tables.{HasClocks};
 ghost use Rattle.translation.specs.Texts.{placesText, testsText, effectsText, Puts};
 ghost use Rattle.translation.specs.Answer.{translatedOf};
@@ -59,20 +60,40 @@ fn put_places(s: &[u8], shape: Shape, out: &mut [u8], at: usize) -> usize
     put_idles(s, shape, out, idles_at)
 }
 
-// Kinds 36 to 39.
+// Kinds 36 to 39, with the rows made in what is lent, rows that name none.
+fn put_tests_by(
+    s: &[u8],
+    shape: Shape,
+    clocks: &[u16; 256],
+    rows: &mut [[u16; 16]],
+    out: &mut [u8],
+    at: usize,
+) -> usize
+    requires { ⌜ Accepted (now s) shape × HasClocks (readCharts (now s)) (now clocks) × EmptyRows (shape .states) (now rows) × (at < 2 ^ 51) ⌝ }
+    ensures { λ r. ⌜ Puts (now (out .entry)) at (testsText (twin (readCharts (now (s .entry))))) (now (out .exit)) r (2 ^ 43) ⌝ }
+{
+    let mut ends = [0u8; 128];
+    fill_rows(s, shape, rows, &mut ends);
+    let idles_at = put_literals(s, shape, clocks, rows, out, at);
+    let clocks_at = put_idle_literals(s, shape, clocks, rows, &ends, out, idles_at);
+    let variables_at = put_clocks(s, shape, out, clocks_at);
+    let nodes_at = put_variables(s, shape, out, variables_at);
+    put_nodes(s, shape, out, nodes_at)
+}
+
+// Few states have few rows, which are sooner cleared.
 fn put_tests(s: &[u8], shape: Shape, clocks: &[u16; 256], out: &mut [u8], at: usize) -> usize
     requires { ⌜ Accepted (now s) shape × HasClocks (readCharts (now s)) (now clocks) × (at < 2 ^ 51) ⌝ }
     ensures { λ r. ⌜ Puts (now (out .entry)) at (testsText (twin (readCharts (now (s .entry))))) (now (out .exit)) r (2 ^ 43) ⌝ }
 {
     let empty = [256u16; 16];
-    let mut rows = [empty; 128];
-    let mut ends = [0u8; 128];
-    fill_rows(s, shape, &mut rows, &mut ends);
-    let idles_at = put_literals(s, shape, clocks, &rows, out, at);
-    let clocks_at = put_idle_literals(s, shape, clocks, &rows, &ends, out, idles_at);
-    let variables_at = put_clocks(s, shape, out, clocks_at);
-    let nodes_at = put_variables(s, shape, out, variables_at);
-    put_nodes(s, shape, out, nodes_at)
+    if shape.states <= 16 {
+        let mut rows = [empty; 16];
+        put_tests_by(s, shape, clocks, &mut rows, out, at)
+    } else {
+        let mut rows = [empty; 128];
+        put_tests_by(s, shape, clocks, &mut rows, out, at)
+    }
 }
 
 // Kinds 40 and 41.

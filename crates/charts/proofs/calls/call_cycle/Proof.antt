@@ -1,5 +1,5 @@
--- `calls::call_cycle` meets its contract: a file that is not refused is one that `cycle` takes. Assumes nothing.
-use mathlib.Core.Path.{refl, sym, ap, _∙_}
+-- `calls::call_cycle` meets its contract: a file that is not refused is one whose cycle can be taken. Assumes nothing.
+use mathlib.Core.Path.{sym, ap, _∙_}
 use borrow.Author.Needs.{needs}
 use denote.Ref.{now}
 use Rattle.records.specs.Refusal.{unless-refused}
@@ -31,15 +31,8 @@ accepted c =
     let k = c .before .before .before in
     accepted-of (now (k .before .before .args .s)) (k .check .result) (k .check .ensures) (c .before .shape .given .0 .0) (c .before .shape .given .1)
 
-fill-rows-requires : tie.Need-fill-rows-requires
-fill-rows-requires c κs = (accepted (c .before .before), refl, refl)
-
-fill-actions-requires : tie.Need-fill-actions-requires
-fill-actions-requires c κs = (accepted (c .before .before .before .before .before), refl, refl)
-
-cycle-requires : tie.Need-cycle-requires
-cycle-requires c κs =
-    record { accepted = accepted (c .before .before .before .before .before .before .before .before .before); has-rows = c .before .before .before .before .before .before .fill-rows .ensures .0; has-actions = c .before .before .before .fill-actions .ensures }
+cycle-checked-requires : tie.Need-cycle-checked-requires
+cycle-checked-requires c κs = accepted c
 
 returns : tie.Need-returns
 returns c =
@@ -53,11 +46,9 @@ returns c =
 
 returns-2 : tie.Need-returns-2
 returns-2 c =
-    let t = c .before .before .before .before .before .before .before .before .before .before in
-    let a = t .before .before .before .before .before .args in
-    c .cycle .ensures
-    ∙ sym (ap (λ o. settled (runOf (a .run)) (unless-refused o (cycle (charts (readCharts (now (a .s)))) (a .events) (runOf (a .run))))) (accepted t .unrefused))
+    let a = c .before .before .before .before .before .before .args in
+    c .cycle-checked .ensures
+    ∙ sym (ap (λ o. settled (runOf (a .run)) (unless-refused o (cycle (charts (readCharts (now (a .s)))) (a .events) (runOf (a .run))))) (accepted (c .before) .unrefused))
 
 pub call-cycle-spec : {M : Type 1} → statement M
-call-cycle-spec =
-    tie.close (tie.spec check-requires enum-known-refusal undone-requires enum-known-shape fill-rows-requires fill-actions-requires cycle-requires returns returns-2)
+call-cycle-spec = tie.close (tie.spec check-requires enum-known-refusal undone-requires enum-known-shape cycle-checked-requires returns returns-2)

@@ -1,5 +1,5 @@
--- `calls::call_turn` meets its contract: a file that is not refused is one that `turn` takes. Assumes nothing.
-use mathlib.Core.Path.{refl, sym, ap, _∙_}
+-- `calls::call_turn` meets its contract: a file that is not refused is one whose turn can be taken. Assumes nothing.
+use mathlib.Core.Path.{sym, ap, _∙_}
 use borrow.Author.Needs.{needs}
 use denote.Ref.{now}
 use Rattle.records.specs.Refusal.{unless-refused}
@@ -31,31 +31,11 @@ accepted c =
     let k = c .before .before .before in
     accepted-of (now (k .before .before .args .s)) (k .check .result) (k .check .ensures) (c .before .shape .given .0 .0) (c .before .shape .given .1)
 
-cast-if1 : tie.Need-cast-if1
-cast-if1 c = search needs
-
-time-turn-requires : tie.Need-time-turn-requires
-time-turn-requires c κs = (accepted (c .before .before .before), c .if1 .taken)
-
-fill-rows-requires : tie.Need-fill-rows-requires
-fill-rows-requires c κs = (accepted (c .before .before .before .before .before), refl, refl)
-
-fill-actions-requires : tie.Need-fill-actions-requires
-fill-actions-requires c κs = (accepted (c .before .before .before .before .before .before .before .before), refl, refl)
-
-turn-requires : tie.Need-turn-requires
-turn-requires c κs =
-    record { accepted = accepted (c .before .before .before .before .before .before .before .before .before .before .before .before); has-rows = c .before .before .before .before .before .before .fill-rows .ensures .0; has-actions = c .before .before .before .fill-actions .ensures }
+turn-checked-requires : tie.Need-turn-checked-requires
+turn-checked-requires c κs = accepted c
 
 returns : tie.Need-returns
 returns c =
-    let t = c .before .before .before .before in
-    let a = c .before .before .before .before .before .before .before .before .before .args in
-    c .time-turn .ensures
-    ∙ sym (ap (λ o. settled (runOf (a .run)) (unless-refused o (turn (charts (readCharts (now (a .s)))) (a .events) (runOf (a .run))))) (accepted t .unrefused))
-
-returns-2 : tie.Need-returns-2
-returns-2 c =
     let t = c .before .before in
     let k = t .before .before in
     let a = k .before .before .args in
@@ -64,26 +44,11 @@ returns-2 c =
     (ap (λ o. settled (runOf (a .run)) (unless-refused o (turn (charts (readCharts (now (a .s)))) (a .events) (runOf (a .run)))))
     (refused-of (now (a .s)) (k .check .result) (k .check .ensures) (t .refusal .given .0 .0) (t .refusal .given .1)))
 
-returns-3 : tie.Need-returns-3
-returns-3 c =
-    let t = c .before .before .before .before .before .before .before .before .before .before .before .before .before in
-    let a = c .before .before .before .before .before .before .before .before .before .before .before .before .before .before .before .before .before .before .args in
-    c .turn .ensures
-    ∙ sym (ap (λ o. settled (runOf (a .run)) (unless-refused o (turn (charts (readCharts (now (a .s)))) (a .events) (runOf (a .run))))) (accepted t .unrefused))
+returns-2 : tie.Need-returns-2
+returns-2 c =
+    let a = c .before .before .before .before .before .before .args in
+    c .turn-checked .ensures
+    ∙ sym (ap (λ o. settled (runOf (a .run)) (unless-refused o (turn (charts (readCharts (now (a .s)))) (a .events) (runOf (a .run))))) (accepted (c .before) .unrefused))
 
 pub call-turn-spec : {M : Type 1} → statement M
-call-turn-spec =
-    tie.close
-    (tie.spec
-    check-requires
-    enum-known-refusal
-    unready-requires
-    enum-known-shape
-    cast-if1
-    time-turn-requires
-    returns
-    fill-rows-requires
-    fill-actions-requires
-    turn-requires
-    returns-2
-    returns-3)
+call-turn-spec = tie.close (tie.spec check-requires enum-known-refusal unready-requires enum-known-shape turn-checked-requires returns returns-2)

@@ -17,7 +17,7 @@ use Rattle.charts.proofs.cycles.cycle_again.Tie as tie
 
 cycle-in-place-requires : tie.Need-cycle-in-place-requires
 cycle-in-place-requires c κs =
-    let b = c .before .before .before .before .before .before .before in
+    let b = c .before .before .before .before .before .before .before .before in
     (b .pre .0, b .pre .1, ready (now (b .args .s)) (b .args .shape) (b .pre .0 .accepted .shape) (b .args .events) (runIn (now (b .args .states)) (now (b .args .ages)) (now (b .args .vars)) 0 1 (b .args .cycles)) (b .pre .2))
 
 enum-known-w : tie.Need-enum-known-w
@@ -28,13 +28,13 @@ enum-known-after c = search needs
 
 returns : tie.Need-returns
 returns c =
-    let b = c .before .before .before .before .before .before .before .before .before .before .before in
+    let b = c .before .before .before .before .before .before .before .before .before .before .before .before in
     let f = c .before .before .before .cycle-in-place in
     (ap finish (ap (λ d. ranTo d (runIn (f .last .1 .1 .1 .1 .1 .1 .0) (f .last .1 .1 .1 .1 .1 .1 .1 .0) (f .last .1 .1 .1 .1 .1 .1 .1 .1 .0) 0 1 (b .args .cycles + 1))) (sym (c .before .w .given .1)) ∙ f .ensures) ∙ sym (cycle-given (charts (readCharts (now (b .args .s)))) (b .args .shape .charts) (length-initial (now (b .args .s)) (b .args .shape) (b .pre .0 .accepted .shape)) (b .args .events) (runIn (now (b .args .states)) (now (b .args .ages)) (now (b .args .vars)) 0 1 (b .args .cycles)) (runIn (now (b .args .states)) (now (b .args .ages)) (now (b .args .vars)) (b .args .events) 1 (b .args .cycles)) (b .pre .2) refl), λ w e. (refl, refl, refl))
 
 returns-2 : tie.Need-returns-2
 returns-2 c =
-    let b = c .before .before .before .before .before .before .before .before .before .before .before in
+    let b = c .before .before .before .before .before .before .before .before .before .before .before .before in
     let f = c .before .before .before .cycle-in-place in
     (ap finish (ap (λ d. ranTo d (runIn (f .last .1 .1 .1 .1 .1 .1 .0) (f .last .1 .1 .1 .1 .1 .1 .1 .0) (f .last .1 .1 .1 .1 .1 .1 .1 .1 .0) 0 1 (b .args .cycles + 1))) (sym (c .before .after .given .1)) ∙ f .ensures) ∙ sym (cycle-given (charts (readCharts (now (b .args .s)))) (b .args .shape .charts) (length-initial (now (b .args .s)) (b .args .shape) (b .pre .0 .accepted .shape)) (b .args .events) (runIn (now (b .args .states)) (now (b .args .ages)) (now (b .args .vars)) 0 1 (b .args .cycles)) (runIn (now (b .args .states)) (now (b .args .ages)) (now (b .args .vars)) (b .args .events) 1 (b .args .cycles)) (b .pre .2) refl), λ w e. let z : _≡_ {A = ℕ} 0 1 = cc in absurd (omega arith))
 

@@ -7,6 +7,8 @@ use Rattle.model.specs.ChartSet.{readCharts}
 use Rattle.model.specs.Charts.{charts}
 use Rattle.charts.specs.Accepted.{Accepted}
 use Rattle.charts.specs.RunOf.{runOf}
+use Rattle.chart_files.proofs.Readings.{most-states}
+use Rattle.charts.proofs.TableLaws.{empty-rows}
 use Rattle.charts.proofs.Checking.{accepted-of, refused-of}
 use Rattle.machines.specs.Playing.{playing}
 use Rattle.charts.specs.PlayedOf.{cyclesOf}
@@ -31,15 +33,18 @@ accepted c =
     let k = c .before .before .before in
     accepted-of (now (k .before .before .before .args .s)) (k .check .result) (k .check .ensures) (c .before .shape .given .0 .0) (c .before .shape .given .1)
 
+slice-aggregate-fill-rows : tie.Need-slice-aggregate-fill-rows
+slice-aggregate-fill-rows c = search needs
+
 fill-rows-requires : tie.Need-fill-rows-requires
-fill-rows-requires c κs = (accepted (c .before .before), refl, refl)
+fill-rows-requires c κs = let ok = accepted (c .before .before) in (ok, empty-rows _ 128 (most-states _ _ (ok .shape)), refl)
 
 fill-actions-requires : tie.Need-fill-actions-requires
-fill-actions-requires c κs = (accepted (c .before .before .before .before .before), refl, refl)
+fill-actions-requires c κs = (accepted (c .before .before .before .before .before .before), refl, refl)
 
 cycles-played-requires : tie.Need-cycles-played-requires
 cycles-played-requires c κs =
-    (record { accepted = accepted (c .before .before .before .before .before .before .before .before .before .before); has-rows = c .before .before .before .before .before .before .before .fill-rows .ensures .0; has-actions = c .before .before .before .before .fill-actions .ensures }, c .before .before .before .before .before .before .before .fill-rows .ensures .1)
+    (record { accepted = accepted (c .before .before .before .before .before .before .before .before .before .before .before); has-rows = c .before .before .before .before .before .before .before .before .fill-rows .ensures .0; has-actions = c .before .before .before .before .fill-actions .ensures }, c .before .before .before .before .before .before .before .before .fill-rows .ensures .1)
 
 returns : tie.Need-returns
 returns c =
@@ -53,7 +58,7 @@ returns c =
 
 returns-2 : tie.Need-returns-2
 returns-2 c =
-    let t = c .before .before .before .before .before .before .before .before .before .before .before in
+    let t = c .before .before .before .before .before .before .before .before .before .before .before .before in
     let a = t .before .before .before .before .before .before .args in
     c .cycles-played .ensures
     ∙ sym (ap (λ o. settled (runOf (a .run)) (unless-refused o (playing (charts (readCharts (now (a .s)))) (now (a .masks)) (runOf (a .run))))) (accepted t .unrefused))
@@ -66,6 +71,7 @@ play-spec =
     enum-known-refusal
     unplayed-requires
     enum-known-shape
+    slice-aggregate-fill-rows
     fill-rows-requires
     fill-actions-requires
     cycles-played-requires

@@ -16,12 +16,12 @@ use Rattle.charts.proofs.steps.chart_step.Tie as tie
 
 add-turns-in-place : tie.Need-add-turns-in-place
 add-turns-in-place c =
-    let a = c .before .before .before .before .before in
+    let a = c .before .before .before .before .before .before in
     omega (arith, a .pre .1 .1 .1, most-charts (now (a .args .s)) (a .args .shape) (a .pre .0 .shape))
 
 turns-in-place-requires : tie.Need-turns-in-place-requires
 turns-in-place-requires c κs =
-    let a = c .before .before .before .before .before .before .before .before .before in
+    let a = c .before .before .before .before .before .before .before .before .before .before in
     let known = a .pre .1 .1 .1 in
     (record { accepted = a .pre .0; has-rows = a .pre .1 .0; has-actions = a .pre .1 .1 .0 }, whole-rows (now (a .args .rows)), omega arith, omega (arith, known))
 
@@ -30,7 +30,7 @@ reason-by-requires c κs = tt
 
 returns : tie.Need-returns
 returns c =
-    let x = c .before .before .before .before .before .before .before .before .before .before .before .before .args in
+    let x = c .before .before .before .before .before .before .before .before .before .before .before .before .before .args in
     let f = c .before .before .turns-in-place in
     (ap fault (c .reason-by .ensures) ∙ alone-fault (readCharts (now (x .s))) (x .chart) (answerBy 65535) (runOf (x .run)) (f .result) (answerBy (f .last .1 .1 .1 .1 .1 .1 .1 .1 .1 .1 .1 .1 .0)) (f .last .1 .1 .1 .1 .1 .1 .1 .1 .0) (f .last .1 .1 .1 .1 .1 .1 .1 .1 .1 .0) (f .last .1 .1 .1 .1 .1 .1 .1 .1 .1 .1 .0) (x .run .position) (x .run .cycles) (f .ensures (x .run .position) (x .run .cycles)) (c .before .if1 .taken), λ w e. refl)
 
@@ -45,7 +45,7 @@ placed-requires c κs = tt
 
 returns-2 : tie.Need-returns-2
 returns-2 c =
-    let x = c .before .before .before .before .before .before .before .before .before .before .before .before .before .args in
+    let x = c .before .before .before .before .before .before .before .before .before .before .before .before .before .before .args in
     let f = c .before .before .before .turns-in-place in
     let reply = c .before .reply-by in (
       ap (λ o. o >>= λ a. val (a, runOf (c .placed .result))) (reply .ensures)

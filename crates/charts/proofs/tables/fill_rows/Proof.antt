@@ -3,7 +3,7 @@ use mathlib.Core.Path.{_≡_, sym, subst}
 use Prim.Native.Nat.{ℕ, _+_, _-_, _≤_, _<_}
 use native.Mathlib.Omega.{arith}
 use denote.Ref.{now}
-use lib.ListN.{replicate}
+use lib.ListN.{length, replicate}
 use Rattle.chart_files.proofs.Readings.{most-states, most-transitions}
 use Rattle.charts.proofs.Sound.{source-known, priority-known}
 use Rattle.charts.proofs.TableLaws.{Rows, rows-none, rows-more, Ended, ends-none, ends-more}
@@ -12,7 +12,7 @@ use Rattle.charts.proofs.tables.fill_rows.Statement.{statement}
 use Rattle.charts.proofs.tables.fill_rows.Tie as tie
 
 abbrev Inv-loop : tie.InvT-loop
-Inv-loop s shape rows₀ ends₀ t₀ rows ends t = Rows (sourceAt s shape) (priorityAt s shape) (shape .transitions) rows t × Ended rows ends
+Inv-loop s shape rows₀ ends₀ t₀ rows ends t = Rows (sourceAt s shape) (priorityAt s shape) (shape .transitions) (length rows₀) rows t × Ended rows ends
 
 abbrev μ-loop : tie.MeasureT-loop
 μ-loop s shape rows₀ ends₀ t₀ rows ends t = t
@@ -21,8 +21,8 @@ loop-holds : tie.Need-loop-holds Inv-loop μ-loop
 loop-holds c =
     let b = c .before in
     let x = b .args in (
-      subst (λ rows. Rows (sourceAt (now (x .s)) (x .shape)) (priorityAt (now (x .s)) (x .shape)) (x .shape .transitions) rows (x .shape .transitions)) (sym (b .pre .1)) (rows-none (sourceAt (now (x .s)) (x .shape)) (priorityAt (now (x .s)) (x .shape)) (x .shape .transitions)),
-      subst (λ rows. Ended rows (now (x .ends))) (sym (b .pre .1)) (subst (Ended (replicate 128 (replicate {A = ℕ} 16 256))) (sym (b .pre .2)) ends-none),
+      subst (λ rows. Rows (sourceAt (now (x .s)) (x .shape)) (priorityAt (now (x .s)) (x .shape)) (x .shape .transitions) (length (now (x .rows))) rows (x .shape .transitions)) (sym (b .pre .1 .1)) (rows-none (sourceAt (now (x .s)) (x .shape)) (priorityAt (now (x .s)) (x .shape)) (x .shape .transitions) (length (now (x .rows)))),
+      subst (λ rows. Ended rows (now (x .ends))) (sym (b .pre .1 .1)) (subst (Ended (replicate (length (now (x .rows))) (replicate {A = ℕ} 16 256))) (sym (b .pre .2)) (ends-none (length (now (x .rows))))),
     )
 
 sub-t : tie.Need-sub-t Inv-loop μ-loop
@@ -41,13 +41,20 @@ priority-of-requires c κs = tt
 in-file : (c : tie.After-priority-of Inv-loop μ-loop) → c .before .before .before .loop .t - 1 < c .before .before .before .before .before .args .shape .transitions
 in-file c = omega (arith, c .before .before .before .loop .inv .0 .bound, c .before .before .loop-test .taken)
 
-source-fits : (c : tie.After-priority-of Inv-loop μ-loop) → c .before .source-of .result < 128
-source-fits c =
+source-in : (c : tie.After-priority-of Inv-loop μ-loop) → c .before .source-of .result < c .before .before .before .before .before .args .shape .states
+source-in c =
     let a = c .before .before .before .before .before in
-    let k : c .before .source-of .result < a .args .shape .states =
     rw (c .before .source-of .ensures) (source-known (now (a .args .s)) (a .args .shape) (a .pre .0) (c .before .before .before .loop .t - 1) (in-file c))
-    in
-    omega (arith, most-states (now (a .args .s)) (a .args .shape) (a .pre .0 .shape))
+
+source-fits : (c : tie.After-priority-of Inv-loop μ-loop) → c .before .source-of .result < 128
+source-fits c = let a = c .before .before .before .before .before in omega (arith, source-in c, most-states (now (a .args .s)) (a .args .shape) (a .pre .0 .shape))
+
+source-row : (c : tie.After-priority-of Inv-loop μ-loop) → c .before .source-of .result < length (now (c .before .before .before .before .before .args .rows))
+source-row c = omega (arith, source-in c, c .before .before .before .before .before .pre .1 .0)
+
+-- the rows that are there
+rows-there : (c : tie.After-priority-of Inv-loop μ-loop) → c .before .source-of .result < length (c .before .before .before .loop .rows)
+rows-there c = omega (arith, source-row c, c .before .before .before .loop .inv .0 .long)
 
 priority-fits : (c : tie.After-priority-of Inv-loop μ-loop) → (1 ≤ c .priority-of .result) × (c .priority-of .result ≤ 16)
 priority-fits c =
@@ -67,7 +74,7 @@ mul-rows-2 : tie.Need-mul-rows-2 Inv-loop μ-loop
 mul-rows-2 c = omega (arith, priority-fits c)
 
 index-1-rows : tie.Need-index-1-rows Inv-loop μ-loop
-index-1-rows c = source-fits c
+index-1-rows c = rows-there c
 
 index-2-rows : tie.Need-index-2-rows Inv-loop μ-loop
 index-2-rows c = omega (arith, priority-fits c)
@@ -91,12 +98,15 @@ loop-again c =
     let u = c .before .before in
     let more = c .before .before .before .before .loop-test .taken in
     let e : l .t ≡ l .t - 1 + 1 = omega (arith, more) in (
-      rows-more (sourceAt (now (x .s)) (x .shape)) (priorityAt (now (x .s)) (x .shape)) (x .shape .transitions) (l .rows) (l .t - 1) (c .before .before .before .source-of .result) (u .priority-of .result - 1)
-          (subst (Rows (sourceAt (now (x .s)) (x .shape)) (priorityAt (now (x .s)) (x .shape)) (x .shape .transitions) (l .rows)) e (l .inv .0))
-          (sym (c .before .before .before .source-of .ensures)) (omega (arith, priority-fits u, u .priority-of .ensures)) (source-fits u) (omega (arith, priority-fits u)) (omega (arith, in-file u, most-transitions (now (x .s)) (x .shape) (c .before .before .before .before .before .before .before .pre .0 .shape))),
-      ends-more (l .rows) (l .ends) (c .before .before .before .source-of .result) (u .priority-of .result - 1) (l .t - 1) (c .higher .result) (l .inv .0 .long) (l .inv .1) (source-fits u) (c .higher .ensures .0)
-          (omega (arith, priority-fits u, c .higher .ensures .1)) (c .higher .ensures .2 16 (l .inv .1 .1 (c .before .before .before .source-of .result) (source-fits u) .0) (priority-fits u .1)),
+      rows-more (sourceAt (now (x .s)) (x .shape)) (priorityAt (now (x .s)) (x .shape)) (x .shape .transitions) (length (now (x .rows))) (l .rows) (l .t - 1) (c .before .before .before .source-of .result) (u .priority-of .result - 1)
+          (subst (Rows (sourceAt (now (x .s)) (x .shape)) (priorityAt (now (x .s)) (x .shape)) (x .shape .transitions) (length (now (x .rows))) (l .rows)) e (l .inv .0))
+          (sym (c .before .before .before .source-of .ensures)) (omega (arith, priority-fits u, u .priority-of .ensures)) (source-row u) (omega (arith, priority-fits u)) (omega (arith, in-file u, most-transitions (now (x .s)) (x .shape) (c .before .before .before .before .before .before .before .pre .0 .shape))),
+      ends-more (l .rows) (l .ends) (c .before .before .before .source-of .result) (u .priority-of .result - 1) (l .t - 1) (c .higher .result) (l .inv .1) (rows-there u) (source-fits u) (c .higher .ensures .0)
+          (omega (arith, priority-fits u, c .higher .ensures .1)) (c .higher .ensures .2 16 (l .inv .1 .1 (c .before .before .before .source-of .result) (rows-there u) (source-fits u) .0) (priority-fits u .1)),
     )
+
+same-length : tie.Need-same-length Inv-loop μ-loop
+same-length c = c .before .loop .inv .0 .long
 
 returns : tie.Need-returns Inv-loop μ-loop
 returns c =
@@ -104,7 +114,9 @@ returns c =
     let x = a .args in
     let l = c .before .loop in
     let e : l .t ≡ 0 = omega (arith, c .loop-test .left) in
-    (rows-are (now (x .s)) (x .shape) (a .pre .0) (l .rows) (subst (Rows (sourceAt (now (x .s)) (x .shape)) (priorityAt (now (x .s)) (x .shape)) (x .shape .transitions) (l .rows)) e (l .inv .0)), l .inv .1 .1)
+    let filled = subst (Rows (sourceAt (now (x .s)) (x .shape)) (priorityAt (now (x .s)) (x .shape)) (x .shape .transitions) (length (now (x .rows))) (l .rows)) e (l .inv .0) in
+    let long = filled .long in
+    (rows-are (now (x .s)) (x .shape) (a .pre .0) (l .rows) (omega (arith, long, a .pre .1 .0)) (subst (λ n. Rows (sourceAt (now (x .s)) (x .shape)) (priorityAt (now (x .s)) (x .shape)) (x .shape .transitions) n (l .rows) 0) (sym long) filled), l .inv .1 .1)
 
 pub fill-rows-spec : {M : Type 1} → statement M
 fill-rows-spec =
@@ -128,4 +140,5 @@ fill-rows-spec =
     element-write-ends
     loop-less
     loop-again
+    same-length
     returns)

@@ -1,22 +1,21 @@
--- `turns::time_turn` meets its contract: what the checks let pass can grow older. Assumes nothing.
-use mathlib.Core.Path.{_≡_, sym, ap, _∙_}
+-- `calls::turn_checked` meets its contract: what the checks let pass is ready. Assumes nothing.
+use mathlib.Core.Path.{_≡_, sym, ap, _∙_, subst}
 use borrow.Author.Needs.{needs}
 use denote.Ref.{now}
 use Rattle.records.specs.Refusal.{impossible-run, misplaced-events, cycles-done, val}
 use Rattle.model.specs.Outcome.{settled}
-use Rattle.model.specs.Runs.{time, checked, give}
+use Rattle.model.specs.Runs.{stepped, checked}
 use Rattle.model.specs.ChartSet.{readCharts}
 use Rattle.model.specs.Charts.{charts}
-use Rattle.chart_files.proofs.Readings.{most-charts, length-initial}
 use Rattle.charts.specs.RunOf.{runOf, beforeOf}
-use Rattle.charts.specs.TurnOf.{answerOf}
-use Rattle.machines.proofs.Turning.{turn-refused, turn-fine, at-time}
+use Rattle.charts.specs.TurnOf.{answerOf, Ready}
+use Rattle.machines.proofs.Turning.{turn-refused, turn-fine}
 use Rattle.charts.proofs.Turning.{ready}
-use Rattle.charts.proofs.turns.time_turn.Statement.{statement}
-use Rattle.charts.proofs.turns.time_turn.Tie as tie
+use Rattle.charts.proofs.calls.turn_checked.Statement.{statement}
+use Rattle.charts.proofs.calls.turn_checked.Tie as tie
 
 before-turn-requires : tie.Need-before-turn-requires
-before-turn-requires c κs = c .before .pre .0 .shape
+before-turn-requires c κs = c .before .pre .shape
 
 enum-told : tie.Need-enum-told
 enum-told c = search needs
@@ -39,17 +38,18 @@ unready-requires-3 c κs = search needs
 enum-told-4 : tie.Need-enum-told-4
 enum-told-4 c = search needs
 
+give-requires : tie.Need-give-requires
+give-requires c κs = search needs
+
 passed : (c : tie.After-enum-told4) →
     let b = c .before .before .before .before in
     checked (charts (readCharts (now (b .args .s)))) (b .args .events) (runOf (b .args .run)) ≡ val tt
 passed c = sym (c .before .before .before-turn .ensures) ∙ ap beforeOf (c .enum-told4 .given .1)
 
-time-passed-requires : tie.Need-time-passed-requires
-time-passed-requires c κs =
-    let b = c .before .before .before .before in
-    let s = now (b .args .s) in
-    let r = ready s (b .args .shape) (b .pre .0 .shape) (b .args .events) (runOf (b .args .run)) (passed c) in
-    (most-charts s (b .args .shape) (b .pre .0 .shape), (r .unfinished, r .timers))
+turn-alone-requires : tie.Need-turn-alone-requires
+turn-alone-requires c κs =
+    let b = c .before .before .before .before .before in
+    (b .pre, subst (Ready (b .args .shape .charts)) (sym (c .give .ensures)) (ready (now (b .args .s)) (b .args .shape) (b .pre .shape) (b .args .events) (runOf (b .args .run)) (passed (c .before))))
 
 returns : tie.Need-returns
 returns c =
@@ -80,16 +80,14 @@ returns-3 c =
 
 returns-4 : tie.Need-returns-4
 returns-4 c =
-    let b = c .before .before .before .before .before in
-    let a = b .args in
-    let s = now (a .s) in
-    let m = charts (readCharts s) in
-    let is = length-initial s (a .shape) (b .pre .0 .shape) in
-    ap (λ q. record { answer = val time; lent = q }) (c .time-passed .ensures (readCharts s) is)
-    ∙ sym (ap (settled (runOf (a .run))) (turn-fine m (a .events) (runOf (a .run)) (passed (c .before)) ∙ at-time m (a .shape .charts) is (give (a .events) (runOf (a .run))) (b .pre .1)))
+    let b = c .before .before .before .before .before .before in
+    let m = charts (readCharts (now (b .args .s))) in
+    c .turn-alone .ensures
+    ∙ ap (λ q. settled (runOf (b .args .run)) (stepped m q)) (c .before .give .ensures)
+    ∙ sym (ap (settled (runOf (b .args .run))) (turn-fine m (b .args .events) (runOf (b .args .run)) (passed (c .before .before))))
 
-pub time-turn-spec : {M : Type 1} → statement M
-time-turn-spec =
+pub turn-checked-spec : {M : Type 1} → statement M
+turn-checked-spec =
     tie.close
     (tie.spec
     before-turn-requires
@@ -100,7 +98,8 @@ time-turn-spec =
     enum-told-3
     unready-requires-3
     enum-told-4
-    time-passed-requires
+    give-requires
+    turn-alone-requires
     returns
     returns-2
     returns-3
