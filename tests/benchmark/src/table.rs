@@ -19,8 +19,8 @@ fn median(mut times: Vec<f64>) -> f64 {
     times[times.len() / 2]
 }
 
-/// Nanoseconds a unit of each side. All sides must give the same; the first round warms up and is not counted.
-fn measure(line: &mut Line, repetitions: usize) -> Vec<f64> {
+/// Nanoseconds a unit of each side, of each repetition. All sides must give the same; the first round warms up and is not counted.
+fn measure(line: &mut Line, repetitions: usize) -> Vec<Vec<f64>> {
     let mut sides: Vec<&mut Side> =
         [&mut line.proved, &mut line.tuned].into_iter().chain(&mut line.kept).collect();
     let mut times = vec![Vec::new(); sides.len()];
@@ -39,7 +39,12 @@ fn measure(line: &mut Line, repetitions: usize) -> Vec<f64> {
             line.work
         );
     }
-    times.into_iter().map(median).collect()
+    times
+}
+
+/// The sides of a repetition run right after each other, so that a machine that slows down between repetitions does not show in it.
+fn ratio_of(times: &[Vec<f64>]) -> f64 {
+    median(times[0].iter().zip(&times[1]).map(|(proved, tuned)| proved / tuned).collect())
 }
 
 pub fn print(lines: &mut [Line], repetitions: usize) {
@@ -50,7 +55,8 @@ pub fn print(lines: &mut [Line], repetitions: usize) {
     );
     for line in &mut *lines {
         let times = measure(line, repetitions);
-        let ratio = times[0] / times[1];
+        let ratio = ratio_of(&times);
+        let times: Vec<f64> = times.into_iter().map(median).collect();
         let mark = if ratio > TARGET { '*' } else { ' ' };
         let kept = times.get(2).map_or(String::new(), |time| format!("{time:.1}"));
         println!(
@@ -61,6 +67,6 @@ pub fn print(lines: &mut [Line], repetitions: usize) {
     }
     println!("{within} of {} lines within {TARGET}; the others are marked *.", lines.len());
     println!("Nanoseconds of processor time a unit, medians of {repetitions} repetitions in turns.");
-    println!("ratio: proved / tuned, which reads the file as often as the proved code does.");
+    println!("ratio: proved / tuned, which reads the file as often as the proved code does; the median of the repetitions' ratios.");
     println!("kept: tuned with the decoded file kept between calls.");
 }
