@@ -1,9 +1,14 @@
 -- The turns of charts, one after the other: as a loop takes them, one alone, and the turns of a cycle. Assumes nothing.
 use mathlib.Core.Path.{_≡_, refl, sym, ap, _∙_, subst}
+use mathlib.Core.Bool.{Bool, true, false}
 use mathlib.Core.List.{List}
 use Prim.Native.Nat.{ℕ, zero, suc, _+_, _-_, _≤_, _<_}
 use native.Mathlib.Omega.{arith}
+use borrow.Author.Tests.{ltb-true, ltb-false}
+use lib.Dec.{ltb}
 use lib.IntN.{ℤ}
+use lib.ListN.{getD}
+use Rattle.records.specs.Lists.{mapFrom}
 use Rattle.records.specs.Refusal.{Refusal, Out, val, fault, _>>=_}
 use Rattle.model.specs.Runs.{Run, Answer, moved, stepped}
 use Rattle.model.specs.ChartSet.{ChartSet, readCharts}
@@ -12,14 +17,16 @@ use Rattle.chart_files.specs.declared.Shape.{Shape}
 use Rattle.chart_files.specs.Shape.{IsShape}
 use Rattle.chart_files.proofs.Readings.{length-initial}
 use Rattle.machines.specs.Worlds.{codedFault}
-use Rattle.machines.proofs.Turning.{val-is, at-part, cycle-more, cycle-stop}
-use Rattle.charts.specs.RunOf.{runIn}
-use Rattle.charts.specs.StepOf.{movedBy, chartTurn, chartTurns}
+use Rattle.machines.specs.declared.deeds.Done.{Done}
+use Rattle.machines.proofs.Codes.{coded-value, coded-fault}
+use Rattle.machines.proofs.Turning.{val-is, at-part, cycle-more, cycle-stop, cycle-end}
+use Rattle.charts.specs.RunOf.{runIn, aged}
+use Rattle.charts.specs.StepOf.{movedBy, chartTurns, ranTo, endedBy}
 use Rattle.charts.specs.TurnOf.{Ready, after}
 use Rattle.charts.proofs.StepLaws.{moved-value, moved-fault}
 use Rattle.charts.proofs.Turning.{ready-next}
 
-abbrev onwards : Answer × Run → Answer × Run
+abbrev pub onwards : Answer × Run → Answer × Run
 onwards y = (y .0, moved (y .1))
 
 -- ---- as a loop takes them
@@ -96,7 +103,7 @@ module _ (cs : ChartSet) (chart : ℕ) (answer₀ : Answer) (r : Run) (code : �
   unfolding chartTurns
   one-step = turned ∙ ap (λ k. chartTurns cs chart k (answer₀, r)) (let z : chart + 1 - chart ≡ 1 = omega arith in z)
 
-  pub alone-turn : movedBy code answer states ages vars (p + 1) c ≡ chartTurn cs chart r
+  pub alone-turn : movedBy code answer states ages vars (p + 1) c ≡ (chartStep cs chart r >>= λ y. val (onwards y))
   alone-turn = ap (λ n. movedBy code answer states ages vars n c) (let z : p + 1 ≡ p + (chart + 1 - chart) = omega arith in z) ∙ one-step
 
   pub alone-fault : 4_294_967_295 < code → fault (codedFault code) ≡ chartStep cs chart r
@@ -169,3 +176,23 @@ module _ (s : List ℕ) (sh : Shape) (is : IsShape s sh) where
     -- the charts' turns are taken, and time's is left
     pub cycle-passed : code ≤ 4_294_967_295 → CycleFrom r (val (answer, runIn states ages vars code p c))
     cycle-passed h = subst (CycleFrom r) (moved-value code answer states ages vars p c h) turned-all
+
+    pub cycle-young : code ≤ 4_294_967_295 → (k : ℕ) → k < sh .charts → getD ages k 0 < 4_294_967_295
+    cycle-young h k l = let passed = cycle-passed h .0 in omega (arith, passed .unfinished, passed .timers k l)
+
+    -- time passes, unless a turn faulted
+    module _ (d : Done) (ages′ : List ℕ) (told : (q : Run) → ranTo d q ≡ endedBy code q) (grown : code ≤ 4_294_967_295 → ages′ ≡ mapFrom 0 (aged (sh .charts)) ages) where
+      pub cycle-closed : ranTo d (runIn states ages′ vars 0 1 (c + 1)) ≡ after (charts (readCharts s)) (sh .charts + 2 - r .world .position) r
+      cycle-closed = told (runIn states ages′ vars 0 1 (c + 1)) ∙ go (ltb 4_294_967_295 code) refl
+        where
+          go : (b : Bool) → ltb 4_294_967_295 code ≡ b → endedBy code (runIn states ages′ vars 0 1 (c + 1)) ≡ after (charts (readCharts s)) (sh .charts + 2 - r .world .position) r
+          go true e =
+              let h : 4_294_967_295 < code = ltb-true 4_294_967_295 code e in
+              ap (λ o. o >>= λ events. val (runIn states ages′ vars 0 1 (c + 1))) (coded-fault code h) ∙ sym (cycle-stopped h)
+          go false e =
+              let h : code ≤ 4_294_967_295 = ltb-false 4_294_967_295 code e in
+              let is = length-initial s sh is in
+              let passed = cycle-passed h in
+              ap (λ o. o >>= λ events. val (runIn states ages′ vars 0 1 (c + 1))) (coded-value code h)
+              ∙ ap (λ t. val (runIn states t vars 0 1 (c + 1))) (grown h ∙ ap (λ n. mapFrom 0 (aged n) ages) (sym is))
+              ∙ sym (passed .2 ∙ cycle-end (charts (readCharts s)) (sh .charts) is (runIn states ages vars code p c) (passed .1))

@@ -53,14 +53,14 @@ answerBy t = cond (eqb t 65535) idle (taken t)
 abbrev pub movedBy : ℕ → Answer → List ℕ → List ℕ → List ℤ → ℕ → ℕ → Out (Answer × Run)
 movedBy code answer states ages vars position cycles = coded code >>= λ events. val (answer, runIn states ages vars events position cycles)
 
--- a chart's turn, and the next position
-abbrev pub chartTurn : ChartSet → ℕ → Run → Out (Answer × Run)
-chartTurn cs chart r = chartStep cs chart r >>= λ y. val (y .0, moved (y .1))
-
 -- The turns of so many charts, from one on: what the last of them answers, or what was answered before, and the run after them.
 unfoldable pub chartTurns : ChartSet → ℕ → ℕ → Answer × Run → Out (Answer × Run)
 chartTurns cs chart zero x = val x
 chartTurns cs chart (suc n) x = chartStep cs chart (x .1) >>= λ y. chartTurns cs (chart + 1) n (y .0, moved (y .1))
+
+-- a cycle, from the events after the charts' turns as one number, and the run that it leaves
+abbrev pub endedBy : ℕ → Run → Out Run
+endedBy code r = coded code >>= λ events. val r
 
 -- a cycle, from the run that it leaves
 abbrev pub ranTo : declared-done.Done → Run → Out Run

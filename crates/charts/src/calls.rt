@@ -1,6 +1,6 @@
 // The calls on any file, which each of them checks.
 ghost use mathlib.Core.Path.{_≡_};
-ghost use Prim.Native.Nat.{ℕ, _+_, _-_, _<_};
+ghost use Prim.Native.Nat.{ℕ, _+_, _-_, _≤_};
 ghost use Rattle.model.specs.Outcome.{settled};
 ghost use Rattle.model.specs.Runs.{stepped, turn as model-turn, cycle as model-cycle};
 ghost use Rattle.model.specs.ChartSet.{readCharts};
@@ -9,9 +9,9 @@ ghost use Rattle.model.specs.Calls.{chartSets, startCall, turnCall, cycleCall};
 ghost use Rattle.charts.specs.Accepted.{Accepted};
 ghost use Rattle.charts.specs.Tables.{EmptyRows};
 ghost use Rattle.charts.specs.RunOf.{runOf, runIn};
-ghost use Rattle.charts.specs.StepOf.{answerBy, movedBy, chartTurn, ranTo};
+ghost use Rattle.charts.specs.StepOf.{answerBy, movedBy, chartTurns};
 ghost use Rattle.charts.specs.TurnOf.{turnOf, calledOf, after, finish, Ready};
-use super::cycles::cycle_in_place;
+use super::cycles::time_after;
 use super::runs::Run;
 use super::runs::before_turn;
 use super::runs::give;
@@ -33,7 +33,6 @@ use chart_files::Checked;
 use chart_files::Shape;
 use chart_files::check;
 use machines::checks::Before;
-use machines::deeds::Done;
 
 // A lent run becomes a fresh one.
 pub fn call_start(s: &[u8], run: Run) -> Called
@@ -51,20 +50,22 @@ pub fn call_start(s: &[u8], run: Run) -> Called
     }
 }
 
-// A chart's turn in place, with the tables made in what is lent, rows that name none.
-fn turn_tabled(
+// The turns of the charts from one up to another, in place, with the tables made in what is lent, rows that name none.
+fn turns_tabled(
     s: &[u8],
     shape: Shape,
     rows: &mut [[u16; 16]],
-    chart: u16,
+    from: u16,
+    to: u16,
     states: &mut [u16; 8],
     ages: &mut [u32; 8],
     vars: &mut [i16; 64],
     events: u32,
     chosen: &mut u16,
 ) -> u64
-    requires { ⌜ Accepted (now s) shape × EmptyRows (shape .states) (now rows) × (chart < shape .charts) ⌝ }
-    ensures { λ r. ⌜ ((p c : ℕ) → movedBy r (answerBy (now (chosen .exit))) (now (states .exit)) (now (ages .exit)) (now (vars .exit)) (p + 1) c ≡ chartTurn (readCharts (now (s .entry))) chart (runIn (now (states .entry)) (now (ages .entry)) (now (vars .entry)) events p c)) ⌝ }
+    requires { ⌜ Accepted (now s) shape × EmptyRows (shape .states) (now rows) × (from ≤ to) × (to ≤ shape .charts) ⌝ }
+    ensures { λ r. ⌜ ((p c : ℕ) → movedBy r (answerBy (now (chosen .exit))) (now (states .exit)) (now (ages .exit)) (now (vars .exit)) (p + (to - from)) c
+        ≡ chartTurns (readCharts (now (s .entry))) from (to - from) (answerBy (now (chosen .entry)), runIn (now (states .entry)) (now (ages .entry)) (now (vars .entry)) events p c)) ⌝ }
 {
     let mut ends = [0u8; 128];
     let mut first = [65535u16; 512];
@@ -78,8 +79,8 @@ fn turn_tabled(
         &ends,
         &first,
         &next,
-        chart,
-        chart + 1,
+        from,
+        to,
         states,
         ages,
         vars,
@@ -89,27 +90,30 @@ fn turn_tabled(
 }
 
 // Few states have few rows, which are sooner cleared.
-fn turn_sized(
+fn turns_sized(
     s: &[u8],
     shape: Shape,
-    chart: u16,
+    from: u16,
+    to: u16,
     states: &mut [u16; 8],
     ages: &mut [u32; 8],
     vars: &mut [i16; 64],
     events: u32,
     chosen: &mut u16,
 ) -> u64
-    requires { ⌜ Accepted (now s) shape × (chart < shape .charts) ⌝ }
-    ensures { λ r. ⌜ ((p c : ℕ) → movedBy r (answerBy (now (chosen .exit))) (now (states .exit)) (now (ages .exit)) (now (vars .exit)) (p + 1) c ≡ chartTurn (readCharts (now (s .entry))) chart (runIn (now (states .entry)) (now (ages .entry)) (now (vars .entry)) events p c)) ⌝ }
+    requires { ⌜ Accepted (now s) shape × (from ≤ to) × (to ≤ shape .charts) ⌝ }
+    ensures { λ r. ⌜ ((p c : ℕ) → movedBy r (answerBy (now (chosen .exit))) (now (states .exit)) (now (ages .exit)) (now (vars .exit)) (p + (to - from)) c
+        ≡ chartTurns (readCharts (now (s .entry))) from (to - from) (answerBy (now (chosen .entry)), runIn (now (states .entry)) (now (ages .entry)) (now (vars .entry)) events p c)) ⌝ }
 {
     let empty = [256u16; 16];
     if shape.states <= 16 {
         let mut rows = [empty; 16];
-        turn_tabled(
+        turns_tabled(
             s,
             shape,
             &mut rows,
-            chart,
+            from,
+            to,
             states,
             ages,
             vars,
@@ -118,11 +122,12 @@ fn turn_sized(
         )
     } else {
         let mut rows = [empty; 128];
-        turn_tabled(
+        turns_tabled(
             s,
             shape,
             &mut rows,
-            chart,
+            from,
+            to,
             states,
             ages,
             vars,
@@ -149,10 +154,11 @@ fn turn_alone(s: &[u8], shape: Shape, lent: Run, run: Run) -> Turned
     let mut variables = run.variables;
     let mut chosen: u16 = 65535;
     let chart = (run.position - 1) as u16;
-    let after = turn_sized(
+    let after = turns_sized(
         s,
         shape,
         chart,
+        chart + 1,
         &mut states,
         &mut ages,
         &mut variables,
@@ -196,86 +202,6 @@ pub fn call_turn(s: &[u8], run: Run, events: u32) -> Turned
     }
 }
 
-// The turns of a cycle in place, with the tables made in what is lent, rows that name none.
-fn cycle_tabled(
-    s: &[u8],
-    shape: Shape,
-    rows: &mut [[u16; 16]],
-    states: &mut [u16; 8],
-    ages: &mut [u32; 8],
-    vars: &mut [i16; 64],
-    events: u32,
-    position: u32,
-    cycles: u32,
-) -> Done
-    requires { ⌜ Accepted (now s) shape × EmptyRows (shape .states) (now rows) × Ready (shape .charts) (runIn (now states) (now ages) (now vars) events position cycles) ⌝ }
-    ensures { λ r. ⌜ ranTo r (runIn (now (states .exit)) (now (ages .exit)) (now (vars .exit)) 0 1 (cycles + 1)) ≡ after (machine (readCharts (now (s .entry)))) (shape .charts + 2 - position) (runIn (now (states .entry)) (now (ages .entry)) (now (vars .entry)) events position cycles) ⌝ }
-{
-    let mut ends = [0u8; 128];
-    let mut first = [65535u16; 512];
-    let mut next = [65535u16; 512];
-    fill_rows(s, shape, rows, &mut ends);
-    fill_actions(s, shape, &mut first, &mut next);
-    cycle_in_place(
-        s,
-        shape,
-        rows,
-        &ends,
-        &first,
-        &next,
-        states,
-        ages,
-        vars,
-        events,
-        position,
-        cycles,
-    )
-}
-
-// The rows are those of a turn.
-fn cycle_sized(
-    s: &[u8],
-    shape: Shape,
-    states: &mut [u16; 8],
-    ages: &mut [u32; 8],
-    vars: &mut [i16; 64],
-    events: u32,
-    position: u32,
-    cycles: u32,
-) -> Done
-    requires { ⌜ Accepted (now s) shape × Ready (shape .charts) (runIn (now states) (now ages) (now vars) events position cycles) ⌝ }
-    ensures { λ r. ⌜ ranTo r (runIn (now (states .exit)) (now (ages .exit)) (now (vars .exit)) 0 1 (cycles + 1)) ≡ after (machine (readCharts (now (s .entry)))) (shape .charts + 2 - position) (runIn (now (states .entry)) (now (ages .entry)) (now (vars .entry)) events position cycles) ⌝ }
-{
-    let empty = [256u16; 16];
-    if shape.states <= 16 {
-        let mut rows = [empty; 16];
-        cycle_tabled(
-            s,
-            shape,
-            &mut rows,
-            states,
-            ages,
-            vars,
-            events,
-            position,
-            cycles,
-        )
-    } else {
-        let mut rows = [empty; 128];
-        cycle_tabled(
-            s,
-            shape,
-            &mut rows,
-            states,
-            ages,
-            vars,
-            events,
-            position,
-            cycles,
-        )
-    }
-}
-
 // The turns from the present position up to time's, with tables made for them alone.
 fn cycle_alone(s: &[u8], shape: Shape, lent: Run, run: Run) -> Called
     requires { ⌜ Accepted (now s) shape × Ready (shape .charts) (runOf run) ⌝ }
@@ -284,16 +210,20 @@ fn cycle_alone(s: &[u8], shape: Shape, lent: Run, run: Run) -> Called
     let mut states = run.states;
     let mut ages = run.ages;
     let mut variables = run.variables;
-    let done = cycle_sized(
+    let mut chosen: u16 = 65535;
+    let from = (run.position - 1) as u16;
+    let after = turns_sized(
         s,
         shape,
+        from,
+        shape.charts,
         &mut states,
         &mut ages,
         &mut variables,
         run.events,
-        run.position,
-        run.cycles,
+        &mut chosen,
     );
+    let done = time_after(shape.charts, &mut ages, after);
     cycle_ended(lent, states, ages, variables, run.cycles, done)
 }
 

@@ -1,13 +1,15 @@
 // The turns of a cycle, in place.
 ghost use mathlib.Core.Path.{_≡_};
-ghost use Prim.Native.Nat.{_+_, _-_};
+ghost use Prim.Native.Nat.{ℕ, _+_, _-_, _≤_, _<_};
+ghost use lib.ListN.{getD};
+ghost use Rattle.records.specs.Lists.{mapFrom};
 ghost use Rattle.records.specs.Refusal.{val};
-ghost use Rattle.model.specs.Runs.{checked, cycle as model-cycle};
+ghost use Rattle.model.specs.Runs.{Run as model-run, checked, cycle as model-cycle};
 ghost use Rattle.model.specs.ChartSet.{readCharts};
 ghost use Rattle.model.specs.Charts.{charts as machine};
 ghost use Rattle.charts.specs.Tables.{HasEnds};
-ghost use Rattle.charts.specs.RunOf.{runIn};
-ghost use Rattle.charts.specs.StepOf.{ranTo};
+ghost use Rattle.charts.specs.RunOf.{runIn, aged};
+ghost use Rattle.charts.specs.StepOf.{ranTo, endedBy};
 ghost use Rattle.charts.specs.TurnOf.{after, finish, Known, Ready};
 use super::runs::older;
 use super::steps::turns_in_place;
@@ -15,6 +17,18 @@ use chart_files::Shape;
 use machines::deeds::Done;
 use machines::deeds::Reason;
 use machines::deeds::reason_by;
+
+// Time passes once the charts' turns are taken, whose events these are, unless one of them faulted.
+pub fn time_after(charts: u16, ages: &mut [u32; 8], events: u64) -> Done
+    requires { ⌜ (charts ≤ 8) × (events ≤ 4_294_967_295 → (k : ℕ) → k < charts → getD (now ages) k 0 < 4_294_967_295) ⌝ }
+    ensures { λ r. ⌜ ((q : model-run) → ranTo r q ≡ endedBy events q) × (events ≤ 4_294_967_295 → now (ages .exit) ≡ mapFrom 0 (aged charts) (now (ages .entry))) ⌝ }
+{
+    if 4294967295 < events {
+        return Done::Fault(reason_by(events));
+    }
+    older(charts, ages);
+    Done::Events(0)
+}
 
 // The turns from a position up to time's. After a fault the places are as the turns before it left them.
 pub fn cycle_in_place(
@@ -51,11 +65,7 @@ pub fn cycle_in_place(
         events,
         &mut chosen,
     );
-    if 4294967295 < after {
-        return Done::Fault(reason_by(after));
-    }
-    older(shape.charts, ages);
-    Done::Events(0)
+    time_after(shape.charts, ages, after)
 }
 
 // A cycle of a run at position 1 that passed the checks: all its turns, or none.

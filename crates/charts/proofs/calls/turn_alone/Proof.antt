@@ -1,6 +1,6 @@
 -- `calls::turn_alone` meets its contract: the turn in place, on a copy. Assumes nothing.
 use mathlib.Core.Path.{sym, ap, _∙_}
-use Prim.Native.Nat.{_≤_}
+use Prim.Native.Nat.{_-_, _≤_}
 use native.Mathlib.Omega.{arith}
 use borrow.Author.Needs.{needs}
 use denote.Ref.{now}
@@ -12,6 +12,8 @@ use Rattle.model.specs.Charts.{charts}
 use Rattle.chart_files.proofs.Readings.{most-charts, length-initial}
 use Rattle.machines.proofs.Turning.{at-part, at-time}
 use Rattle.charts.specs.RunOf.{runOf}
+use Rattle.charts.specs.StepOf.{answerBy}
+use Rattle.charts.proofs.ChartTurns.{alone-turn}
 use Rattle.charts.proofs.calls.turn_alone.Statement.{statement}
 use Rattle.charts.proofs.calls.turn_alone.Tie as tie
 
@@ -42,11 +44,14 @@ sub-chart c = c .before .before .before .before .before .before .before .before 
 cast-chart : tie.Need-cast-chart
 cast-chart c = omega (arith, few (c .before .before .before .before))
 
-turn-sized-requires : tie.Need-turn-sized-requires
-turn-sized-requires c κs =
+add-turns-sized : tie.Need-add-turns-sized
+add-turns-sized c = omega (arith, few (c .before .before .before .before))
+
+turns-sized-requires : tie.Need-turns-sized-requires
+turns-sized-requires c κs =
     let b = c .before .before .before .before .before .before .before .before .before .before .before .before in
     let within = c .before .before .before .before .before .before .before .before .if1 .left in
-    (b .pre .0, omega (arith, within, b .pre .1 .begun))
+    (b .pre .0, omega arith, omega (arith, within, b .pre .1 .begun))
 
 chart-turned-requires : tie.Need-chart-turned-requires
 chart-turned-requires c κs = omega (arith, few (c .before .before .before .before .before .before .before .before .before))
@@ -56,9 +61,10 @@ returns-2 c =
     let b = c .before .before .before .before .before .before .before .before .before .before .before .before .before .before in
     let x = b .args in
     let s = now (x .s) in
+    let f = c .before .turns-sized in
     c .chart-turned .ensures
     ∙ ap (settled (runOf (x .lent)))
-    (c .before .turn-sized .ensures (x .run .position) (x .run .cycles)
+    (alone-turn (readCharts s) (x .run .position - 1) (answerBy 65535) (runOf (x .run)) (f .result) (answerBy (f .last .1 .1 .1 .1 .1 .1 .1 .1 .0)) (f .last .1 .1 .1 .1 .0) (f .last .1 .1 .1 .1 .1 .0) (f .last .1 .1 .1 .1 .1 .1 .0) (x .run .position) (x .run .cycles) (f .ensures (x .run .position) (x .run .cycles))
     ∙ sym (at-part (charts (readCharts s)) (x .shape .charts) (length-initial s (x .shape) (b .pre .0 .shape)) (runOf (x .run)) (c .before .before .before .before .before .before .before .before .before .before .if1 .left)))
 
 pub turn-alone-spec : {M : Type 1} → statement M
@@ -70,6 +76,7 @@ turn-alone-spec =
     returns
     sub-chart
     cast-chart
-    turn-sized-requires
+    add-turns-sized
+    turns-sized-requires
     chart-turned-requires
     returns-2)
