@@ -22,7 +22,7 @@ use Rattle.chart_files.specs.declared.Shape.{Shape}
 use Rattle.chart_files.specs.Places.{transitionAt, actionAt}
 use Rattle.chart_files.proofs.Readings.{transition-is, length-transitions, most-states, most-transitions}
 use Rattle.charts.specs.Accepted.{Accepted}
-use Rattle.charts.specs.Tables.{earliest, named, leaves, placed, keyed, deedsOf}
+use Rattle.charts.specs.Tables.{earliest, named, leaves, slotAt, placed, keyed, deedsOf}
 use Rattle.charts.specs.RunOf.{runIn}
 use Rattle.charts.specs.StepOf.{choiceBy, slotHolds, entered, answerBy, movedBy}
 use Rattle.machines.specs.Worlds.{codedFault}
@@ -43,40 +43,36 @@ slots-one f t rest = go (eqb t 65535)
     go true = refl
     go false = refl
 
--- the place of a priority in a state's row
-abbrev pub slot : ChartSet → ℕ → ℕ → ℕ
-slot cs st q = earliest (leaves cs st q) 0 (length (cs .transitions))
-
 module _ (cs : ChartSet) (st : ℕ) (f : ℕ → Out Bool) where
   -- none of the first j places holds
   abbrev pub Tried : ℕ → Type 0
-  Tried j = (j ≤ 16) × (firstThat f (row cs st) ≡ firstThat f (gather (λ q. named (slot cs st q)) (from (j + 1) (17 - (j + 1)))))
+  Tried j = (j ≤ 16) × (firstThat f (row cs st) ≡ firstThat f (gather (λ q. named (slotAt cs st q)) (from (j + 1) (17 - (j + 1)))))
 
-  module _ (j t : ℕ) (so-far : Tried j) (within : j < 16) (here : t ≡ slot cs st (j + 1)) where
-    tried-one : firstThat f (row cs st) ≡ choose (slotHolds f t) (val (some t)) (firstThat f (gather (λ q. named (slot cs st q)) (from (j + 1 + 1) (17 - (j + 1 + 1)))))
+  module _ (j t : ℕ) (so-far : Tried j) (within : j < 16) (here : t ≡ slotAt cs st (j + 1)) where
+    tried-one : firstThat f (row cs st) ≡ choose (slotHolds f t) (val (some t)) (firstThat f (gather (λ q. named (slotAt cs st q)) (from (j + 1 + 1) (17 - (j + 1 + 1)))))
     unfolding gather
     tried-one =
         so-far .1
-        ∙ ap (λ l. firstThat f (gather (λ q. named (slot cs st q)) l)) (left-more (j + 1) 17 (omega arith))
-        ∙ slots-one f (slot cs st (j + 1)) (gather (λ q. named (slot cs st q)) (from (j + 1 + 1) (17 - (j + 1 + 1))))
-        ∙ ap (λ u. choose (slotHolds f u) (val (some u)) (firstThat f (gather (λ q. named (slot cs st q)) (from (j + 1 + 1) (17 - (j + 1 + 1)))))) (sym here)
+        ∙ ap (λ l. firstThat f (gather (λ q. named (slotAt cs st q)) l)) (left-more (j + 1) 17 (omega arith))
+        ∙ slots-one f (slotAt cs st (j + 1)) (gather (λ q. named (slotAt cs st q)) (from (j + 1 + 1) (17 - (j + 1 + 1))))
+        ∙ ap (λ u. choose (slotHolds f u) (val (some u)) (firstThat f (gather (λ q. named (slotAt cs st q)) (from (j + 1 + 1) (17 - (j + 1 + 1)))))) (sym here)
 
     pub tried-more : val false ≡ slotHolds f t → Tried (j + 1)
     tried-more e =
-        (omega arith, tried-one ∙ ap (λ o. choose o (val (some t)) (firstThat f (gather (λ q. named (slot cs st q)) (from (j + 1 + 1) (17 - (j + 1 + 1)))))) (sym e))
+        (omega arith, tried-one ∙ ap (λ o. choose o (val (some t)) (firstThat f (gather (λ q. named (slotAt cs st q)) (from (j + 1 + 1) (17 - (j + 1 + 1)))))) (sym e))
 
     pub tried-found : val true ≡ slotHolds f t → val (some t) ≡ firstThat f (row cs st)
-    tried-found e = ap (λ o. choose o (val (some t)) (firstThat f (gather (λ q. named (slot cs st q)) (from (j + 1 + 1) (17 - (j + 1 + 1)))))) e ∙ sym tried-one
+    tried-found e = ap (λ o. choose o (val (some t)) (firstThat f (gather (λ q. named (slotAt cs st q)) (from (j + 1 + 1) (17 - (j + 1 + 1)))))) e ∙ sym tried-one
 
     pub tried-fault : (w : Refusal) → fault w ≡ slotHolds f t → fault w ≡ firstThat f (row cs st)
-    tried-fault w e = ap (λ o. choose o (val (some t)) (firstThat f (gather (λ q. named (slot cs st q)) (from (j + 1 + 1) (17 - (j + 1 + 1)))))) e ∙ sym tried-one
+    tried-fault w e = ap (λ o. choose o (val (some t)) (firstThat f (gather (λ q. named (slotAt cs st q)) (from (j + 1 + 1) (17 - (j + 1 + 1)))))) e ∙ sym tried-one
 
   pub tried-all : (j : ℕ) → Tried j → 16 ≤ j → val none ≡ firstThat f (row cs st)
   unfolding gather firstThat
-  tried-all j so-far h = sym (so-far .1 ∙ ap (λ l. firstThat f (gather (λ q. named (slot cs st q)) l)) (left-none (j + 1) 17 (omega arith)))
+  tried-all j so-far h = sym (so-far .1 ∙ ap (λ l. firstThat f (gather (λ q. named (slotAt cs st q)) l)) (left-none (j + 1) 17 (omega arith)))
 
   -- from an end on the places name none
-  pub tried-end : (n j : ℕ) → j + n ≡ 16 → Tried j → ((i : ℕ) → j ≤ i → i < 16 → slot cs st (i + 1) ≡ 65535) → val none ≡ firstThat f (row cs st)
+  pub tried-end : (n j : ℕ) → j + n ≡ 16 → Tried j → ((i : ℕ) → j ≤ i → i < 16 → slotAt cs st (i + 1) ≡ 65535) → val none ≡ firstThat f (row cs st)
   tried-end zero j e t none-named = tried-all j t (omega arith)
   tried-end (suc n) j e t none-named =
       tried-end n (j + 1) (omega arith) (tried-more j 65535 t (omega arith) (sym (none-named j (omega arith) (omega arith))) refl) (λ i a b. none-named i (omega arith) b)
@@ -134,7 +130,7 @@ module _ (s : List ℕ) (sh : Shape) (ok : Accepted s sh) where
   tried-none st f h = (omega arith, ap (firstThat f) (row-of s sh ok st h))
 
   -- what a row names is a transition
-  pub named-one : (st q t : ℕ) → t ≡ slot (readCharts s) st q → (t ≡ 65535 → ⊥) → t < sh .transitions
+  pub named-one : (st q t : ℕ) → t ≡ slotAt (readCharts s) st q → (t ≡ 65535 → ⊥) → t < sh .transitions
   named-one st q t e n =
       let size = length (readCharts s .transitions) in
       let k : size ≡ sh .transitions = length-transitions s sh (ok .shape) in
@@ -144,21 +140,21 @@ module _ (s : List ℕ) (sh : Shape) (ok : Accepted s sh) where
       omega (arith, e′, one-found (leaves (readCharts s) st q) 0 size (omega arith) (λ d. n (e′ ∙ d)) .before-end)
 
   -- a place of a row that is 256 names none, and another the transition itself
-  pub unnamed : (st q : ℕ) → placed (slot (readCharts s) st q) ≡ 256 → slot (readCharts s) st q ≡ 65535
-  unnamed st q e = go (eqb (slot (readCharts s) st q) 65535) refl
+  pub unnamed : (st q : ℕ) → placed (slotAt (readCharts s) st q) ≡ 256 → slotAt (readCharts s) st q ≡ 65535
+  unnamed st q e = go (eqb (slotAt (readCharts s) st q) 65535) refl
     where
-      go : (b : Bool) → eqb (slot (readCharts s) st q) 65535 ≡ b → slot (readCharts s) st q ≡ 65535
-      go true d = eqb-true (slot (readCharts s) st q) 65535 d
+      go : (b : Bool) → eqb (slotAt (readCharts s) st q) 65535 ≡ b → slotAt (readCharts s) st q ≡ 65535
+      go true d = eqb-true (slotAt (readCharts s) st q) 65535 d
       go false d =
-          let l = named-one st q (slot (readCharts s) st q) refl (eqb-false (slot (readCharts s) st q) 65535 d) in
+          let l = named-one st q (slotAt (readCharts s) st q) refl (eqb-false (slotAt (readCharts s) st q) 65535 d) in
           absurd (omega (arith, l, e, most-transitions s sh (ok .shape)))
 
-  pub placed-one : (st q x : ℕ) → x ≡ placed (slot (readCharts s) st q) → (x ≡ 256 → ⊥) → x ≡ slot (readCharts s) st q
-  placed-one st q x e n = go (ltb (slot (readCharts s) st q) 256) refl
+  pub placed-one : (st q x : ℕ) → x ≡ placed (slotAt (readCharts s) st q) → (x ≡ 256 → ⊥) → x ≡ slotAt (readCharts s) st q
+  placed-one st q x e n = go (ltb (slotAt (readCharts s) st q) 256) refl
     where
-      go : (b : Bool) → ltb (slot (readCharts s) st q) 256 ≡ b → x ≡ slot (readCharts s) st q
-      go true d = omega (arith, e, ltb-true (slot (readCharts s) st q) 256 d)
-      go false d = absurd (n (omega (arith, e, ltb-false (slot (readCharts s) st q) 256 d)))
+      go : (b : Bool) → ltb (slotAt (readCharts s) st q) 256 ≡ b → x ≡ slotAt (readCharts s) st q
+      go true d = omega (arith, e, ltb-true (slotAt (readCharts s) st q) 256 d)
+      go false d = absurd (n (omega (arith, e, ltb-false (slotAt (readCharts s) st q) 256 d)))
 
   -- no transition leaves a state that the set does not have
   pub row-outside : (st : ℕ) → sh .states ≤ st → row (readCharts s) st ≡ []

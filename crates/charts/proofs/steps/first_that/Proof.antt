@@ -16,8 +16,9 @@ use Rattle.model.specs.ChartSet.{readCharts}
 use Rattle.model.specs.Charts.{firstThat, transitionHolds}
 use Rattle.chart_files.proofs.Readings.{most-states, most-transitions, length-homes}
 use Rattle.machines.specs.Worlds.{bareWorld}
+use Rattle.charts.specs.Tables.{slotAt}
 use Rattle.charts.specs.StepOf.{ChoiceOf, slotHolds}
-use Rattle.charts.proofs.StepLaws.{choice-some, slot, Tried, tried-none, tried-more, tried-found, tried-fault, tried-end, holds-named, named-one, unnamed, row-outside}
+use Rattle.charts.proofs.StepLaws.{choice-some, Tried, tried-none, tried-more, tried-found, tried-fault, tried-end, holds-named, named-one, unnamed, row-outside}
 use Rattle.charts.proofs.steps.first_that.Statement.{statement}
 use Rattle.charts.proofs.steps.first_that.Tie as tie
 
@@ -69,7 +70,7 @@ in-row c = omega (arith, c .loop-test .taken, small-end (c .before .before .befo
 abbrev t-of : (c : tie.After-slot-of Inv-loop μ-loop) → ℕ
 t-of c = c .slot-of .result
 
-slot-here : (c : tie.After-slot-of Inv-loop μ-loop) → t-of c ≡ slot (readCharts (now (c .before .before .before .before .before .before .before .args .s))) (c .before .before .before .before .before .before .before .args .state) (c .before .before .loop .j + 1)
+slot-here : (c : tie.After-slot-of Inv-loop μ-loop) → t-of c ≡ slotAt (readCharts (now (c .before .before .before .before .before .before .before .args .s))) (c .before .before .before .before .before .before .before .args .state) (c .before .before .loop .j + 1)
 slot-here c = c .slot-of .ensures
 
 slot-of-requires : tie.Need-slot-of-requires Inv-loop μ-loop
