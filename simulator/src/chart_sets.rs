@@ -68,6 +68,22 @@ pub fn smallest() -> Vec<u8> {
     .bytes()
 }
 
+/// One chart of so many states, two at least: from each to the next, from the last to state 1, and from each but the initial one to state 1 by event 0,
+/// which comes first.
+pub fn ring(states: u16) -> Vec<u8> {
+    let later = (1..states).flat_map(|from| {
+        let next = if from + 1 < states { from + 1 } else { 1 };
+        [on_event(transition(1, from, 1), 0), transition(2, from, next)]
+    });
+    SetParts {
+        charts: vec![chart(0)],
+        states: vec![state(0); usize::from(states)],
+        transitions: std::iter::once(transition(1, 0, 1)).chain(later).collect(),
+        ..SetParts::default()
+    }
+    .bytes()
+}
+
 /// State 1 is entered in the first cycle and left for state 2 by event 0; state 2 goes back to 1
 /// after the milliseconds given.
 pub fn one_after(milliseconds: u32) -> Vec<u8> {

@@ -37,7 +37,7 @@ pub record HasRows (cs : ChartSet) (rows : List (List ℕ)) : Type 0 where
   pub enough : length (cs .homes) ≤ length rows
   pub places : (st j : ℕ) → st < length rows → j < 16 → getD (getD rows st []) j 0 ≡ placed (slotAt cs st (j + 1))
 
--- of each row an end: no place from there on names a transition
+-- of each row, as far as there are ends, which are 128, an end: no place from there on names a transition
 abbrev pub HasEnds : List (List ℕ) → List ℕ → Type 0
 HasEnds rows ends = (st : ℕ) → st < length rows → st < 128 → (getD ends st 0 ≤ 16) × ((j : ℕ) → getD ends st 0 ≤ j → j < 16 → getD (getD rows st []) j 0 ≡ 256)
 

@@ -21,7 +21,7 @@ use machines::deeds::reason_by;
 // Time passes once the charts' turns are taken, whose events these are, unless one of them faulted.
 pub fn time_after(charts: u16, ages: &mut [u32; 8], events: u64) -> Done
     requires { ⌜ (charts ≤ 8) × (events ≤ 4_294_967_295 → (k : ℕ) → k < charts → getD (now ages) k 0 < 4_294_967_295) ⌝ }
-    ensures { λ r. ⌜ ((q : model-run) → ranTo r q ≡ endedBy events q) × (events ≤ 4_294_967_295 → now (ages .exit) ≡ mapFrom 0 (aged charts) (now (ages .entry))) ⌝ }
+    ensures { λ r. ⌜ ((q : model-run) → ranTo r q ≡ endedBy events q) × (events ≤ 4_294_967_295 → now (ages .exit) ≡ mapFrom 0 (aged charts) (now (ages .entry))) × (4_294_967_295 < events → now (ages .exit) ≡ now (ages .entry)) ⌝ }
 {
     if 4294967295 < events {
         return Done::Fault(reason_by(events));

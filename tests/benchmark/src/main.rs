@@ -1,8 +1,8 @@
 //! Speed of the proved code beside tuned Rust, on the same input in one run: `cargo run --release`.
 //!
 //! A line of the table is one kind of work on one input. The sides do it in turns, what they give must be the same, and medians
-//! are reported, of the times and of the ratios. `--quick` does less; `--count` does the work once, to be counted by `instructions`. A text after these
-//! picks the lines whose name has it.
+//! are reported, of the times and of the ratios. `--quick` does less; `--count` does the work once, to be counted by
+//! `instructions`. A text after these picks the lines whose name has it.
 
 mod clock;
 mod count;

@@ -1,7 +1,8 @@
 //! Runs of chart sets.
 
-use comparison::calls;
-use simulator::chart_sets::zero_watch;
+use comparison::calls::{self, File};
+use simulator::chart_sets::{ring, zero_watch};
+use simulator::generate::calls::Call;
 use simulator::generate::sets::{valid_set, Size};
 use simulator::{ChartSet, ChartsRun, Random};
 
@@ -33,6 +34,25 @@ fn refused_files() {
 #[test]
 fn many_cycles_at_once() {
     calls::many_cycles_at_once::<ChartSet>(25);
+}
+
+/// Each state of a ring is entered and left, by cycles and by turns, on both sides of 16 states, up to which a call makes 16 rows.
+#[test]
+fn few_and_many_states() {
+    for states in [2, 15, 16, 17, 18, 127, 128] {
+        let file = File::<ChartSet>::of(ring(states));
+        let mut run = ChartsRun::ZERO;
+        for calls in [vec![Call::Cycle(0)], vec![Call::Turn(0), Call::Turn(0)]] {
+            assert_eq!(file.start(&mut run), 0);
+            for entered in 1..states {
+                calls.iter().for_each(|call| assert!(file.call(&mut run, *call) >= 0));
+                assert_eq!(run.states[0], entered);
+            }
+            let last = i32::from(2 * (states - 2) + 1);
+            assert_eq!(file.call(&mut run, Call::Turn(1)), last, "by the event, to state 1");
+            assert_eq!((run.states[0], file.call(&mut run, Call::Turn(0))), (1, 65_535));
+        }
+    }
 }
 
 #[test]

@@ -56,7 +56,8 @@ fn sets_byte_for_byte() {
         let set = valid_set(&mut random, if round % 2 == 0 { Size::Tiny } else { Size::Middling });
         translate(&mut random, &set, &mut met);
     }
-    for (_, set) in chart_sets::all() {
+    let rings = [2, 15, 16, 17, 18, 127, 128].map(chart_sets::ring);
+    for set in chart_sets::all().into_iter().map(|(_, set)| set).chain(rings) {
         translate(&mut random, &set, &mut met);
     }
     println!("sets translated: {:#?}", met.0);

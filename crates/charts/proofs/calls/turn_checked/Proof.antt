@@ -2,15 +2,16 @@
 use mathlib.Core.Path.{_≡_, sym, ap, _∙_, subst}
 use borrow.Author.Needs.{needs}
 use denote.Ref.{now}
-use Rattle.records.specs.Refusal.{impossible-run, misplaced-events, cycles-done, val}
+use Rattle.records.specs.Refusal.{val}
 use Rattle.model.specs.Outcome.{settled}
 use Rattle.model.specs.Runs.{stepped, checked}
 use Rattle.model.specs.ChartSet.{readCharts}
 use Rattle.model.specs.Charts.{charts}
+use Rattle.charts.specs.declared.turns.Refusal.the-variants.{Impossible, Misplaced, Finished}
 use Rattle.charts.specs.RunOf.{runOf, beforeOf}
-use Rattle.charts.specs.TurnOf.{answerOf, Ready}
-use Rattle.machines.proofs.Turning.{turn-refused, turn-fine}
-use Rattle.charts.proofs.Turning.{ready}
+use Rattle.charts.specs.TurnOf.{Ready}
+use Rattle.machines.proofs.Turning.{turn-fine}
+use Rattle.charts.proofs.Turning.{ready, turn-unready}
 use Rattle.charts.proofs.calls.turn_checked.Statement.{statement}
 use Rattle.charts.proofs.calls.turn_checked.Tie as tie
 
@@ -53,30 +54,18 @@ turn-alone-requires c κs =
 
 returns : tie.Need-returns
 returns c =
-    let b = c .before .before .before .before .before in
-    (λ i. record { answer = answerOf (c .unready .ensures .0 i); lent = runOf (c .unready .ensures .1 i) })
-    ∙ sym
-    (ap (settled (runOf (b .args .run)))
-    (turn-refused (charts (readCharts (now (b .args .s)))) (b .args .events) (runOf (b .args .run)) impossible-run
-    (sym (c .before .before .before .before-turn .ensures) ∙ ap beforeOf (c .before .enum-told .given .1))))
+    let a = c .before .before .before .before .before .args in
+    turn-unready (now (a .s)) (a .events) (a .run) Impossible (sym (c .before .before .before .before-turn .ensures) ∙ ap beforeOf (c .before .enum-told .given .1)) (c .unready .result) (c .unready .ensures)
 
 returns-2 : tie.Need-returns-2
 returns-2 c =
-    let b = c .before .before .before .before .before in
-    (λ i. record { answer = answerOf (c .unready2 .ensures .0 i); lent = runOf (c .unready2 .ensures .1 i) })
-    ∙ sym
-    (ap (settled (runOf (b .args .run)))
-    (turn-refused (charts (readCharts (now (b .args .s)))) (b .args .events) (runOf (b .args .run)) misplaced-events
-    (sym (c .before .before .before .before-turn .ensures) ∙ ap beforeOf (c .before .enum-told2 .given .1))))
+    let a = c .before .before .before .before .before .args in
+    turn-unready (now (a .s)) (a .events) (a .run) Misplaced (sym (c .before .before .before .before-turn .ensures) ∙ ap beforeOf (c .before .enum-told2 .given .1)) (c .unready2 .result) (c .unready2 .ensures)
 
 returns-3 : tie.Need-returns-3
 returns-3 c =
-    let b = c .before .before .before .before .before in
-    (λ i. record { answer = answerOf (c .unready3 .ensures .0 i); lent = runOf (c .unready3 .ensures .1 i) })
-    ∙ sym
-    (ap (settled (runOf (b .args .run)))
-    (turn-refused (charts (readCharts (now (b .args .s)))) (b .args .events) (runOf (b .args .run)) cycles-done
-    (sym (c .before .before .before .before-turn .ensures) ∙ ap beforeOf (c .before .enum-told3 .given .1))))
+    let a = c .before .before .before .before .before .args in
+    turn-unready (now (a .s)) (a .events) (a .run) Finished (sym (c .before .before .before .before-turn .ensures) ∙ ap beforeOf (c .before .enum-told3 .given .1)) (c .unready3 .result) (c .unready3 .ensures)
 
 returns-4 : tie.Need-returns-4
 returns-4 c =
