@@ -6,11 +6,12 @@ use lib.Dec.{leb, ltb, eqb}
 use lib.IntN.{ℤ, pos}
 use lib.ListN.{length, getD, drop}
 use Rattle.records.specs.Lists.{all, upto}
+use Rattle.records.specs.RefusalOf.{refusalOf}
 use Rattle.records.specs.Refusal.{Out, val, fault, impossible-run, misplaced-events, cycles-done, _>>_, fault-if}
 use Rattle.expressions.specs.Values.{isZero}
 use Rattle.model.specs.Runs.{Variable, noVariable, within, World}
 use Rattle.machines.specs.declared.checks.Before.{Before}
-use Rattle.machines.specs.declared.checks.Before.the-variants.{Fine, Impossible, Misplaced, Finished}
+use Rattle.machines.specs.declared.checks.Before.the-variants.{Fine, Refused}
 
 -- ---- clauses of 12
 
@@ -50,6 +51,4 @@ checkedBy possible given position cycles =
 
 abbrev pub beforeOf : Before → Out (Unit {0})
 beforeOf Fine = val tt
-beforeOf Impossible = fault impossible-run
-beforeOf Misplaced = fault misplaced-events
-beforeOf Finished = fault cycles-done
+beforeOf (Refused w) = fault (refusalOf w)

@@ -1,4 +1,5 @@
 pub mod Files
+pub mod Answers
 pub mod Worlds
 pub mod Checks
 pub mod Turns

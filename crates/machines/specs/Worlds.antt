@@ -6,14 +6,8 @@ use lib.Dec.{leb, eqb}
 use lib.IntN.{ℤ}
 use Rattle.records.specs.Refusal.{Refusal, out-of-range, zero-divisor, out-of-bounds, Out, val, fault, _>>=_}
 use Rattle.model.specs.Runs.{World}
-use Rattle.machines.specs.declared.deeds.Reason.{Reason}
-use Rattle.machines.specs.declared.deeds.Reason.the-variants.{Range, Divisor, Bounds}
 use Rattle.machines.specs.declared.deeds.Done as declared-done
-
-abbrev pub reasonOf : Reason → Refusal
-reasonOf Range = out-of-range
-reasonOf Divisor = zero-divisor
-reasonOf Bounds = out-of-bounds
+use Rattle.machines.specs.Answers.{reasonOf}
 
 abbrev pub worldIn : List ℤ → ℕ → ℕ → ℕ → World
 worldIn vars events position cycles = record { vars = vars; events = events; position = position; cycles = cycles }

@@ -13,6 +13,7 @@ use super::values::Values;
 use super::values::highest_of;
 use super::values::lowest_of;
 use records::byte_at;
+use records::refusals::Refusal;
 use records::u16_at;
 
 fn position_possible(parts: u16, position: u32) -> bool
@@ -148,22 +149,20 @@ pub fn shared_possible(
 // What is checked before a turn, or a cycle: the run, where events are given, and that a cycle is left to do.
 pub enum Before {
     Fine,
-    Impossible,
-    Misplaced,
-    Finished,
+    Refused(Refusal),
 }
 
 pub fn decide(possible: bool, events: u32, position: u32, cycles: u32) -> Before
     ensures { λ r. ⌜ beforeOf r ≡ checkedBy possible events position cycles ⌝ }
 {
     if !possible {
-        return Before::Impossible;
+        return Before::Refused(Refusal::ImpossibleRun);
     }
     if (position != 1) & (events != 0) {
-        return Before::Misplaced;
+        return Before::Refused(Refusal::MisplacedEvents);
     }
     if (position == 1) & (cycles == 1000000) {
-        return Before::Finished;
+        return Before::Refused(Refusal::CyclesDone);
     }
     Before::Fine
 }

@@ -10,18 +10,13 @@ ghost use Rattle.records.specs.Refusal.{fault};
 ghost use Rattle.expressions.specs.Answers as expressions-answers;
 ghost use Rattle.model.specs.Runs.{within, noVariable, present, raised, assign, deed};
 ghost use Rattle.machines.specs.Files.{variablesIn, nodesIn, HasValues};
-ghost use Rattle.machines.specs.Worlds.{reasonOf, worldIn, worldAfter, codedFault, coded, worldBy};
+ghost use Rattle.machines.specs.Answers.{reasonOf};
+ghost use Rattle.machines.specs.Worlds.{worldIn, worldAfter, codedFault, coded, worldBy};
+use super::answers::Reason;
 use super::values::Values;
 use super::values::bound_within;
 use super::values::number_at;
 use expressions::arithmetic::Number;
-
-// Why a deed is not done: a number out of 32 bits, a zero divisor, a number out of its variable's bounds.
-pub enum Reason {
-    Range,
-    Divisor,
-    Bounds,
-}
 
 // The events afterwards, or why there are none.
 pub enum Done {

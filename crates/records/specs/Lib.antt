@@ -1,5 +1,6 @@
 pub mod Lists
 pub mod Refusal
+pub mod RefusalOf
 pub mod Bytes
 pub mod Framing
 pub mod Frame

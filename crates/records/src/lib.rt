@@ -8,6 +8,8 @@ ghost use Rattle.records.specs.Lists.{upto};
 ghost use Rattle.records.specs.Bytes.{byte, two, four, signed, two±, four±, bytes2, bytes4, unsigned, bytes2±, bytes4±};
 ghost use Rattle.records.specs.Frame.{IsFrame, IsRun, IsTally, exceeds, sumTo};
 
+pub mod refusals;
+
 // The byte at a place, 0 past the end.
 pub fn byte_at(s: &[u8], at: usize) -> u8
     ensures { λ r. ⌜ r ≡ byte (now (s .entry)) at ⌝ }

@@ -1,6 +1,6 @@
 -- `checks::decide` meets its contract: each test decides one check. Assumes nothing.
 use mathlib.Core.Path.{sym}
-use mathlib.Core.Bool.{_&&_}
+use mathlib.Core.Bool.{not, _&&_}
 use lib.Dec.{eqb}
 use Rattle.records.specs.Refusal.{impossible-run, misplaced-events, cycles-done, _>>_, fault-if}
 use borrow.Author.Needs.{needs}
@@ -8,7 +8,7 @@ use Rattle.machines.proofs.checks.decide.Statement.{statement}
 use Rattle.machines.proofs.checks.decide.Tie as tie
 
 returns : tie.Need-returns
-returns c = search needs
+returns c = sym (λ i. fault-if (c .if1 .taken i) impossible-run >> (fault-if (not (eqb (c .before .args .position) 1) && not (eqb (c .before .args .events) 0)) misplaced-events >> fault-if (eqb (c .before .args .position) 1 && eqb (c .before .args .cycles) 1_000_000) cycles-done))
 
 returns-2 : tie.Need-returns-2
 returns-2 c =

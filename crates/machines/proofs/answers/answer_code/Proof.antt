@@ -1,0 +1,74 @@
+-- `answers::answer_code` meets its contract: each answer has its number. Assumes nothing.
+use mathlib.Core.Path.{_≡_, sym, ap, _∙_}
+use mir.Syntax.{w32}
+use mir.Val.{toZ, ofZ}
+use Prim.Native.Nat.{_<_, _^_}
+use mir.Facts.{toZ-pos}
+use Rattle.model.specs.Calls.{numbered, answerCode}
+use Rattle.machines.specs.Answers.{answerOf}
+use borrow.Author.Needs.{needs}
+use Rattle.machines.proofs.answers.answer_code.Statement.{statement}
+use Rattle.machines.proofs.answers.answer_code.Tie as tie
+
+enum-known-answer : tie.Need-enum-known-answer
+enum-known-answer c = search needs
+
+cast-result : tie.Need-cast-result
+cast-result c = search needs
+
+enum-told : tie.Need-enum-told
+enum-told c = search needs
+
+enum-told-2 : tie.Need-enum-told-2
+enum-told-2 c = search needs
+
+enum-known-answer-2 : tie.Need-enum-known-answer-2
+enum-known-answer-2 c = search needs
+
+fault-code-requires : tie.Need-fault-code-requires
+fault-code-requires c κs = search needs
+
+enum-known-answer-3 : tie.Need-enum-known-answer-3
+enum-known-answer-3 c = search needs
+
+refused-code-requires : tie.Need-refused-code-requires
+refused-code-requires c κs = search needs
+
+returns : tie.Need-returns
+returns c =
+    let small : c .before .answer .given .0 .0 < 2 ^ 31 = search needs in
+    toZ-pos w32 small ∙ ap (λ x. numbered answerCode (answerOf x)) (sym (c .before .answer .given .1))
+
+returns-2 : tie.Need-returns-2
+returns-2 c = ap (λ x. numbered answerCode (answerOf x)) (sym (c .enum-told .given .1))
+
+returns-3 : tie.Need-returns-3
+returns-3 c = ap (λ x. numbered answerCode (answerOf x)) (sym (c .enum-told2 .given .1))
+
+returns-4 : tie.Need-returns-4
+returns-4 c =
+    let kept : toZ w32 (ofZ w32 (c .fault-code .result)) ≡ c .fault-code .result = search needs in
+    kept ∙ c .fault-code .ensures ∙ ap (λ x. numbered answerCode (answerOf x)) (sym (c .before .before .answer2 .given .1))
+
+returns-5 : tie.Need-returns-5
+returns-5 c =
+    let kept : toZ w32 (ofZ w32 (c .refused-code .result)) ≡ c .refused-code .result = search needs in
+    kept ∙ c .refused-code .ensures ∙ ap (λ x. numbered answerCode (answerOf x)) (sym (c .before .before .answer3 .given .1))
+
+pub answer-code-spec : {M : Type 1} → statement M
+answer-code-spec =
+    tie.close
+    (tie.spec
+    enum-known-answer
+    cast-result
+    enum-told
+    enum-told-2
+    enum-known-answer-2
+    fault-code-requires
+    enum-known-answer-3
+    refused-code-requires
+    returns
+    returns-2
+    returns-3
+    returns-4
+    returns-5)

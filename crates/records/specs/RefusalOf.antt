@@ -1,0 +1,27 @@
+-- The code's refusals as those of the table. Assumes nothing: these are definitions.
+use Rattle.records.specs.Refusal as R
+use Rattle.records.specs.declared.refusals.Refusal.{Refusal}
+use Rattle.records.specs.declared.refusals.Refusal.the-variants.{OddLength, UnorderedKinds, WrongAmounts, StrayByte, BrokenCode, DanglingNumber, BrokenStructure, BrokenNode, ZeroTicks, ShortBuffer, BadTable, ImpossibleRun, MisplacedEvents, CyclesDone, OutOfRange, ZeroDivisor, OutOfBounds, NoneOpen, ManyOpen, BrokenPath, ShortRows}
+
+abbrev pub refusalOf : Refusal → R.Refusal
+refusalOf OddLength = R.odd-length
+refusalOf UnorderedKinds = R.unordered-kinds
+refusalOf WrongAmounts = R.wrong-amounts
+refusalOf StrayByte = R.stray-byte
+refusalOf BrokenCode = R.broken-code
+refusalOf DanglingNumber = R.dangling-number
+refusalOf BrokenStructure = R.broken-structure
+refusalOf BrokenNode = R.broken-node
+refusalOf ZeroTicks = R.zero-ticks
+refusalOf ShortBuffer = R.short-buffer
+refusalOf BadTable = R.bad-table
+refusalOf ImpossibleRun = R.impossible-run
+refusalOf MisplacedEvents = R.misplaced-events
+refusalOf CyclesDone = R.cycles-done
+refusalOf OutOfRange = R.out-of-range
+refusalOf ZeroDivisor = R.zero-divisor
+refusalOf OutOfBounds = R.out-of-bounds
+refusalOf NoneOpen = R.none-open
+refusalOf ManyOpen = R.many-open
+refusalOf BrokenPath = R.broken-path
+refusalOf ShortRows = R.short-rows

@@ -1,0 +1,57 @@
+// The refusal table: a case for each of its numbers. Whatever is refused or faults anywhere answers one of these, or an enum that one of these stands for.
+ghost use mathlib.Core.Path.{_≡_};
+ghost use Rattle.records.specs.Refusal.{refusalNumber};
+ghost use Rattle.records.specs.RefusalOf.{refusalOf};
+
+pub enum Refusal {
+    OddLength,
+    UnorderedKinds,
+    WrongAmounts,
+    StrayByte,
+    BrokenCode,
+    DanglingNumber,
+    BrokenStructure,
+    BrokenNode,
+    ZeroTicks,
+    ShortBuffer,
+    BadTable,
+    ImpossibleRun,
+    MisplacedEvents,
+    CyclesDone,
+    OutOfRange,
+    ZeroDivisor,
+    OutOfBounds,
+    NoneOpen,
+    ManyOpen,
+    BrokenPath,
+    ShortRows,
+}
+
+// Its number in the table.
+pub fn refusal_number(w: Refusal) -> u8
+    ensures { λ r. ⌜ r ≡ refusalNumber (refusalOf w) ⌝ }
+{
+    match w {
+        Refusal::OddLength => 1,
+        Refusal::UnorderedKinds => 2,
+        Refusal::WrongAmounts => 3,
+        Refusal::StrayByte => 4,
+        Refusal::BrokenCode => 5,
+        Refusal::DanglingNumber => 6,
+        Refusal::BrokenStructure => 7,
+        Refusal::BrokenNode => 8,
+        Refusal::ZeroTicks => 9,
+        Refusal::ShortBuffer => 10,
+        Refusal::BadTable => 11,
+        Refusal::ImpossibleRun => 12,
+        Refusal::MisplacedEvents => 13,
+        Refusal::CyclesDone => 14,
+        Refusal::OutOfRange => 15,
+        Refusal::ZeroDivisor => 16,
+        Refusal::OutOfBounds => 17,
+        Refusal::NoneOpen => 18,
+        Refusal::ManyOpen => 19,
+        Refusal::BrokenPath => 20,
+        Refusal::ShortRows => 21,
+    }
+}
