@@ -11,9 +11,10 @@ use Rattle.records.specs.Bytes.{records}
 use Rattle.records.specs.Framing.{framing, framingTests}
 use Rattle.model.specs.ChartSet.{readCharts}
 use Rattle.model.specs.ChartFile.{chartLimits, chartsRefusal, unused, unusedAreZero, inCode, allNamed, structured, nodesFit, ticking}
-use Rattle.chart_files.specs.Shape.{IsShape, refusalFor, IsChecked}
+use Rattle.chart_files.specs.Shape.{IsShape, IsChecked}
+use Rattle.records.specs.RefusalOf.{refusalOf}
 use Rattle.chart_files.specs.declared.Shape.{Shape}
-use Rattle.chart_files.specs.declared.Refusal as declared-refusal
+use Rattle.records.specs.declared.refusals.Refusal as declared-refusal
 use Rattle.chart_files.specs.declared.Checked.the-variants.{Accepted, Refused}
 
 -- of two lists of tests the first decides where it refuses
@@ -71,7 +72,7 @@ module _ (s : List ℕ) where
 
 -- ---- the answers
 
-pub refused : (s : List ℕ) (w : declared-refusal.Refusal) → chartsRefusal s ≡ some (refusalFor w) → IsChecked s (Refused w)
+pub refused : (s : List ℕ) (w : declared-refusal.Refusal) → chartsRefusal s ≡ some (refusalOf w) → IsChecked s (Refused w)
 refused s w e = record { answer = sym e; shape = λ sh q. let z : _≡_ {A = ℕ} 0 1 = cc in absurd (omega arith) }
 
 pub accepted : (s : List ℕ) (sh : Shape) → IsShape s sh → chartsRefusal s ≡ none → IsChecked s (Accepted sh)

@@ -3,12 +3,11 @@ use mathlib.Core.Path.{_≡_}
 use mathlib.Core.Option.{Option, some, none}
 use mathlib.Core.List.{List}
 use Prim.Native.Nat.{ℕ}
-use Rattle.records.specs.Refusal as R
+use Rattle.records.specs.Refusal.{Refusal}
+use Rattle.records.specs.RefusalOf as Table
 use Rattle.records.specs.Framing.{howMany, framing}
 use Rattle.model.specs.ChartFile.{chartLimits, chartsRefusal}
 use Rattle.chart_files.specs.declared.Shape.{Shape}
-use Rattle.chart_files.specs.declared.Refusal.{Refusal}
-use Rattle.chart_files.specs.declared.Refusal.the-variants.{OddLength, UnorderedKinds, WrongAmounts, StrayByte, BrokenCode, DanglingNumber, BrokenStructure, BrokenNode, ZeroTicks}
 use Rattle.chart_files.specs.declared.Checked.{Checked}
 use Rattle.chart_files.specs.declared.Checked.the-variants.{Accepted, Refused}
 
@@ -22,20 +21,9 @@ pub record IsShape (s : List ℕ) (sh : Shape) : Type 0 where
   pub nodes : sh .nodes ≡ howMany 5 s
   pub actions : sh .actions ≡ howMany 6 s
 
-abbrev pub refusalFor : Refusal → R.Refusal
-refusalFor OddLength = R.odd-length
-refusalFor UnorderedKinds = R.unordered-kinds
-refusalFor WrongAmounts = R.wrong-amounts
-refusalFor StrayByte = R.stray-byte
-refusalFor BrokenCode = R.broken-code
-refusalFor DanglingNumber = R.dangling-number
-refusalFor BrokenStructure = R.broken-structure
-refusalFor BrokenNode = R.broken-node
-refusalFor ZeroTicks = R.zero-ticks
-
-abbrev pub refusalOf : Checked → Option R.Refusal
+abbrev pub refusalOf : Checked → Option Refusal
 refusalOf (Accepted sh) = none
-refusalOf (Refused w) = some (refusalFor w)
+refusalOf (Refused w) = some (Table.refusalOf w)
 
 -- Refused as framing refuses, and what is accepted has the shape that is answered.
 pub record IsShaped (s : List ℕ) (r : Checked) : Type 0 where

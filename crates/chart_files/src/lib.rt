@@ -19,6 +19,7 @@ use fields::node_records;
 use names::all_named;
 use records::Framing;
 use records::frame_of;
+use records::refusals::Refusal;
 use structure::structured;
 use timing::all_ticking;
 use unused::record_clean;
@@ -32,19 +33,6 @@ pub struct Shape {
     pub variables: u16,
     pub nodes: u16,
     pub actions: u16,
-}
-
-// The refusals of a chart file, 1 to 9.
-pub enum Refusal {
-    OddLength,
-    UnorderedKinds,
-    WrongAmounts,
-    StrayByte,
-    BrokenCode,
-    DanglingNumber,
-    BrokenStructure,
-    BrokenNode,
-    ZeroTicks,
 }
 
 // A file that passes is known by its shape.

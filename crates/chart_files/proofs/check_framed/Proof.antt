@@ -11,7 +11,7 @@ use Rattle.expressions.specs.Sorts.{verdictOf}
 use Rattle.expressions.specs.Uses.{addUses, allOperands}
 use Rattle.model.specs.ChartSet.{readCharts}
 use Rattle.model.specs.ChartFile.{unused, unusedAreZero, inCode, allNamed, structured, nodesFit, ticking}
-use Rattle.chart_files.specs.declared.Refusal.the-variants.{StrayByte, BrokenCode, DanglingNumber, BrokenStructure, BrokenNode, ZeroTicks}
+use Rattle.records.specs.declared.refusals.Refusal.the-variants.{StrayByte, BrokenCode, DanglingNumber, BrokenStructure, BrokenNode, ZeroTicks}
 use Rattle.chart_files.proofs.CheckLaws.{refusal-is, refused, accepted}
 use borrow.Author.Needs.{needs}
 use Rattle.chart_files.proofs.check_framed.Statement.{statement}

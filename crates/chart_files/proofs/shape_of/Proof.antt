@@ -11,15 +11,16 @@ use Rattle.records.specs.declared.Frame.{Frame}
 use Rattle.records.specs.declared.Framing.the-variants.{Framed}
 use Rattle.records.proofs.Framed.{framed-most, frame-framed, frame-count}
 use Rattle.model.specs.ChartFile.{chartLimits}
-use Rattle.chart_files.specs.Shape.{IsShape, IsShaped, refusalFor}
+use Rattle.chart_files.specs.Shape.{IsShape, IsShaped}
+use Rattle.records.specs.RefusalOf.{refusalOf}
 use Rattle.chart_files.specs.declared.Shape.{Shape}
-use Rattle.chart_files.specs.declared.Refusal.{Refusal}
+use Rattle.records.specs.declared.refusals.Refusal.{Refusal}
 use Rattle.chart_files.specs.declared.Checked.the-variants.{Accepted, Refused}
 use Rattle.chart_files.proofs.shape_of.Statement.{statement}
 use Rattle.chart_files.proofs.shape_of.Tie as tie
 
 module _ (s : List ℕ) (r : Frame) (is : IsFrame 1 chartLimits s r) where
-  refused : (w : Refusal) → framingOf (r .answer) ≡ some (refusalFor w) → IsShaped s (Refused w)
+  refused : (w : Refusal) → framingOf (r .answer) ≡ some (refusalOf w) → IsShaped s (Refused w)
   refused w e = record { answer = sym e ∙ is .answer; shape = λ sh q. let z : _≡_ {A = ℕ} 0 1 = cc in absurd (omega arith) }
 
   module _ (answer : r .answer ≡ Framed) where
