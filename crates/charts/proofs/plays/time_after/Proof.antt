@@ -1,10 +1,10 @@
--- `cycles::time_after` meets its contract. Assumes nothing.
+-- `plays::time_after` meets its contract. Assumes nothing.
 use mathlib.Core.Path.{refl, sym, ap, _∙_}
 use native.Mathlib.Omega.{arith}
 use Rattle.records.specs.Refusal.{val, fault, _>>=_}
 use Rattle.machines.proofs.Codes.{coded-value, coded-fault}
-use Rattle.charts.proofs.cycles.time_after.Statement.{statement}
-use Rattle.charts.proofs.cycles.time_after.Tie as tie
+use Rattle.charts.proofs.plays.time_after.Statement.{statement}
+use Rattle.charts.proofs.plays.time_after.Tie as tie
 
 reason-by-requires : tie.Need-reason-by-requires
 reason-by-requires c κs = tt
