@@ -23,8 +23,8 @@ pub struct Called {
     pub run: Run,
 }
 
-// A fresh run.
-pub fn fresh(s: &[u8], shape: Shape) -> Called
+// A fresh run, whatever the one was that is lent.
+pub fn fresh(s: &[u8], shape: Shape, lent: Run) -> Called
     requires { ⌜ Accepted (now s) shape ⌝ }
     ensures { λ r. ⌜ calledOf r ≡ record { answer = val tt; lent = started (machine (readCharts (now (s .entry)))) } ⌝ }
 {

@@ -22,10 +22,9 @@ use machines::answers::Ending;
 // The lent run becomes a fresh one.
 pub fn start(s: &[u8], shape: Shape, run: &mut Run) -> Ending
     requires { ⌜ Accepted (now s) shape ⌝ }
-    ensures { λ r. ⌜ (endingOf r ≡ settled (runOf (now (run .entry))) (val (tt, started (machine (readCharts (now (s .entry)))))) .answer)
-        × (runOf (now (run .exit)) ≡ settled (runOf (now (run .entry))) (val (tt, started (machine (readCharts (now (s .entry)))))) .lent) ⌝ }
+    ensures { λ r. ⌜ (endingOf r ≡ val tt) × (runOf (now (run .exit)) ≡ started (machine (readCharts (now (s .entry))))) ⌝ }
 {
-    let called = fresh(s, shape);
+    let called = fresh(s, shape, *run);
     *run = called.run;
     called.answer
 }

@@ -35,8 +35,8 @@ returns c =
 returns-2 : tie.Need-returns-2
 returns-2 c =
     let b = c .before .before .before .before .before .before .before .before .before .before in
-    let f = c .before .before .before .cycle-in-place in
-    (ap finish (ap (λ d. ranTo d (runIn (f .last .1 .1 .1 .1 .1 .1 .0) (f .last .1 .1 .1 .1 .1 .1 .1 .0) (f .last .1 .1 .1 .1 .1 .1 .1 .1 .0) 0 1 (b .args .cycles + 1))) (sym (c .before .after .given .1)) ∙ f .ensures) ∙ sym (cycle-given (charts (readCharts (now (b .args .s)))) (b .args .shape .charts) (length-initial (now (b .args .s)) (b .args .shape) (b .pre .0 .accepted .shape)) (b .args .events) (runIn (now (b .args .states)) (now (b .args .ages)) (now (b .args .vars)) 0 1 (b .args .cycles)) (runIn (now (b .args .states)) (now (b .args .ages)) (now (b .args .vars)) (b .args .events) 1 (b .args .cycles)) (b .pre .1) refl), λ w e. let z : _≡_ {A = ℕ} 0 1 = cc in absurd (omega arith))
+    let f = c .before .before .cycle-in-place in
+    (ap finish (ap (λ d. ranTo d (runIn (f .last .1 .1 .1 .1 .1 .1 .0) (f .last .1 .1 .1 .1 .1 .1 .1 .0) (f .last .1 .1 .1 .1 .1 .1 .1 .1 .0) 0 1 (b .args .cycles + 1))) (sym (c .enum-told .given .1)) ∙ f .ensures) ∙ sym (cycle-given (charts (readCharts (now (b .args .s)))) (b .args .shape .charts) (length-initial (now (b .args .s)) (b .args .shape) (b .pre .0 .accepted .shape)) (b .args .events) (runIn (now (b .args .states)) (now (b .args .ages)) (now (b .args .vars)) 0 1 (b .args .cycles)) (runIn (now (b .args .states)) (now (b .args .ages)) (now (b .args .vars)) (b .args .events) 1 (b .args .cycles)) (b .pre .1) refl), λ w e. let z : _≡_ {A = ℕ} 0 1 = cc in absurd (omega arith))
 
 pub cycle-again-spec : {M : Type 1} → statement M
 cycle-again-spec =
