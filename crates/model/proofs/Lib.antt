@@ -21,6 +21,7 @@ pub mod TwinCounts
 pub mod TwinNames
 pub mod Accepted
 pub mod Steady
+pub mod CyclesByTurns
 pub mod WrittenRecords
 pub mod Written
 pub mod WrittenFraming

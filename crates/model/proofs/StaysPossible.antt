@@ -9,15 +9,21 @@ use lib.ListN.{length, getD}
 use Rattle.records.specs.Lists.{any}
 use Rattle.records.specs.Refusal.{Out, val, fault, _>>=_}
 use Rattle.model.specs.Owned.{of}
-use Rattle.model.specs.Runs.{Run, Answer, time, Machine, parts, possible, checked, give, moved, timePassed, stepped, unless-stopped, onto, turns, ended, cycle}
+use Rattle.model.specs.Runs.{Run, Answer, taken, idle, time, Machine, parts, possible, checked, give, moved, timePassed, stepped, unless-stopped, onto, turns, ended, cycle}
 use Rattle.model.proofs.BoolLaws.{of-true, to-right, not-false, eq→eqb}
 use Rattle.model.proofs.PossibleRuns.{Fits, Resting, possible-of, possible-fits, possible-rests, checked-is, gate-count}
+
+-- time's answer is no part's
+abbrev pub NotTime : Answer → Type 0
+NotTime (taken t) = Unit
+NotTime idle = Unit
+NotTime time = ⊥
 
 -- ---- any machine
 
 module _ (m : Machine) where
   -- a run with the same places and count
-  same-fits : (r r₁ : Run) → r₁ .at ≡ r .at → r₁ .timers ≡ r .timers → r₁ .world .vars ≡ r .world .vars → r₁ .world .cycles ≡ r .world .cycles → Fits m r → Fits m r₁
+  pub same-fits : (r r₁ : Run) → r₁ .at ≡ r .at → r₁ .timers ≡ r .timers → r₁ .world .vars ≡ r .world .vars → r₁ .world .cycles ≡ r .world .cycles → Fits m r → Fits m r₁
   same-fits r r₁ at timers vars cycles f = record {
     room = subst (λ l. length l ≡ 8) (sym at) (f .room);
     home = subst (λ l. (c : ℕ) → c < parts m → (getD l c 0 < length (m .homes)) × (getD (m .homes) (getD l c 0) 0 ≡ c)) (sym at) (f .home);
@@ -28,10 +34,13 @@ module _ (m : Machine) where
     timer-rest = subst (λ l. (k : ℕ) → m .timers-used ≤ k → getD l k 0 ≡ 0) (sym timers) (f .timer-rest);
   }
 
+  -- what a part's turn that comes to x keeps, and how it answers
+  abbrev pub Keeps : Run → Answer × Run → Type 0
+  Keeps r x = Fits m (x .1) × (x .1 .world .cycles ≡ r .world .cycles) × (x .1 .world .position ≡ r .world .position) × NotTime (x .0)
+
   -- what a part's turn and time keep
   pub record Steady : Type 0 where
-    pub step-fits : (c : ℕ) (r : Run) (x : Answer × Run) → c < parts m → Fits m r → m .step c r ≡ val x →
-        Fits m (x .1) × (x .1 .world .cycles ≡ r .world .cycles) × (x .1 .world .position ≡ r .world .position)
+    pub step-fits : (c : ℕ) (r : Run) (x : Answer × Run) → c < parts m → Fits m r → m .step c r ≡ val x → Keeps r x
     pub time-fits : (r : Run) → Fits m r → Fits m (timePassed m r)
 
   -- the run at the end of a cycle that r is in
@@ -59,7 +68,7 @@ module _ (m : Machine) where
             ended r (onto r (o >>= λ x. val (x .0, moved (x .1))) (turns m k)) ≡ val r₁ → Through r r₁
         part ih l (fault w) q e = let z : _≡_ {A = ℕ} 0 1 = cc in absurd (omega arith)
         part ih l (val x) q e =
-            let s : Fits m (x .1) × (x .1 .world .cycles ≡ r .world .cycles) × (x .1 .world .position ≡ r .world .position) = ok .step-fits (r .world .position - 1) r x (omega arith) f q in
+            let s : Keeps r x = ok .step-fits (r .world .position - 1) r x (omega arith) f q in
             let p : x .1 .world .position ≡ r .world .position = s .2 in
             let d : Through (x .1) r₁ = ih (moved (x .1)) (same-fits (x .1) (moved (x .1)) refl refl refl refl (s .0)) (omega arith) (omega arith) (omega arith) e in
             (d .0, d .1, d .2 ∙ ap (λ n. n + 1) (s .1), d .3)

@@ -38,7 +38,7 @@ use Rattle.model.proofs.TwinTurns.{still}
 use Rattle.model.proofs.AcceptedSet.{lowest-none, or-off, three-of, seven-of}
 use Rattle.model.proofs.Accepted.{sound}
 use Rattle.model.proofs.PossibleRuns.{Fits}
-use Rattle.model.proofs.StaysPossible.{Steady, cycle-possible}
+use Rattle.model.proofs.StaysPossible.{Keeps, Steady, cycle-possible}
 
 -- ---- a part enters a place of its own, some timers go to 0
 
@@ -88,10 +88,6 @@ module _ (m : Machine) (r : Run) (f : Fits m r) (grow : ℕ → ℕ → ℕ) (ro
           let j : length (r .timers) ≡ m .timers-room = f .timer-room in
           getD-mapFrom (λ k x. cond (ltb k (m .timers-used)) (grow k x) x) (r .timers) 0 k (omega arith) ∙ rw (zero-add k, is-true {b = ltb k (m .timers-used)} (lt→ltb k (m .timers-used) h))
 
--- what a turn that comes to x keeps
-abbrev Keeps : Machine → Run → Answer × Run → Type 0
-Keeps m r x = Fits m (x .1) × (x .1 .world .cycles ≡ r .world .cycles) × (x .1 .world .position ≡ r .world .position)
-
 -- ---- charts
 
 module _ (cs : ChartSet) (ok : Sound cs) where
@@ -114,14 +110,15 @@ module _ (cs : ChartSet) (ok : Sound cs) where
                 (λ d d-in n l. le→leb n (r .world .cycles) (le-trans l (leb→le (getD (r .timers) d 0) (r .world .cycles) (f .timer-low d d-in)))),
             k .0,
             k .1,
+            tt,
           )
 
       go : (o : Out (Option ℕ)) → firstThat (transitionHolds cs (r .world) (getD (r .timers) c 0)) (row cs (getD (r .at) c 0)) ≡ o → (o >>= follow cs c r) ≡ val x → Keeps (charts cs) r x
       go (fault w) q e = let z : _≡_ {A = ℕ} 0 1 = cc in absurd (omega arith)
-      go (val none) q e = let z : (idle, r) ≡ x = cc in subst (Keeps (charts cs) r) z (f, refl, refl)
+      go (val none) q e = let z : (idle, r) ≡ x = cc in subst (Keeps (charts cs) r) z (f, refl, refl, tt)
       go (val (some t)) q e = took t (first-mem (transitionHolds cs (r .world) (getD (r .timers) c 0)) (row cs (getD (r .at) c 0)) t q) (acted cs t (r .world)) refl e
 
-  steady-charts : Steady (charts cs)
+  pub steady-charts : Steady (charts cs)
   steady-charts = record {
     step-fits = chart-keeps;
     time-fits = λ r f. grown-timers-fit (charts cs) r f (λ c age. age + 1) (ok .charts-fit) refl
@@ -152,7 +149,7 @@ open-mem f (x ∷ es) os e q m = go (f x) (opens f es) refl q (λ rest i. open-m
         by false d t = mem-cons e x es (ih rest i t)
 
 -- what an accepted table has
-record SoundTable (au : Automata) : Type 0 where
+pub record SoundTable (au : Automata) : Type 0 where
   automata-fit : length (au .initial) ≤ 8
   clocks-fit : length (au .clocks) ≤ 256
   ticking : (k : ℕ) → k < length (au .clocks) → 0 < clockAt au k .ticks
@@ -179,6 +176,7 @@ module _ (au : Automata) (ok : SoundTable au) where
                 (λ d d-in n l. le→leb n (top (clockAt au d .timing) (clockAt au d .ticks)) (le-trans l (leb→le (getD (r .timers) d 0) (top (clockAt au d .timing) (clockAt au d .ticks)) (f .timer-low d d-in)))),
             k .0,
             k .1,
+            tt,
           )
 
       one : (es : List ℕ) → openEdges au a r ≡ val es →
@@ -199,7 +197,7 @@ module _ (au : Automata) (ok : SoundTable au) where
       go (fault w) i q = let z : _≡_ {A = ℕ} 0 1 = cc in absurd (omega arith)
       go (val es) i q = one es i q
 
-  steady-automata : Steady (automata au)
+  pub steady-automata : Steady (automata au)
   steady-automata = record {
     step-fits = edge-keeps;
     time-fits = λ r f. grown-timers-fit (automata au) r f (λ k x. grown (clockAt au k .timing) (clockAt au k .ticks) x) (ok .clocks-fit) refl
@@ -222,7 +220,7 @@ module _ (s : List ℕ) (ok : automataRefusal s ≡ none) where
   limit m h = any-off (λ over. over) (mapFrom 33 (λ k m. ltb m (howMany k s)) automataLimits) false m
       (or-off (eqb (howMany 33 s) 0) (any (λ over. over) (mapFrom 33 (λ k m. ltb m (howMany k s)) automataLimits)) (off 2 (omega arith)) .1) h
 
-  sound-table : SoundTable au
+  pub sound-table : SoundTable au
   unfolding mapFrom
   sound-table = record {
     automata-fit = rw (length-map (ofKind 33 s) (λ r. two r 2), length-ofKind 33 s) (nltb→le 8 (howMany 33 s) (limit 0 (omega arith)));
