@@ -4,11 +4,11 @@ use mathlib.Core.List.{List}
 use Prim.Native.Nat.{ℕ}
 use mathlib.Core.Option.{Option, some, none}
 use Rattle.records.specs.Refusal.{Refusal, Out, val, fault, _>>=_, _>>_, unless-refused}
-use Rattle.model.specs.Outcome.{Outcome, settled}
-use Rattle.model.specs.Runs.{Run, Answer, Machine, checked, stepped, turn, cycle, give, Call, one-turn, whole-cycle, Trace, done, stopped, turned, onto, unless-stopped, turns, trace, ended}
+use Rattle.model.specs.Outcome.{settled}
+use Rattle.model.specs.Runs.{Run, Answer, Machine, checked, stepped, turn, give, Call, one-turn, whole-cycle, Trace, done, stopped, turned, onto, unless-stopped, turns, trace, ended}
 use Rattle.model.specs.ChartSet.{ChartSet, readCharts}
 use Rattle.model.specs.AutomataTable.{Automata, readAutomata}
-use Rattle.model.specs.Calls.{Format, chartSets, automataTables, turnCall, cycleCall, callTrace}
+use Rattle.model.specs.Calls.{Format, chartSets, automataTables, cycleCall, callTrace}
 use Rattle.model.specs.Correspondence.{AnswersMatch, TracesMatch, OutsMatch, CallMatches, lentAfter}
 
 -- the run that a trace leaves to the caller, who lent r
