@@ -46,6 +46,15 @@ module _ (S : Structure) where
   abbrev pub struct-val : S .type .D → Val
   struct-val = LL.val (S .type) (S .laws)
 
+  abbrev pub struct-field-laws : LL.FLaws (field (S .type))
+  struct-field-laws = record {
+    val = LL.tuple-val (S .type) (S .laws);
+    tells = LL.tuple-tells (S .type) (S .laws);
+    low = LL.val (S .type) (S .laws);
+    low-is = LL.tells (S .type) (S .laws);
+    lawful = λ 𝓤 H A W. struct-lawful 𝓤 H A W (shape (S .type)) (LL.lawfuls 𝓤 H A W (S .type .parts) (S .laws));
+  }
+
   -- at exit nothing is bound or said of a parameter of it
   pub bound : (x : S .type .D) → Last (struct-row .exit yes) x
   bound x = subst (λ (e : Exit (S .type .D)). Last e x) (sym (LL.still (S .type) (S .copy) yes)) tt
@@ -63,6 +72,15 @@ module _ (E : Enumeration) where
   abbrev pub enum-val : E .type .D → Val
   enum-val = EL.val (E .type) (E .laws)
 
+  abbrev pub enum-field-laws : LL.FLaws (ED.field (E .type))
+  enum-field-laws = record {
+    val = EL.sum-val (E .type) (E .laws);
+    tells = EL.sum-tells (E .type) (E .laws);
+    low = EL.val (E .type) (E .laws);
+    low-is = EL.tells (E .type) (E .laws);
+    lawful = λ 𝓤 H A W. enum-lawful 𝓤 H A W (ED.shape (E .type)) (E .few) (EL.lawfulss 𝓤 H A W (E .type .parts) (E .laws));
+  }
+
 module _ (E : Enumeration) (R : Structure) (M : Answering E R) where
   abbrev pub called : Declared
   called = record { name = M .name; args = []; parts = ED.field (E .type) ∷ field (R .type) ∷ []; D = M .D; to = λ d. (E .type .to (M .answer d), (R .type .to (M .run d), tt)); to-one = M .to-one }
@@ -71,25 +89,7 @@ module _ (E : Enumeration) (R : Structure) (M : Answering E R) where
   called-mir = struct-layout (shape called)
 
   abbrev pub called-laws : LL.Laws called
-  called-laws = (
-    record {
-      val = EL.sum-val (E .type) (E .laws);
-      tells = EL.sum-tells (E .type) (E .laws);
-      low = EL.val (E .type) (E .laws);
-      low-is = EL.tells (E .type) (E .laws);
-      lawful = λ 𝓤 H A W. enum-lawful 𝓤 H A W (ED.shape (E .type)) (E .few) (EL.lawfulss 𝓤 H A W (E .type .parts) (E .laws));
-    },
-    (
-      record {
-        val = LL.tuple-val (R .type) (R .laws);
-        tells = LL.tuple-tells (R .type) (R .laws);
-        low = LL.val (R .type) (R .laws);
-        low-is = LL.tells (R .type) (R .laws);
-        lawful = λ 𝓤 H A W. struct-lawful 𝓤 H A W (shape (R .type)) (LL.lawfuls 𝓤 H A W (R .type .parts) (R .laws));
-      },
-      tt,
-    ),
-  )
+  called-laws = (enum-field-laws E, (struct-field-laws R, tt))
 
   -- what whoever holds one knows of its two fields
   pub answer-is : (m : M .D) (vs : List Val) → Is (row called) m vs → Is (enum-row E) (M .answer m) (enum-val E (M .answer m) ∷ [])

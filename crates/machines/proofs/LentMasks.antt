@@ -41,19 +41,32 @@ use Rattle.model.specs.Outcome.{Outcome}
 use Rattle.machines.proofs.Whole.{opens-whole, closes-whole}
 use Rattle.machines.proofs.Lent.{Structure, Enumeration, Answering, struct-row, struct-mir, struct-val, enum-row, enum-mir, enum-val, bound, silent, called, called-mir, called-laws, answer-is, run-is}
 
--- the run's type, the shape's, the answer's, and that of what the step returns
+-- the run's type, the shape's and the answer's: the function's contract, of how the run and the answer read, what is asked of file and shape, and what the function does
+module _ (R S : Structure) (E : Enumeration) where
+  abbrev pub lent-ended : Ended
+  lent-ended = record {
+    signature = record { lifetimes = 3; outlives = []; params = shrSliceOf (0 ∷ []) tt (plain (λ _. u8)) ∷ plain (λ _. struct-row S) ∷ mutRefTo (1 ∷ []) tt (plain (λ _. struct-row R)) ∷ shrSliceOf (2 ∷ []) tt (plain (λ _. u32)) ∷ []; result = plain (λ _. enum-row E) };
+    kept = (yes, (yes, (yes, (yes, tt))));
+  }
+
+  module _ {L X : Type 0} (runOf : R .type .D → L) (answerOf : E .type .D → Out X) (Asked : List ℕ → S .type .D → Type 0) (does : List ℕ → List ℕ → L → Outcome X L) where
+    abbrev pub lent-clauses : {U : Type 1} (𝓤 : URA U) → Clauses 𝓤 lent-ended
+    lent-clauses 𝓤 κs a = record {
+      ghost = Unit {0};
+      requires = λ g. fact 𝓤 (Asked (now (a .0)) (a .1 .0));
+      ensures = λ g r e. fact 𝓤 ((answerOf r ≡ does (now (a .0)) (now (a .1 .1 .1 .0)) (runOf (now (a .1 .1 .0))) .answer) × (runOf (now (e .1 .1 .0)) ≡ does (now (a .0)) (now (a .1 .1 .1 .0)) (runOf (now (a .1 .1 .0))) .lent));
+    }
+
+-- and the type of what the step returns
 module _ (R S : Structure) (E : Enumeration) (M : Answering E R) where
-  abbrev pub step-ended : Ended
+  abbrev step-ended : Ended
   step-ended = record {
     signature = record { lifetimes = 2; outlives = []; params = shrSliceOf (0 ∷ []) tt (plain (λ _. u8)) ∷ plain (λ _. struct-row S) ∷ plain (λ _. struct-row R) ∷ shrSliceOf (1 ∷ []) tt (plain (λ _. u32)) ∷ []; result = plain (λ _. row (called E R M)) };
     kept = (yes, (yes, (yes, (yes, tt))));
   }
 
-  abbrev pub ended : Ended
-  ended = record {
-    signature = record { lifetimes = 3; outlives = []; params = shrSliceOf (0 ∷ []) tt (plain (λ _. u8)) ∷ plain (λ _. struct-row S) ∷ mutRefTo (1 ∷ []) tt (plain (λ _. struct-row R)) ∷ shrSliceOf (2 ∷ []) tt (plain (λ _. u32)) ∷ []; result = plain (λ _. enum-row E) };
-    kept = (yes, (yes, (yes, (yes, tt))));
-  }
+  abbrev ended : Ended
+  ended = lent-ended R S E
 
   abbrev stayed : Stays (ended .signature .params) (ended .kept)
   stayed = (stay-dropped (shrSliceOf (0 ∷ []) tt (plain (λ _. u8))) yes, (stay-dropped (plain (λ _. struct-row S)) yes, (stay-ref (1 ∷ []) tt (plain (λ _. struct-row R)), (stay-dropped (shrSliceOf (2 ∷ []) tt (plain (λ _. u32))) yes, tt))))
@@ -78,11 +91,7 @@ module _ (R S : Structure) (E : Enumeration) (M : Answering E R) where
       step-clauses κs a = record { ghost = Unit {0}; requires = λ g. fact 𝓤 (Asked (now (a .0)) (a .1 .0)); ensures = λ g r e. fact 𝓤 (readOf r ≡ does (now (a .0)) (now (a .1 .1 .1 .0)) (runOf (a .1 .1 .0))) }
 
       abbrev clauses : Clauses 𝓤 ended
-      clauses κs a = record {
-        ghost = Unit {0};
-        requires = λ g. fact 𝓤 (Asked (now (a .0)) (a .1 .0));
-        ensures = λ g r e. fact 𝓤 ((answerOf r ≡ does (now (a .0)) (now (a .1 .1 .1 .0)) (runOf (now (a .1 .1 .0))) .answer) × (runOf (now (e .1 .1 .0)) ≡ does (now (a .0)) (now (a .1 .1 .1 .0)) (runOf (now (a .1 .1 .0))) .lent));
-      }
+      clauses = lent-clauses R S E runOf answerOf Asked does 𝓤
 
       abbrev Step : Contract 𝓤
       Step = tripleOf 𝓤 H A (step-ended .signature) (closing 𝓤 H A step-ended step-clauses)
