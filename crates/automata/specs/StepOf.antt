@@ -4,27 +4,19 @@ use mathlib.Core.List.{List, [], _∷_}
 use Prim.Native.Nat.{ℕ, _<_}
 use lib.IntN.{ℤ}
 use lib.ListN.{set}
-use Rattle.records.specs.Refusal.{Refusal, out-of-range, zero-divisor, out-of-bounds, none-open, many-open, Out, val, fault, _>>=_}
+use Rattle.records.specs.Refusal.{many-open, Out, val, fault, _>>=_}
 use Rattle.model.specs.Owned.{of}
 use Rattle.model.specs.Runs.{World, Run, Answer, taken, deeds}
 use Rattle.model.specs.AutomataTable.{Automata, edge}
 use Rattle.model.specs.Automata.{literalHolds, reads, opens, theOne, leaving, reset}
+use Rattle.machines.specs.Answers.{reasonOf}
 use Rattle.automata.specs.declared.edges.Tally.{Tally}
 use Rattle.automata.specs.declared.edges.Tally.the-variants.{Nothing, One, Many}
 use Rattle.automata.specs.declared.edges.Counted as declared-counted
 use Rattle.automata.specs.declared.edges.Choice as declared-choice
-use Rattle.automata.specs.declared.steps.Reason.{Reason}
-use Rattle.automata.specs.declared.steps.Reason.the-variants.{Range, Divisor, Bounds, NoneOpen, ManyOpen}
 use Rattle.automata.specs.declared.steps.Went.{Went}
 use Rattle.automata.specs.declared.steps.Went.the-variants.{Taken, Fault}
 use Rattle.automata.specs.RunOf.{runIn}
-
-abbrev pub reasonOf : Reason → Refusal
-reasonOf Range = out-of-range
-reasonOf Divisor = zero-divisor
-reasonOf Bounds = out-of-bounds
-reasonOf NoneOpen = none-open
-reasonOf ManyOpen = many-open
 
 -- ---- open edges
 
