@@ -13,3 +13,8 @@ pub mod Turning
 pub mod Playing
 pub mod PlayCalls
 pub mod Whole
+pub mod Lent
+pub mod LentAlone
+pub mod LentEvents
+pub mod LentMasks
+pub mod AnswerTypes
