@@ -10,6 +10,6 @@ pub mod AllRead
 pub mod Clocks
 pub mod Kept
 pub mod Turning
-pub mod ByTurns
 pub mod Checking
 pub mod PlayLaws
+pub mod Types

@@ -1,4 +1,5 @@
 -- The answers of edges and of an automaton's turn, as the model's outcomes. Assumes nothing: these are definitions.
+use mathlib.Core.Path.{_≡_}
 use mathlib.Core.Bool.{Bool}
 use mathlib.Core.List.{List, [], _∷_}
 use Prim.Native.Nat.{ℕ, _<_}
@@ -73,6 +74,11 @@ abbrev pub takeEdge : Automata → ℕ → Run → ℕ → Out (Answer × Run)
 takeEdge au automaton r e =
     deeds (au .nodes) (au .variables) (of e (au .updates)) (r .world)
     >>= λ w. val (taken e, entered r automaton (edge au e .target) (reset (of e (au .resets)) (r .timers)) w)
+
+-- A fault leaves locations and clocks as they were. The variables may have values of the updates before it: nothing is said of them.
+abbrev pub FaultKeeps : Went → List ℕ → List ℕ → List ℕ → List ℕ → Type 0
+FaultKeeps (Taken e events) at₀ clocks₀ at clocks = Unit
+FaultKeeps (Fault w) at₀ clocks₀ at clocks = (at ≡ at₀) × (clocks ≡ clocks₀)
 
 -- the turn by what is in the places after it; it leaves position and count as they are
 abbrev pub wentOf : Went → List ℕ → List ℕ → List ℤ → ℕ → ℕ → Out (Answer × Run)

@@ -12,7 +12,7 @@ ghost use Rattle.automata_files.specs.Shape.{IsShape};
 ghost use Rattle.automata_files.specs.Places.{clockAt};
 ghost use Rattle.machines.specs.Checks.{zeros, beforeOf};
 ghost use Rattle.automata.specs.Accepted.{Accepted};
-ghost use Rattle.automata.specs.RunOf.{runIn, runOf, Sized, timingIf, topAt, grownAt, Low, turnFor, capFor, grownTo, HasLimits};
+ghost use Rattle.automata.specs.RunOf.{runIn, runOf, Sized, timingIf, topAt, grownAt, Low, turnFor, capFor, grownTo, turnAt, capAt, HasLimits};
 use super::fields::is_after;
 use super::fields::ticks_of;
 use super::values::values_of;
@@ -198,7 +198,7 @@ fn cap_for(after: bool, ticks: u16) -> u16
 pub fn limits_of(s: &[u8], shape: Shape, turn: &mut [u16; 256], cap: &mut [u16; 256])
     requires { ⌜ Accepted (now s) shape ⌝ }
     requires { ⌜ (length (now turn) ≡ 256) × (length (now cap) ≡ 256) ⌝ }
-    ensures { λ _. ⌜ HasLimits (now (s .entry)) shape (now (turn .exit)) (now (cap .exit)) ⌝ }
+    ensures { λ _. ⌜ (now (turn .exit) ≡ mapFrom 0 (turnAt (now (s .entry)) shape) (now (turn .entry))) × (now (cap .exit) ≡ mapFrom 0 (capAt (now (s .entry)) shape) (now (cap .entry))) ⌝ }
 {
     let mut k: u16 = 0;
     while k < shape.clocks {

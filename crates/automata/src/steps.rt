@@ -12,7 +12,7 @@ ghost use Rattle.machines.specs.Worlds.{worldIn, worldAfter};
 ghost use Rattle.automata.specs.Accepted.{Accepted};
 ghost use Rattle.automata.specs.Index.{owned, NextOf, HasIndex, RoomFor};
 ghost use Rattle.automata.specs.RunOf.{runIn};
-ghost use Rattle.automata.specs.StepOf.{takeEdge, wentOf};
+ghost use Rattle.automata.specs.StepOf.{takeEdge, wentOf, FaultKeeps};
 use super::edges::Choice;
 use super::edges::open_edge;
 use super::fields::byte_of;
@@ -82,6 +82,7 @@ fn take_edge(
     requires { ⌜ Accepted (now s) shape × HasIndex (now s) shape (now first) (now next) × (automaton < 8) × (e < shape .edges) ⌝ }
     ensures { λ r. ⌜ ((p c : ℕ) → wentOf r (now (locations .exit)) (now (clocks .exit)) (now (vars .exit)) p c ≡ takeEdge (readAutomata (now (s .entry))) automaton (runIn (now (locations .entry)) (now (clocks .entry)) (now (vars .entry)) events p c) e) ⌝ }
     ensures { λ _. ⌜ length (now (clocks .exit)) ≡ length (now (clocks .entry)) ⌝ }
+    ensures { λ r. ⌜ FaultKeeps r (now (locations .entry)) (now (clocks .entry)) (now (locations .exit)) (now (clocks .exit)) ⌝ }
 {
     let reset = first_reset(shape);
     let mut raised = events;
@@ -101,7 +102,7 @@ fn take_edge(
     Went::Taken(e, raised)
 }
 
-// In place. After a fault the variables are of no use.
+// In place. After a fault the variables are of no use; locations and clocks are as they were.
 pub fn edge_step(
     s: &[u8],
     shape: Shape,
@@ -118,6 +119,7 @@ pub fn edge_step(
     requires { ⌜ automaton < shape .automata ⌝ }
     ensures { λ r. ⌜ ((p c : ℕ) → wentOf r (now (locations .exit)) (now (clocks .exit)) (now (vars .exit)) p c ≡ edgeStep (readAutomata (now (s .entry))) automaton (runIn (now (locations .entry)) (now (clocks .entry)) (now (vars .entry)) events p c)) ⌝ }
     ensures { λ _. ⌜ length (now (clocks .exit)) ≡ length (now (clocks .entry)) ⌝ }
+    ensures { λ r. ⌜ FaultKeeps r (now (locations .entry)) (now (clocks .entry)) (now (locations .exit)) (now (clocks .exit)) ⌝ }
 {
     let i = automaton as usize;
     let location = locations[i];

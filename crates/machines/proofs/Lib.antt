@@ -10,6 +10,7 @@ pub mod DeedLaws
 pub mod Kept
 pub mod Possible
 pub mod Turning
+pub mod ByTurns
 pub mod Playing
 pub mod PlayCalls
 pub mod Whole

@@ -112,7 +112,7 @@ loop-again c =
       ready-next (now (b .args .s)) (b .args .shape) (b .pre .0 .accepted) (at t) (taken (g .0 .0), q) (l .inv .0) (omega (arith, h)) is .0,
       l .inv .1
           ∙ cycle-more (automata (readAutomata (now (b .args .s)))) (b .args .shape .automata) (length-initial (now (b .args .s)) (b .args .shape) (b .pre .0 .accepted .shape)) (at t) (taken (g .0 .0)) q (omega (arith, h)) refl is,
-      x .ensures .1 ∙ l .inv .2,
+      x .ensures .1 .0 ∙ l .inv .2,
     )
 
 returns-2 : tie.Need-returns-2 Inv-loop μ-loop

@@ -14,7 +14,7 @@ use Rattle.model.proofs.Steady.{steady-automata, sound-table}
 use Rattle.machines.specs.Answers.{reasonOf, answerOf}
 use Rattle.automata.specs.RunOf.{runOf}
 use Rattle.automata.specs.TurnOf.{turnOf}
-use Rattle.automata.proofs.ByTurns.{goes-on, moves-on, ends-at-time, ends-in-fault}
+use Rattle.machines.proofs.ByTurns.{goes-on, moves-on, ends-at-time, ends-in-fault}
 use borrow.Author.Needs.{needs}
 use Rattle.automata.proofs.cycles.turns_called.Statement.{statement}
 use Rattle.automata.proofs.cycles.turns_called.Tie as tie

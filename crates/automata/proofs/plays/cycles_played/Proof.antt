@@ -1,10 +1,10 @@
 -- `plays::cycles_played` meets its contract: the first cycle is checked, and leaves a run from which the rest are played. Assumes nothing.
 use mathlib.Core.Path.{_≡_, sym, ap, _∙_, subst}
-use Prim.Native.Nat.{ℕ, _+_, _-_, _<_}
+use Prim.Native.Nat.{_+_, _-_, _<_}
 use native.Mathlib.Omega.{arith}
 use borrow.Author.Needs.{needs}
 use denote.Ref.{now}
-use lib.ListN.{length, getD, drop, length-drop, length-replicate}
+use lib.ListN.{length, getD, drop, length-drop}
 use lib.Seq.{take-all}
 use Rattle.records.specs.Refusal.{val}
 use Rattle.records.specs.RefusalOf.{refusalOf}
@@ -15,9 +15,10 @@ use Rattle.model.specs.Automata.{automata}
 use Rattle.machines.specs.Answers.{reasonOf}
 use Rattle.machines.specs.Playing.{played, stoppedAt}
 use Rattle.machines.proofs.Playing.{went-none, went-more, went-stop, went-all}
-use Rattle.automata.specs.RunOf.{runIn, runOf, Sized}
+use Rattle.automata.specs.RunOf.{runIn, runOf, Sized, HasLimits}
 use Rattle.automata.specs.TurnOf.{endedOf}
 use Rattle.automata.specs.PlayedOf.{Rested}
+use Rattle.automata.proofs.Clocks.{room-for-limits, has-limits}
 use Rattle.automata.proofs.PlayLaws.{rested-next, rested-few, told-later}
 use Rattle.automata.proofs.plays.cycles_played.Statement.{statement}
 use Rattle.automata.proofs.plays.cycles_played.Tie as tie
@@ -35,16 +36,19 @@ some-mask : (c : tie.Else1) → 0 < length (now (c .before .before .before .befo
 some-mask c = let h = c .if1 .left in omega (arith, h)
 
 limits-of-requires : tie.Need-limits-of-requires
-limits-of-requires c κs = (c .before .before .before .before .before .before .pre .accepted, (length-replicate {A = ℕ} 256 65535, length-replicate {A = ℕ} 256 65535))
+limits-of-requires c κs = (c .before .before .before .before .before .before .pre .accepted, room-for-limits)
 
 shared-slice-read-cycle-checked : tie.Need-shared-slice-read-cycle-checked
 shared-slice-read-cycle-checked c = some-mask (c .before .before .before .before .before .before .before .before .before .before .before .before)
+
+limits : (c : tie.After-limits-of) → let x = c .limits-of in HasLimits (now (c .before .before .before .before .before .before .before .args .s)) (c .before .before .before .before .before .before .before .args .shape) (x .last .1 .1 .0) (x .last .1 .1 .1 .0)
+limits c = let b = c .before .before .before .before .before .before .before in has-limits (now (b .args .s)) (b .args .shape) (b .pre .accepted .shape) _ _ _ _ room-for-limits (c .limits-of .ensures)
 
 sized : (c : tie.Start) → Sized (c .args .run .locations) (c .args .run .clocks) (c .args .run .variables)
 sized c = search needs
 
 cycle-checked-requires : tie.Need-cycle-checked-requires
-cycle-checked-requires c κs = (c .before .before .before .before .before .before .before .before .before .before .before .before .before .before .before .before .pre, (sized (c .before .before .before .before .before .before .before .before .before .before .before .before .before .before .before .before), c .before .before .before .before .before .before .before .before .before .limits-of .ensures))
+cycle-checked-requires c κs = (c .before .before .before .before .before .before .before .before .before .before .before .before .before .before .before .before .pre, (sized (c .before .before .before .before .before .before .before .before .before .before .before .before .before .before .before .before), limits (c .before .before .before .before .before .before .before .before .before)))
 
 -- the run that the first cycle left in the places, and the cycle from its answer
 abbrev left : tie.After-cycle-checked → Run
@@ -86,7 +90,7 @@ part-rest-played-end c = omega arith
 rest-played-requires : tie.Need-rest-played-requires
 rest-played-requires c κs =
     let b = c .before .before .before .before .before .before .before .before .before .before .before .before .before .before .before .before .before .before .before .before .before .before .before .before .before .before .before in
-    (b .pre, (c .before .before .before .before .before .before .before .before .before .before .before .before .before .before .before .before .before .before .before .before .limits-of .ensures, subst (Rested (automata (readAutomata (now (b .args .s))))) (sym (c .before .before .before .run-in .ensures)) (rests (c .before .before .before .before .before .before .before .before))))
+    (b .pre, (limits (c .before .before .before .before .before .before .before .before .before .before .before .before .before .before .before .before .before .before .before .before), subst (Rested (automata (readAutomata (now (b .args .s))))) (sym (c .before .before .before .run-in .ensures)) (rests (c .before .before .before .before .before .before .before .before))))
 
 add-t35 : tie.Need-add-t35
 add-t35 c = omega (arith, c .before .before .rest-played .ensures .few)

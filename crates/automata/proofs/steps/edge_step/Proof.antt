@@ -54,7 +54,7 @@ returns-2 c =
       λ p q.
           step-fault (readAutomata (now (x .s))) (x .automaton) (runIn (now (x .locations)) (now (x .clocks)) (now (x .vars)) (x .events) p q) (reasonOf (w .0 .0))
           (ap choiceOf (sym (w .1)) ∙ c .before .before .before .open-edge .ensures .0),
-      refl,
+      (refl, (refl, refl)),
     )
 
 pub edge-step-spec : {M : Type 1} → statement M

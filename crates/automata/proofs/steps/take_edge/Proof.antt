@@ -142,7 +142,7 @@ returns c =
           (walk-ends (few-updates (start i)) (walk i) (some-record i) (λ y z. fault w)
           (do-fault (readAutomata (now (x .s)) .nodes) (readAutomata (now (x .s)) .variables) (λ m. updateIn (now (x .s)) m .1) (l .n) (worldIn (l .vars) (l .raised)) w
           (λ y z. ap (λ d. worldAfter d (j .do-update .last .1 .1 .1 .0) y z) (sym (g .1)) ∙ j .do-update .ensures y z))))),
-      refl,
+      (refl, (refl, refl)),
     )
 
 enum-known-x : tie.Need-enum-known-x Inv-loop μ-loop
@@ -226,7 +226,7 @@ returns-2 c =
           ∙ do-none (readAutomata (now (x .s)) .nodes) (readAutomata (now (x .s)) .variables) (λ m. updateIn (now (x .s)) m .1) (worldIn (l .vars) (l .raised)))))
           (c .target-of .result) (c .target-of .ensures ∙ sym (ap (λ u. u .target) (edge-is (now (x .s)) (x .shape) (a .pre .0 .shape) (x .e) (a .pre .3))))
           (k .last .1 .1 .1 .1 .1 .0) (k .ensures) _ refl,
-      ap length (k .ensures) ∙ length-reset (of (x .e) (readAutomata (now (x .s)) .resets)) (now (x .clocks)),
+      (ap length (k .ensures) ∙ length-reset (of (x .e) (readAutomata (now (x .s)) .resets)) (now (x .clocks)), tt),
     )
 
 pub take-edge-spec : {M : Type 1} → statement M
