@@ -3,7 +3,8 @@ use mathlib.Core.Path.{_≡_, sym, ap, _∙_}
 use mathlib.Core.Option.{some}
 use mathlib.Core.List.{List}
 use Prim.Native.Nat.{ℕ}
-use Rattle.records.specs.Refusal.{bad-table}
+use Rattle.records.specs.RefusalOf as Table
+use Rattle.records.specs.declared.refusals.Refusal.{Refusal}
 use Rattle.model.specs.AutomataFile.{automataRefusal}
 use Rattle.automata_files.specs.declared.Shape.{Shape}
 use Rattle.automata_files.specs.declared.Checked as declared-checked
@@ -14,5 +15,5 @@ module _ (s : List ℕ) (r : declared-checked.Checked) (is : IsChecked s r) wher
   pub accepted-of : (sh : Shape) → r ≡ declared-checked.the-variants.Accepted sh → Accepted s sh
   accepted-of sh e = record { shape = is .shape sh e; unrefused = sym (is .answer) ∙ ap refusalOf e }
 
-  pub refused-of : r ≡ declared-checked.the-variants.Refused → automataRefusal s ≡ some bad-table
-  refused-of e = sym (is .answer) ∙ ap refusalOf e
+  pub refused-of : (w : Refusal) → r ≡ declared-checked.the-variants.Refused w → automataRefusal s ≡ some (Table.refusalOf w)
+  refused-of w e = sym (is .answer) ∙ ap refusalOf e

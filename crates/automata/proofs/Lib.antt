@@ -12,3 +12,4 @@ pub mod Kept
 pub mod Turning
 pub mod Checking
 pub mod PlayLaws
+pub mod Types

@@ -14,6 +14,10 @@ use Rattle.machines.proofs.Earliest.{earliest-one, earliest-none}
 use Rattle.automata.specs.Index.{ownerIn, owned, Linked, Vacant, Blank, Apart, Linkable, Links}
 use Rattle.automata.specs.declared.index.Span.{Span}
 
+pub apart-within : (lo hi start end k : ℕ) → lo ≤ start → end ≤ hi → Apart lo hi k → Apart start end k
+apart-within lo hi start end k a b (inl h) = inl (omega arith)
+apart-within lo hi start end k a b (inr h) = inr (omega arith)
+
 module _ (s : List ℕ) (start end base owners : ℕ) (first₀ next₀ : List ℕ) where
   -- filled down to record n; what is not of this kind stays
   pub record Filling (first next : List ℕ) (n : ℕ) : Type 0 where

@@ -28,12 +28,23 @@ pub record Linked (s : List ℕ) (start end base owners : ℕ) (first next : Lis
   pub first-of : (o : ℕ) → o < owners → getD first (base + o) 0 ≡ earliest (owned s o) start (end - start)
   pub next-of : NextOf s start end next
 
+-- outside some places
+abbrev pub Apart : ℕ → ℕ → ℕ → Type 0
+Apart lo hi k = (k < lo) ⊎ (hi ≤ k)
+
 -- Edges by their source, literals by their edge, and in one chain updates and then resets by their edge: keys from 0, 128 and 512 on.
 pub record HasIndex (s : List ℕ) (sh : Shape) (first next : List ℕ) : Type 0 where
   pub edges : Linked s (firstEdge sh) (firstLiteral sh) 0 128 first next
   pub literals : Linked s (firstLiteral sh) (firstClock sh) 128 384 first next
   pub effects : Linked s (firstUpdate sh) (firstReset sh + sh .resets) 512 384 first next
   pub places : firstReset sh + sh .resets ≤ length next
+
+-- What no chain has: the records of other kinds, and the places behind the records. They stay as they were.
+abbrev pub Unchained : Shape → ℕ → Type 0
+Unchained sh n = Apart (firstEdge sh) (firstClock sh) n × Apart (firstUpdate sh) (firstReset sh + sh .resets) n
+
+abbrev pub KeepsUnchained : Shape → List ℕ → List ℕ → Type 0
+KeepsUnchained sh next₀ next = (n : ℕ) → Unchained sh n → getD next n 0 ≡ getD next₀ n 0
 
 -- ---- while it is built
 
@@ -49,10 +60,6 @@ Vacant k first = (j : ℕ) → k ≤ j → j < 896 → getD first j 0 ≡ 65535
 pub record Blank (first : List ℕ) : Type 0 where
   pub keys : length first ≡ 896
   pub vacant : Vacant 0 first
-
--- outside some places
-abbrev pub Apart : ℕ → ℕ → ℕ → Type 0
-Apart lo hi k = (k < lo) ⊎ (hi ≤ k)
 
 -- a kind that can be linked: its records and keys have room, the records lie in the file, their owners have keys, and nothing is named there yet
 pub record Linkable (s : List ℕ) (sp : Span) (first next : List ℕ) : Type 0 where

@@ -57,6 +57,13 @@ capFor every d = 65535
 abbrev pub grownTo : ℕ → ℕ → ℕ → ℕ
 grownTo turn cap x = cond (eqb x turn) 1 (min (x + 1) cap)
 
+-- of so many clocks in use each place has its limit; the places behind them stay
+abbrev pub turnAt : List ℕ → Shape → ℕ → ℕ → ℕ
+turnAt s sh k x = cond (ltb k (sh .clocks)) (turnFor (clockAt s sh k .timing) (clockAt s sh k .ticks)) x
+
+abbrev pub capAt : List ℕ → Shape → ℕ → ℕ → ℕ
+capAt s sh k x = cond (ltb k (sh .clocks)) (capFor (clockAt s sh k .timing) (clockAt s sh k .ticks)) x
+
 pub record HasLimits (s : List ℕ) (sh : Shape) (turn cap : List ℕ) : Type 0 where
   pub turns : (k : ℕ) → k < sh .clocks → getD turn k 0 ≡ turnFor (clockAt s sh k .timing) (clockAt s sh k .ticks)
   pub caps : (k : ℕ) → k < sh .clocks → getD cap k 0 ≡ capFor (clockAt s sh k .timing) (clockAt s sh k .ticks)

@@ -1,30 +1,23 @@
 -- The answers of edges and of an automaton's turn, as the model's outcomes. Assumes nothing: these are definitions.
+use mathlib.Core.Path.{_≡_}
 use mathlib.Core.Bool.{Bool}
 use mathlib.Core.List.{List, [], _∷_}
 use Prim.Native.Nat.{ℕ, _<_}
 use lib.IntN.{ℤ}
 use lib.ListN.{set}
-use Rattle.records.specs.Refusal.{Refusal, out-of-range, zero-divisor, out-of-bounds, none-open, many-open, Out, val, fault, _>>=_}
+use Rattle.records.specs.Refusal.{many-open, Out, val, fault, _>>=_}
 use Rattle.model.specs.Owned.{of}
 use Rattle.model.specs.Runs.{World, Run, Answer, taken, deeds}
 use Rattle.model.specs.AutomataTable.{Automata, edge}
 use Rattle.model.specs.Automata.{literalHolds, reads, opens, theOne, leaving, reset}
+use Rattle.machines.specs.Answers.{reasonOf}
 use Rattle.automata.specs.declared.edges.Tally.{Tally}
 use Rattle.automata.specs.declared.edges.Tally.the-variants.{Nothing, One, Many}
 use Rattle.automata.specs.declared.edges.Counted as declared-counted
 use Rattle.automata.specs.declared.edges.Choice as declared-choice
-use Rattle.automata.specs.declared.steps.Reason.{Reason}
-use Rattle.automata.specs.declared.steps.Reason.the-variants.{Range, Divisor, Bounds, NoneOpen, ManyOpen}
 use Rattle.automata.specs.declared.steps.Went.{Went}
 use Rattle.automata.specs.declared.steps.Went.the-variants.{Taken, Fault}
 use Rattle.automata.specs.RunOf.{runIn}
-
-abbrev pub reasonOf : Reason → Refusal
-reasonOf Range = out-of-range
-reasonOf Divisor = zero-divisor
-reasonOf Bounds = out-of-bounds
-reasonOf NoneOpen = none-open
-reasonOf ManyOpen = many-open
 
 -- ---- open edges
 
@@ -81,6 +74,11 @@ abbrev pub takeEdge : Automata → ℕ → Run → ℕ → Out (Answer × Run)
 takeEdge au automaton r e =
     deeds (au .nodes) (au .variables) (of e (au .updates)) (r .world)
     >>= λ w. val (taken e, entered r automaton (edge au e .target) (reset (of e (au .resets)) (r .timers)) w)
+
+-- A fault leaves locations and clocks as they were. The variables may have values of the updates before it: nothing is said of them.
+abbrev pub FaultKeeps : Went → List ℕ → List ℕ → List ℕ → List ℕ → Type 0
+FaultKeeps (Taken e events) at₀ clocks₀ at clocks = Unit
+FaultKeeps (Fault w) at₀ clocks₀ at clocks = (at ≡ at₀) × (clocks ≡ clocks₀)
 
 -- the turn by what is in the places after it; it leaves position and count as they are
 abbrev pub wentOf : Went → List ℕ → List ℕ → List ℤ → ℕ → ℕ → Out (Answer × Run)

@@ -8,15 +8,16 @@ ghost use Rattle.expressions.specs.Answers.{truthOf};
 ghost use Rattle.expressions.specs.Answers as expressions-answers;
 ghost use Rattle.model.specs.AutomataTable.{readAutomata};
 ghost use Rattle.automata_files.specs.Places.{edgeAt};
+ghost use Rattle.machines.specs.Answers.{reasonOf};
 ghost use Rattle.automata.specs.Accepted.{Accepted};
 ghost use Rattle.automata.specs.Index.{HasIndex};
-ghost use Rattle.automata.specs.StepOf.{reasonOf, bareRun, edgeOpen, tallyOf, oneOpen, countedOf, theOpen, choiceOf, TallyIn, CountedIn, ChoiceIn};
+ghost use Rattle.automata.specs.StepOf.{bareRun, edgeOpen, tallyOf, oneOpen, countedOf, theOpen, choiceOf, TallyIn, CountedIn, ChoiceIn};
 use super::fields::automaton_of;
 use super::fields::first_edge;
 use super::literals::literal_holds;
-use super::steps::Reason;
 use automata_files::Shape;
 use expressions::arithmetic::Truth;
+use machines::answers::Reason;
 
 // What the edges read so far come to.
 pub enum Tally {

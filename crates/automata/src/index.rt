@@ -1,7 +1,7 @@
 // The index that turns read, made once for a table: a location's edges, an edge's literals, and its updates and resets, are found without a search.
 ghost use mathlib.Core.Path.{_≡_};
 ghost use Rattle.automata.specs.Accepted.{Accepted, InFile};
-ghost use Rattle.automata.specs.Index.{ownerIn, HasIndex, RoomFor, Blank, Linkable, Links};
+ghost use Rattle.automata.specs.Index.{ownerIn, HasIndex, KeepsUnchained, RoomFor, Blank, Linkable, Links};
 use super::fields::first_edge;
 use super::fields::first_literal;
 use super::fields::first_reset;
@@ -46,6 +46,7 @@ pub fn index_of(s: &[u8], shape: Shape, first: &mut [u16; 896], next: &mut [u16]
     requires { ⌜ Blank (now first) ⌝ }
     requires { ⌜ RoomFor shape (now next) ⌝ }
     ensures { λ _. ⌜ HasIndex (now (s .entry)) shape (now (first .exit)) (now (next .exit)) ⌝ }
+    ensures { λ _. ⌜ KeepsUnchained shape (now (next .entry)) (now (next .exit)) ⌝ }
 {
     let edge = first_edge(shape);
     let literal = first_literal(shape);

@@ -1,98 +1,75 @@
-// A run that the caller lends, moved on in place. Where a call is refused or faults the run is as it was.
+// A run that the caller lends, moved on in place, of an accepted table. Where a call is refused or faults the run is as it was.
 ghost use mathlib.Core.Path.{_≡_};
+ghost use Rattle.records.specs.Refusal.{val};
 ghost use Rattle.model.specs.Outcome.{settled};
-ghost use Rattle.model.specs.Runs.{turn as model-turn, cycle as model-cycle};
+ghost use Rattle.model.specs.Runs.{start as started, turn as model-turn, cycle as model-cycle};
 ghost use Rattle.model.specs.AutomataTable.{readAutomata};
 ghost use Rattle.model.specs.Automata.{automata as machine};
-ghost use Rattle.model.specs.Calls.{automataTables, startCall, turnCall, cycleCall};
-ghost use Rattle.machines.specs.Playing.{playCall};
+ghost use Rattle.machines.specs.Answers.{answerOf, endingOf, cyclesOf};
+ghost use Rattle.machines.specs.Playing.{playing};
+ghost use Rattle.automata.specs.Accepted.{Accepted};
 ghost use Rattle.automata.specs.RunOf.{runOf};
-ghost use Rattle.automata.specs.TurnOf.{answerOf, endingOf, Known};
-ghost use Rattle.automata.specs.PlayedOf.{cyclesOf};
-use super::calls::call_cycle;
-use super::calls::call_start;
-use super::calls::call_turn;
-use super::plays::Cycles;
-use super::plays::play;
+ghost use Rattle.automata.specs.TurnOf.{calledOf};
+use super::cycles::Called;
+use super::cycles::cycle_by_turns;
+use super::plays::play_of;
 use super::runs::Run;
-use super::turns::Answer;
-use super::turns::Ending;
-use super::turns::cycle;
-use super::turns::turn;
+use super::turns::turn_of;
 use automata_files::Shape;
+use machines::answers::Answer;
+use machines::answers::Cycles;
+use machines::answers::Ending;
 
-// A turn of an accepted table.
-pub fn turn_lent(
-    s: &[u8],
-    shape: Shape,
-    first: &[u16; 896],
-    next: &[u16; 14536],
-    run: &mut Run,
-    events: u32,
-) -> Answer
-    requires { ⌜ Known (now s) shape (now first) (now next) ⌝ }
-    ensures { λ r. ⌜ (answerOf r ≡ settled (runOf (now (run .entry))) (model-turn (machine (readAutomata (now (s .entry)))) events (runOf (now (run .entry)))) .answer)
-        × (runOf (now (run .exit)) ≡ settled (runOf (now (run .entry))) (model-turn (machine (readAutomata (now (s .entry)))) events (runOf (now (run .entry)))) .lent) ⌝ }
+// The fresh run, in place of any.
+fn fresh(s: &[u8], shape: Shape, any: Run) -> Called
+    requires { ⌜ Accepted (now s) shape ⌝ }
+    ensures { λ r. ⌜ calledOf r ≡ settled (runOf any) (val (tt, started (machine (readAutomata (now (s .entry)))))) ⌝ }
 {
-    let turned = turn(s, shape, first, next, *run, events);
-    *run = turned.run;
-    turned.answer
-}
-
-// A cycle of an accepted table: all its turns, or none.
-pub fn cycle_lent(
-    s: &[u8],
-    shape: Shape,
-    first: &[u16; 896],
-    next: &[u16; 14536],
-    run: &mut Run,
-    events: u32,
-) -> Ending
-    requires { ⌜ Known (now s) shape (now first) (now next) ⌝ }
-    ensures { λ r. ⌜ (endingOf r ≡ settled (runOf (now (run .entry))) (model-cycle (machine (readAutomata (now (s .entry)))) events (runOf (now (run .entry)))) .answer)
-        × (runOf (now (run .exit)) ≡ settled (runOf (now (run .entry))) (model-cycle (machine (readAutomata (now (s .entry)))) events (runOf (now (run .entry)))) .lent) ⌝ }
-{
-    let called = cycle(s, shape, first, next, *run, events);
-    *run = called.run;
-    called.answer
+    let run = super::runs::start(s, shape);
+    Called {
+        answer: Ending::Done,
+        run,
+    }
 }
 
 // The lent run becomes a fresh one.
-pub fn start_lent(s: &[u8], run: &mut Run) -> Ending
-    ensures { λ r. ⌜ (endingOf r ≡ startCall automataTables (now (s .entry)) (runOf (now (run .entry))) .answer)
-        × (runOf (now (run .exit)) ≡ startCall automataTables (now (s .entry)) (runOf (now (run .entry))) .lent) ⌝ }
+pub fn start(s: &[u8], shape: Shape, run: &mut Run) -> Ending
+    requires { ⌜ Accepted (now s) shape ⌝ }
+    ensures { λ r. ⌜ (endingOf r ≡ val tt) × (runOf (now (run .exit)) ≡ started (machine (readAutomata (now (s .entry))))) ⌝ }
 {
-    let called = call_start(s, *run);
+    let called = fresh(s, shape, *run);
     *run = called.run;
     called.answer
 }
 
-// A turn, on any bytes.
-pub fn turn_call(s: &[u8], run: &mut Run, events: u32) -> Answer
-    ensures { λ r. ⌜ (answerOf r ≡ turnCall automataTables (now (s .entry)) events (runOf (now (run .entry))) .answer)
-        × (runOf (now (run .exit)) ≡ turnCall automataTables (now (s .entry)) events (runOf (now (run .entry))) .lent) ⌝ }
+pub fn turn(s: &[u8], shape: Shape, run: &mut Run, events: u32) -> Answer
+    requires { ⌜ Accepted (now s) shape ⌝ }
+    ensures { λ r. ⌜ (answerOf r ≡ settled (runOf (now (run .entry))) (model-turn (machine (readAutomata (now (s .entry)))) events (runOf (now (run .entry)))) .answer)
+        × (runOf (now (run .exit)) ≡ settled (runOf (now (run .entry))) (model-turn (machine (readAutomata (now (s .entry)))) events (runOf (now (run .entry)))) .lent) ⌝ }
 {
-    let turned = call_turn(s, *run, events);
+    let turned = turn_of(s, shape, *run, events);
     *run = turned.run;
     turned.answer
 }
 
-// A cycle, on any bytes.
-pub fn cycle_call(s: &[u8], run: &mut Run, events: u32) -> Ending
-    ensures { λ r. ⌜ (endingOf r ≡ cycleCall automataTables (now (s .entry)) events (runOf (now (run .entry))) .answer)
-        × (runOf (now (run .exit)) ≡ cycleCall automataTables (now (s .entry)) events (runOf (now (run .entry))) .lent) ⌝ }
+// All of a cycle's turns, or none.
+pub fn cycle(s: &[u8], shape: Shape, run: &mut Run, events: u32) -> Ending
+    requires { ⌜ Accepted (now s) shape ⌝ }
+    ensures { λ r. ⌜ (endingOf r ≡ settled (runOf (now (run .entry))) (model-cycle (machine (readAutomata (now (s .entry)))) events (runOf (now (run .entry)))) .answer)
+        × (runOf (now (run .exit)) ≡ settled (runOf (now (run .entry))) (model-cycle (machine (readAutomata (now (s .entry)))) events (runOf (now (run .entry)))) .lent) ⌝ }
 {
-    let called = call_cycle(s, *run, events);
+    let called = cycle_by_turns(s, shape, *run, events);
     *run = called.run;
     called.answer
 }
 
-// Many cycles, on any bytes, the file checked once.
-pub fn play_call(s: &[u8], run: &mut Run, masks: &[u32]) -> Cycles
-    ensures { λ r. ⌜ (cyclesOf r ≡ playCall automataTables (now (s .entry)) (now (masks .entry)) (runOf (now (run .entry))) .answer)
-        × (runOf (now (run .exit)) ≡ playCall automataTables (now (s .entry)) (now (masks .entry)) (runOf (now (run .entry))) .lent) ⌝ }
+// Many cycles, one for each mask.
+pub fn play(s: &[u8], shape: Shape, run: &mut Run, masks: &[u32]) -> Cycles
+    requires { ⌜ Accepted (now s) shape ⌝ }
+    ensures { λ r. ⌜ (cyclesOf r ≡ settled (runOf (now (run .entry))) (playing (machine (readAutomata (now (s .entry)))) (now (masks .entry)) (runOf (now (run .entry)))) .answer)
+        × (runOf (now (run .exit)) ≡ settled (runOf (now (run .entry))) (playing (machine (readAutomata (now (s .entry)))) (now (masks .entry)) (runOf (now (run .entry)))) .lent) ⌝ }
 {
-    let played = play(s, *run, masks);
+    let played = play_of(s, shape, *run, masks);
     *run = played.run;
     played.answer
 }

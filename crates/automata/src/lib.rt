@@ -1,5 +1,5 @@
 // Automata at work: runs, and the turns and cycles that they take by their open edges.
-pub mod calls;
+pub mod cycles;
 pub mod edges;
 pub mod fields;
 pub mod index;

@@ -1,47 +1,28 @@
-// Many cycles of automata, the file checked once.
+// Many cycles of automata, the run checked once.
 ghost use mathlib.Core.Path.{_≡_};
 ghost use Rattle.model.specs.Outcome.{settled};
 ghost use Rattle.model.specs.AutomataTable.{readAutomata};
 ghost use Rattle.model.specs.Automata.{automata as machine};
-ghost use Rattle.model.specs.Calls.{automataTables};
-ghost use Rattle.machines.specs.Playing.{played, playing, playCall};
+ghost use Rattle.machines.specs.Playing.{played, playing};
 ghost use Rattle.automata.specs.Accepted.{Accepted};
 ghost use Rattle.automata.specs.Index.{RoomFor};
-ghost use Rattle.automata.specs.RunOf.{runIn, runOf};
+ghost use Rattle.automata.specs.RunOf.{runIn, runOf, HasLimits};
 ghost use Rattle.automata.specs.TurnOf.{Known};
 ghost use Rattle.automata.specs.PlayedOf.{Rested, RestOf, playedOf};
+use super::cycles::Gone;
+use super::cycles::cycle_checked;
+use super::cycles::cycle_in_place;
 use super::index::index_of;
 use super::runs::Run;
 use super::runs::limits_of;
-use super::steps::Reason;
-use super::turns::Ending;
-use super::turns::Gone;
-use super::turns::Refusal;
-use super::turns::cycle_in_place;
-use super::turns::cycle_of;
-use automata_files::Checked;
+use super::runs::run_in;
 use automata_files::Shape;
-use automata_files::check;
-
-// How many cycles were done, or why not even the first was.
-pub enum Cycles {
-    Done(u32),
-    Fault(Reason),
-    Refused(Refusal),
-}
+use machines::answers::Cycles;
+use machines::answers::Ending;
 
 pub struct Played {
     pub answer: Cycles,
     pub run: Run,
-}
-
-fn unplayed(run: Run, refusal: Refusal) -> Played
-    ensures { λ r. ⌜ (r .answer ≡ Cycles.Refused refusal) × (r .run ≡ run) ⌝ }
-{
-    Played {
-        answer: Cycles::Refused(refusal),
-        run,
-    }
 }
 
 // Cycles from position 1, which are told of by their number, and the run after them.
@@ -76,16 +57,16 @@ fn rest_played(
     shape: Shape,
     first: &[u16; 896],
     next: &[u16],
+    turn: &[u16; 256],
+    cap: &[u16; 256],
     run: Run,
     masks: &[u32],
 ) -> Rest
     requires { ⌜ Known (now s) shape (now first) (now next) ⌝ }
+    requires { ⌜ HasLimits (now s) shape (now turn) (now cap) ⌝ }
     requires { ⌜ Rested (machine (readAutomata (now s))) (runOf run) ⌝ }
     ensures { λ r. ⌜ RestOf (played (machine (readAutomata (now (s .entry)))) (now (masks .entry)) (runOf run)) (r .count) (runOf (r .run)) ⌝ }
 {
-    let mut turn = [65535u16; 256];
-    let mut cap = [65535u16; 256];
-    limits_of(s, shape, &mut turn, &mut cap);
     let mut locations = run.locations;
     let mut clocks = run.clocks;
     let mut variables = run.variables;
@@ -100,8 +81,8 @@ fn rest_played(
             shape,
             first,
             next,
-            &turn,
-            &cap,
+            turn,
+            cap,
             &mut locations,
             &mut clocks,
             &mut variables,
@@ -122,7 +103,7 @@ fn rest_played(
 }
 
 // Cycles of an accepted table, one for each mask, until one is refused or faults. That is told only of the first.
-pub fn cycles_played(
+fn cycles_played(
     s: &[u8],
     shape: Shape,
     first: &[u16; 896],
@@ -139,12 +120,30 @@ pub fn cycles_played(
             run,
         };
     }
-    let called = cycle_of(s, shape, first, next, run, masks[0]);
-    let after = called.run;
-    let answer = called.answer;
-    match answer {
+    let mut turn = [65535u16; 256];
+    let mut cap = [65535u16; 256];
+    limits_of(s, shape, &mut turn, &mut cap);
+    let mut locations = run.locations;
+    let mut clocks = run.clocks;
+    let mut variables = run.variables;
+    match cycle_checked(
+        s,
+        shape,
+        first,
+        next,
+        &turn,
+        &cap,
+        &mut locations,
+        &mut clocks,
+        &mut variables,
+        run.events,
+        run.position,
+        run.cycles,
+        masks[0],
+    ) {
         Ending::Done => {
-            let rest = rest_played(s, shape, first, next, after, &masks[1..]);
+            let after = run_in(&locations, &clocks, &variables, 0, 1, run.cycles + 1);
+            let rest = rest_played(s, shape, first, next, &turn, &cap, after, &masks[1..]);
             let last = rest.run;
             Played {
                 answer: Cycles::Done(rest.count + 1),
@@ -173,20 +172,16 @@ fn play_indexed(s: &[u8], shape: Shape, next: &mut [u16], run: Run, masks: &[u32
     cycles_played(s, shape, &first, next, run, masks)
 }
 
-// The file checked once, then many cycles. The index is that of a single turn.
-pub fn play(s: &[u8], run: Run, masks: &[u32]) -> Played
-    ensures { λ r. ⌜ playedOf r ≡ playCall automataTables (now (s .entry)) (now (masks .entry)) (runOf run) ⌝ }
+// Many cycles of an accepted table. The index is that of a turn.
+pub fn play_of(s: &[u8], shape: Shape, run: Run, masks: &[u32]) -> Played
+    requires { ⌜ Accepted (now s) shape ⌝ }
+    ensures { λ r. ⌜ playedOf r ≡ settled (runOf run) (playing (machine (readAutomata (now (s .entry)))) (now (masks .entry)) (runOf run)) ⌝ }
 {
-    match check(s) {
-        Checked::Refused => unplayed(run, Refusal::File),
-        Checked::Accepted(shape) => {
-            if s.len() <= 16384 {
-                let mut next = [65535u16; 1024];
-                play_indexed(s, shape, &mut next, run, masks)
-            } else {
-                let mut next = [14536u16; 14536];
-                play_indexed(s, shape, &mut next, run, masks)
-            }
-        }
+    if s.len() <= 16384 {
+        let mut next = [65535u16; 1024];
+        play_indexed(s, shape, &mut next, run, masks)
+    } else {
+        let mut next = [14536u16; 14536];
+        play_indexed(s, shape, &mut next, run, masks)
     }
 }

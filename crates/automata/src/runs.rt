@@ -5,14 +5,14 @@ ghost use mathlib.Core.Bool.{cond};
 ghost use lib.Dec.{leb, eqb};
 ghost use lib.ListN.{length, getD};
 ghost use Rattle.records.specs.Lists.{all, upto, mapFrom};
-ghost use Rattle.model.specs.Runs.{start as started, possible, checked, give as given, timePassed};
+ghost use Rattle.model.specs.Runs.{start as started, possible, checked};
 ghost use Rattle.model.specs.AutomataTable.{readAutomata};
 ghost use Rattle.model.specs.Automata.{automata as machine, top, grown};
 ghost use Rattle.automata_files.specs.Shape.{IsShape};
 ghost use Rattle.automata_files.specs.Places.{clockAt};
 ghost use Rattle.machines.specs.Checks.{zeros, beforeOf};
 ghost use Rattle.automata.specs.Accepted.{Accepted};
-ghost use Rattle.automata.specs.RunOf.{runIn, runOf, Sized, timingIf, topAt, grownAt, Low, turnFor, capFor, grownTo, HasLimits};
+ghost use Rattle.automata.specs.RunOf.{runIn, runOf, Sized, timingIf, topAt, grownAt, Low, turnFor, capFor, grownTo, turnAt, capAt, HasLimits};
 use super::fields::is_after;
 use super::fields::ticks_of;
 use super::values::values_of;
@@ -172,38 +172,11 @@ pub fn before_turn(
     decide(possible, events, position, cycles)
 }
 
-pub fn before_turn_of(s: &[u8], shape: Shape, run: Run, events: u32) -> Before
-    requires { ⌜ IsShape (now s) shape ⌝ }
-    ensures { λ r. ⌜ beforeOf r ≡ checked (machine (readAutomata (now (s .entry)))) events (runOf run) ⌝ }
-{
-    let locations = run.locations;
-    let clocks = run.clocks;
-    let variables = run.variables;
-    before_turn(
-        s,
-        shape,
-        &locations,
-        &clocks,
-        &variables,
-        run.events,
-        run.position,
-        run.cycles,
-        events,
-    )
-}
-
 // Input events are given at position 1.
 pub fn events_given(events: u32, position: u32, present: u32) -> u32
     ensures { λ r. ⌜ r ≡ cond (eqb position 1) events present ⌝ }
 {
     if position == 1 { events } else { present }
-}
-
-pub fn give(mut run: Run, events: u32) -> Run
-    ensures { λ r. ⌜ runOf r ≡ given events (runOf run) ⌝ }
-{
-    run.events = events_given(events, run.position, run.events);
-    run
 }
 
 // Where a clock goes back to 1: an every-clock at its ticks, an after-clock nowhere, as none comes to 65535.
@@ -225,7 +198,7 @@ fn cap_for(after: bool, ticks: u16) -> u16
 pub fn limits_of(s: &[u8], shape: Shape, turn: &mut [u16; 256], cap: &mut [u16; 256])
     requires { ⌜ Accepted (now s) shape ⌝ }
     requires { ⌜ (length (now turn) ≡ 256) × (length (now cap) ≡ 256) ⌝ }
-    ensures { λ _. ⌜ HasLimits (now (s .entry)) shape (now (turn .exit)) (now (cap .exit)) ⌝ }
+    ensures { λ _. ⌜ (now (turn .exit) ≡ mapFrom 0 (turnAt (now (s .entry)) shape) (now (turn .entry))) × (now (cap .exit) ≡ mapFrom 0 (capAt (now (s .entry)) shape) (now (cap .entry))) ⌝ }
 {
     let mut k: u16 = 0;
     while k < shape.clocks {
@@ -280,20 +253,4 @@ pub fn pass_time(s: &[u8], shape: Shape, clocks: &mut [u16; 256])
     let mut cap = [65535u16; 256];
     limits_of(s, shape, &mut turn, &mut cap);
     grow(s, shape, &turn, &cap, clocks);
-}
-
-// Position n + 1 empties the events, lets each clock grow, and adds 1 to the count of cycles.
-pub fn time_passed(s: &[u8], shape: Shape, mut run: Run) -> Run
-    requires { ⌜ Accepted (now s) shape ⌝ }
-    requires { ⌜ run .cycles ≤ 999999 ⌝ }
-    requires { ⌜ Low (shape .clocks) (run .clocks) ⌝ }
-    ensures { λ r. ⌜ runOf r ≡ timePassed (machine (readAutomata (now (s .entry)))) (runOf run) ⌝ }
-{
-    let mut clocks = run.clocks;
-    pass_time(s, shape, &mut clocks);
-    run.clocks = clocks;
-    run.events = 0;
-    run.position = 1;
-    run.cycles += 1;
-    run
 }

@@ -8,12 +8,11 @@ ghost use Rattle.model.specs.AutomataTable.{readAutomata};
 ghost use Rattle.model.specs.Automata.{reset, edgeStep};
 ghost use Rattle.automata_files.specs.Places.{firstUpdate, firstReset, updateIn, resetIn};
 ghost use Rattle.machines.specs.Chains.{earliest};
-ghost use Rattle.machines.specs.Worlds as worlds;
 ghost use Rattle.machines.specs.Worlds.{worldIn, worldAfter};
 ghost use Rattle.automata.specs.Accepted.{Accepted};
 ghost use Rattle.automata.specs.Index.{owned, NextOf, HasIndex, RoomFor};
 ghost use Rattle.automata.specs.RunOf.{runIn};
-ghost use Rattle.automata.specs.StepOf.{reasonOf, takeEdge, wentOf};
+ghost use Rattle.automata.specs.StepOf.{takeEdge, wentOf, FaultKeeps};
 use super::edges::Choice;
 use super::edges::open_edge;
 use super::fields::byte_of;
@@ -22,33 +21,15 @@ use super::fields::target_of;
 use super::fields::two_of;
 use super::values::values_of;
 use automata_files::Shape;
+use machines::answers::Reason;
 use machines::deeds::Done;
 use machines::deeds::assign;
 use machines::deeds::raised;
-
-// Why a turn is not taken: a number out of 32 bits, a zero divisor, a number out of its variable's bounds, no edge open, two or more open.
-pub enum Reason {
-    Range,
-    Divisor,
-    Bounds,
-    NoneOpen,
-    ManyOpen,
-}
 
 // The edge taken and the events after it, or why none is taken.
 pub enum Went {
     Taken(u16, u32),
     Fault(Reason),
-}
-
-fn update_fault(w: machines::deeds::Reason) -> Reason
-    ensures { λ r. ⌜ reasonOf r ≡ worlds.reasonOf w ⌝ }
-{
-    match w {
-        machines::deeds::Reason::Range => Reason::Range,
-        machines::deeds::Reason::Divisor => Reason::Divisor,
-        machines::deeds::Reason::Bounds => Reason::Bounds,
-    }
 }
 
 // The update is that of record n: an event is raised, or a node assigned.
@@ -101,13 +82,14 @@ fn take_edge(
     requires { ⌜ Accepted (now s) shape × HasIndex (now s) shape (now first) (now next) × (automaton < 8) × (e < shape .edges) ⌝ }
     ensures { λ r. ⌜ ((p c : ℕ) → wentOf r (now (locations .exit)) (now (clocks .exit)) (now (vars .exit)) p c ≡ takeEdge (readAutomata (now (s .entry))) automaton (runIn (now (locations .entry)) (now (clocks .entry)) (now (vars .entry)) events p c) e) ⌝ }
     ensures { λ _. ⌜ length (now (clocks .exit)) ≡ length (now (clocks .entry)) ⌝ }
+    ensures { λ r. ⌜ FaultKeeps r (now (locations .entry)) (now (clocks .entry)) (now (locations .exit)) (now (clocks .exit)) ⌝ }
 {
     let reset = first_reset(shape);
     let mut raised = events;
     let mut n = first[(512 + e) as usize];
     while n < reset {
         match do_update(s, shape, n, vars, raised) {
-            Done::Fault(w) => return Went::Fault(update_fault(w)),
+            Done::Fault(w) => return Went::Fault(w),
             Done::Events(x) => {
                 raised = x;
             }
@@ -120,7 +102,7 @@ fn take_edge(
     Went::Taken(e, raised)
 }
 
-// In place. After a fault the variables are of no use.
+// In place. After a fault the variables are of no use; locations and clocks are as they were.
 pub fn edge_step(
     s: &[u8],
     shape: Shape,
@@ -137,6 +119,7 @@ pub fn edge_step(
     requires { ⌜ automaton < shape .automata ⌝ }
     ensures { λ r. ⌜ ((p c : ℕ) → wentOf r (now (locations .exit)) (now (clocks .exit)) (now (vars .exit)) p c ≡ edgeStep (readAutomata (now (s .entry))) automaton (runIn (now (locations .entry)) (now (clocks .entry)) (now (vars .entry)) events p c)) ⌝ }
     ensures { λ _. ⌜ length (now (clocks .exit)) ≡ length (now (clocks .entry)) ⌝ }
+    ensures { λ r. ⌜ FaultKeeps r (now (locations .entry)) (now (clocks .entry)) (now (locations .exit)) (now (clocks .exit)) ⌝ }
 {
     let i = automaton as usize;
     let location = locations[i];

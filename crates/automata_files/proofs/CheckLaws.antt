@@ -7,6 +7,8 @@ use Prim.Native.Nat.{ℕ}
 use native.Mathlib.Omega.{arith}
 use Rattle.records.specs.Lists.{all}
 use Rattle.records.specs.Refusal.{Refusal, bad-table, lowest}
+use Rattle.records.specs.RefusalOf.{refusalOf}
+use Rattle.records.specs.declared.refusals.Refusal as declared-refusal
 use Rattle.records.specs.Bytes.{records}
 use Rattle.records.specs.Framing.{framing, framingTests}
 use Rattle.model.specs.AutomataTable.{readAutomata}
@@ -69,8 +71,8 @@ module _ (s : List ℕ) where
 
   -- ---- the answers
 
-  pub refused-framing : asTable (framing 33 automataLimits s) ≡ some bad-table → IsChecked s Refused
-  refused-framing e = record {
+  pub refused-framing : (w : declared-refusal.Refusal) → asTable (framing 33 automataLimits s) ≡ some (refusalOf w) → IsChecked s (Refused w)
+  refused-framing w e = record {
     answer = sym (by-framing ∙ ap (λ o. orElse o behind) e);
     shape = λ sh q. let z : _≡_ {A = ℕ} 0 1 = cc in absurd (omega arith);
   }
@@ -79,7 +81,7 @@ module _ (s : List ℕ) where
     refusal-is : {t : Bool} → passes s ≡ t → automataRefusal s ≡ cond t none (some bad-table)
     refusal-is e = by-framing ∙ ap (λ o. orElse (asTable o) behind) (is .framed) ∙ ap (λ t. cond t none (some bad-table)) e
 
-    pub refused : passes s ≡ false → IsChecked s Refused
+    pub refused : passes s ≡ false → IsChecked s (Refused declared-refusal.the-variants.BadTable)
     refused e = record { answer = sym (refusal-is e); shape = λ sh q. let z : _≡_ {A = ℕ} 0 1 = cc in absurd (omega arith) }
 
     pub accepted : passes s ≡ true → IsChecked s (Accepted sh)

@@ -4,6 +4,7 @@ use mathlib.Core.Option.{Option, some, none}
 use mathlib.Core.List.{List}
 use Prim.Native.Nat.{ℕ}
 use Rattle.records.specs.Refusal as R
+use Rattle.records.specs.RefusalOf as Table
 use Rattle.records.specs.Framing.{howMany, framing}
 use Rattle.model.specs.AutomataFile.{automataLimits, automataRefusal}
 use Rattle.automata_files.specs.declared.Shape.{Shape}
@@ -30,7 +31,7 @@ asTable (some w) = some R.bad-table
 
 abbrev pub refusalOf : Checked → Option R.Refusal
 refusalOf (Accepted sh) = none
-refusalOf Refused = some R.bad-table
+refusalOf (Refused w) = some (Table.refusalOf w)
 
 -- Refused where framing refuses, and what is accepted has the shape that is answered.
 pub record IsShaped (s : List ℕ) (r : Checked) : Type 0 where

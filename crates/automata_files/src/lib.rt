@@ -24,6 +24,7 @@ use names::table_named;
 use nodes::table_nodes_fit;
 use records::Framing;
 use records::frame_of;
+use records::refusals::Refusal;
 use structure::clocks_tick;
 use structure::idle_edges_stay;
 use structure::inside_automata;
@@ -45,7 +46,7 @@ pub struct Shape {
 // A file that passes is known by its shape; what is refused is refused as 11, whatever the test.
 pub enum Checked {
     Accepted(Shape),
-    Refused,
+    Refused(Refusal),
 }
 
 // The most of each kind.
@@ -59,9 +60,9 @@ pub fn shape_of(s: &[u8]) -> Checked
     let frame = frame_of(s, 33, &most);
     let answer = frame.answer;
     match answer {
-        Framing::OddLength => Checked::Refused,
-        Framing::UnorderedKinds => Checked::Refused,
-        Framing::WrongAmounts => Checked::Refused,
+        Framing::OddLength => Checked::Refused(Refusal::BadTable),
+        Framing::UnorderedKinds => Checked::Refused(Refusal::BadTable),
+        Framing::WrongAmounts => Checked::Refused(Refusal::BadTable),
         Framing::Framed => {
             let counts = frame.counts;
             Checked::Accepted(Shape {
@@ -122,12 +123,12 @@ pub fn check(s: &[u8]) -> Checked
     ensures { λ r. ⌜ IsChecked (now (s .entry)) r ⌝ }
 {
     match shape_of(s) {
-        Checked::Refused => Checked::Refused,
+        Checked::Refused(refusal) => Checked::Refused(refusal),
         Checked::Accepted(shape) => {
             if passes(s, shape) {
                 Checked::Accepted(shape)
             } else {
-                Checked::Refused
+                Checked::Refused(Refusal::BadTable)
             }
         }
     }

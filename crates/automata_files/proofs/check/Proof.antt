@@ -10,8 +10,8 @@ use Rattle.automata_files.proofs.check.Tie as tie
 shape-of-requires : tie.Need-shape-of-requires
 shape-of-requires c κs = search needs
 
-enum-told : tie.Need-enum-told
-enum-told c = search needs
+enum-known-refusal : tie.Need-enum-known-refusal
+enum-known-refusal c = search needs
 
 enum-known-shape : tie.Need-enum-known-shape
 enum-known-shape c = search needs
@@ -21,8 +21,9 @@ passes-requires c κs = c .before .before .before .shape-of .ensures .shape _ (c
 
 returns : tie.Need-returns
 returns c =
-    let o = c .before .before .shape-of in
-    refused-framing (now (c .before .before .before .before .args .s)) (sym (o .ensures .answer) ∙ ap refusalOf (c .enum-told .given .1))
+    let o = c .before .before .before .shape-of in
+    let w = c .before .refusal .given in
+    refused-framing (now (c .before .before .before .before .before .args .s)) (w .0 .0) (sym (o .ensures .answer) ∙ ap refusalOf (w .1))
 
 returns-2 : tie.Need-returns-2
 returns-2 c =
@@ -39,7 +40,7 @@ check-spec =
     tie.close
     (tie.spec
     shape-of-requires
-    enum-told
+    enum-known-refusal
     enum-known-shape
     passes-requires
     returns

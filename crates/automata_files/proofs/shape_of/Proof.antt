@@ -14,12 +14,13 @@ use Rattle.records.proofs.Framed.{framed-most, frame-framed, frame-count}
 use Rattle.model.specs.AutomataFile.{automataLimits}
 use Rattle.automata_files.specs.Shape.{IsShape, IsShaped, asTable}
 use Rattle.automata_files.specs.declared.Shape.{Shape}
+use Rattle.records.specs.declared.refusals.Refusal.the-variants.{BadTable}
 use Rattle.automata_files.specs.declared.Checked.the-variants.{Accepted, Refused}
 use Rattle.automata_files.proofs.shape_of.Statement.{statement}
 use Rattle.automata_files.proofs.shape_of.Tie as tie
 
 module _ (s : List ℕ) (r : Frame) (is : IsFrame 33 automataLimits s r) where
-  refused : (w : R.Refusal) → framingOf (r .answer) ≡ some w → IsShaped s Refused
+  refused : (w : R.Refusal) → framingOf (r .answer) ≡ some w → IsShaped s (Refused BadTable)
   refused w e = record { answer = ap asTable (sym e ∙ is .answer); shape = λ sh q. let z : _≡_ {A = ℕ} 0 1 = cc in absurd (omega arith) }
 
   module _ (answer : r .answer ≡ Framed) where
@@ -77,62 +78,62 @@ enum-told-3 c = search needs
 enum-told-4 : tie.Need-enum-told-4
 enum-told-4 c = search needs
 
-array-read-t12 : tie.Need-array-read-t12
-array-read-t12 c = search needs
+array-read-t15 : tie.Need-array-read-t15
+array-read-t15 c = search needs
 
 within : (c : tie.After-counts) (j : ℕ) → j < 9 → getD (c .before .before .before .frame-of .result .counts) j 0 ≤ getD automataLimits j 0
 within c = low _ _ (c .before .before .before .frame-of .ensures) (c .before .enum-told4 .given .1)
 
-cast-t13 : tie.Need-cast-t13
-cast-t13 c = omega (arith, within c 0 (omega arith))
+cast-t16 : tie.Need-cast-t16
+cast-t16 c = omega (arith, within c 0 (omega arith))
 
-array-read-t16 : tie.Need-array-read-t16
-array-read-t16 c = search needs
+array-read-t19 : tie.Need-array-read-t19
+array-read-t19 c = search needs
 
-cast-t17 : tie.Need-cast-t17
-cast-t17 c = omega (arith, within c 1 (omega arith))
+cast-t20 : tie.Need-cast-t20
+cast-t20 c = omega (arith, within c 1 (omega arith))
 
-array-read-t20 : tie.Need-array-read-t20
-array-read-t20 c = search needs
+array-read-t23 : tie.Need-array-read-t23
+array-read-t23 c = search needs
 
-cast-t21 : tie.Need-cast-t21
-cast-t21 c = omega (arith, within c 2 (omega arith))
+cast-t24 : tie.Need-cast-t24
+cast-t24 c = omega (arith, within c 2 (omega arith))
 
-array-read-t24 : tie.Need-array-read-t24
-array-read-t24 c = search needs
+array-read-t27 : tie.Need-array-read-t27
+array-read-t27 c = search needs
 
-cast-t25 : tie.Need-cast-t25
-cast-t25 c = omega (arith, within c 3 (omega arith))
+cast-t28 : tie.Need-cast-t28
+cast-t28 c = omega (arith, within c 3 (omega arith))
 
-array-read-t28 : tie.Need-array-read-t28
-array-read-t28 c = search needs
+array-read-t31 : tie.Need-array-read-t31
+array-read-t31 c = search needs
 
-cast-t29 : tie.Need-cast-t29
-cast-t29 c = omega (arith, within c 4 (omega arith))
+cast-t32 : tie.Need-cast-t32
+cast-t32 c = omega (arith, within c 4 (omega arith))
 
-array-read-t32 : tie.Need-array-read-t32
-array-read-t32 c = search needs
+array-read-t35 : tie.Need-array-read-t35
+array-read-t35 c = search needs
 
-cast-t33 : tie.Need-cast-t33
-cast-t33 c = omega (arith, within c 5 (omega arith))
+cast-t36 : tie.Need-cast-t36
+cast-t36 c = omega (arith, within c 5 (omega arith))
 
-array-read-t36 : tie.Need-array-read-t36
-array-read-t36 c = search needs
+array-read-t39 : tie.Need-array-read-t39
+array-read-t39 c = search needs
 
-cast-t37 : tie.Need-cast-t37
-cast-t37 c = omega (arith, within c 6 (omega arith))
+cast-t40 : tie.Need-cast-t40
+cast-t40 c = omega (arith, within c 6 (omega arith))
 
-array-read-t40 : tie.Need-array-read-t40
-array-read-t40 c = search needs
+array-read-t43 : tie.Need-array-read-t43
+array-read-t43 c = search needs
 
-cast-t41 : tie.Need-cast-t41
-cast-t41 c = omega (arith, within c 7 (omega arith))
+cast-t44 : tie.Need-cast-t44
+cast-t44 c = omega (arith, within c 7 (omega arith))
 
-array-read-t44 : tie.Need-array-read-t44
-array-read-t44 c = search needs
+array-read-t47 : tie.Need-array-read-t47
+array-read-t47 c = search needs
 
-cast-t45 : tie.Need-cast-t45
-cast-t45 c = omega (arith, within c 8 (omega arith))
+cast-t48 : tie.Need-cast-t48
+cast-t48 c = omega (arith, within c 8 (omega arith))
 
 returns : tie.Need-returns
 returns c = refused _ _ (c .before .before .frame-of .ensures) _ (ap framingOf (c .enum-told .given .1))
@@ -156,24 +157,24 @@ shape-of-spec =
     enum-told-2
     enum-told-3
     enum-told-4
-    array-read-t12
-    cast-t13
-    array-read-t16
-    cast-t17
-    array-read-t20
-    cast-t21
-    array-read-t24
-    cast-t25
-    array-read-t28
-    cast-t29
-    array-read-t32
-    cast-t33
-    array-read-t36
-    cast-t37
-    array-read-t40
-    cast-t41
-    array-read-t44
-    cast-t45
+    array-read-t15
+    cast-t16
+    array-read-t19
+    cast-t20
+    array-read-t23
+    cast-t24
+    array-read-t27
+    cast-t28
+    array-read-t31
+    cast-t32
+    array-read-t35
+    cast-t36
+    array-read-t39
+    cast-t40
+    array-read-t43
+    cast-t44
+    array-read-t47
+    cast-t48
     returns
     returns-2
     returns-3

@@ -7,7 +7,7 @@ use Rattle.automata_files.specs.Places.{firstEdge, firstLiteral, firstClock, fi
 use Rattle.automata_files.proofs.Readings.{inside, most-locations, most-edges}
 use Rattle.automata.specs.Accepted.{FewRecords}
 use Rattle.automata.proofs.TableLaws.{few-records, source-in, literal-in, effect-in}
-use Rattle.automata.proofs.LinkLaws.{linkable, linked-before, vacant-behind, relinked}
+use Rattle.automata.proofs.LinkLaws.{apart-within, linkable, linked-before, vacant-behind, relinked}
 use borrow.Author.Needs.{needs}
 use Rattle.automata.proofs.index.index_of.Statement.{statement}
 use Rattle.automata.proofs.index.index_of.Tie as tie
@@ -92,13 +92,18 @@ returns c =
     let e : c .before .before .before .before .before .before .before .before .before .before .before .before .before .before .before .before .before .before .before .before .first-edge .result ≡ firstEdge sh = c .before .before .before .before .before .before .before .before .before .before .before .before .before .before .before .before .before .before .before .before .first-edge .ensures in
     let l : c .before .before .before .before .before .before .before .before .before .before .before .before .before .before .before .before .before .before .before .first-literal .result ≡ firstLiteral sh = c .before .before .before .before .before .before .before .before .before .before .before .before .before .before .before .before .before .before .before .first-literal .ensures in
     let u : c .before .before .before .before .before .before .before .before .before .before .before .before .before .before .before .before .before .before .first-update .result ≡ firstUpdate sh = c .before .before .before .before .before .before .before .before .before .before .before .before .before .before .before .before .before .before .first-update .ensures in
-    let r = c .before .before .before .before .before .before .before .before .before .before .before .before .before .before .before .before .before .first-reset .ensures in
-    record {
-      edges = relinked (firstEdge sh) (firstLiteral sh) (linked-before l3 (linked-before l2 (l1 .linked) (omega arith) (omega arith)) (omega arith) (omega arith)) e l;
-      literals = relinked (firstLiteral sh) (firstClock sh) (linked-before l3 (l2 .linked) (omega arith) (omega arith)) l (omega arith);
-      effects = relinked (firstUpdate sh) (firstReset sh + sh .resets) (l3 .linked) u (omega arith);
-      places = omega (arith, a .pre .1 .1, l1 .places, l2 .places, l3 .places);
-    }
+    let r = c .before .before .before .before .before .before .before .before .before .before .before .before .before .before .before .before .before .first-reset .ensures in (
+      record {
+        edges = relinked (firstEdge sh) (firstLiteral sh) (linked-before l3 (linked-before l2 (l1 .linked) (omega arith) (omega arith)) (omega arith) (omega arith)) e l;
+        literals = relinked (firstLiteral sh) (firstClock sh) (linked-before l3 (l2 .linked) (omega arith) (omega arith)) l (omega arith);
+        effects = relinked (firstUpdate sh) (firstReset sh + sh .resets) (l3 .linked) u (omega arith);
+        places = omega (arith, a .pre .1 .1, l1 .places, l2 .places, l3 .places);
+      },
+      λ n x.
+          l3 .other-nexts n (apart-within (firstUpdate sh) (firstReset sh + sh .resets) _ _ n (omega arith) (omega arith) (x .1))
+          ∙ l2 .other-nexts n (apart-within (firstEdge sh) (firstClock sh) _ _ n (omega arith) (omega arith) (x .0))
+          ∙ l1 .other-nexts n (apart-within (firstEdge sh) (firstClock sh) _ _ n (omega arith) (omega arith) (x .0)),
+    )
 
 pub index-of-spec : {M : Type 1} → statement M
 index-of-spec =

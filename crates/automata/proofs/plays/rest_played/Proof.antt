@@ -5,18 +5,18 @@ use Prim.Native.Nat.{ℕ, _+_, _-_, _≤_}
 use native.Mathlib.Omega.{arith}
 use borrow.Author.Needs.{needs}
 use denote.Ref.{now}
-use lib.ListN.{length, getD, length-replicate}
+use lib.ListN.{length, getD}
 use Rattle.records.specs.Refusal.{cycles-done}
 use Rattle.model.specs.Runs.{Run, cycle, give}
 use Rattle.model.specs.AutomataTable.{readAutomata}
 use Rattle.model.specs.Automata.{automata}
 use Rattle.automata_files.proofs.Readings.{length-initial}
+use Rattle.machines.specs.Answers.{reasonOf}
 use Rattle.machines.specs.Turns.{finish}
 use Rattle.machines.specs.Playing.{played}
 use Rattle.machines.proofs.Turning.{cycle-given}
 use Rattle.machines.proofs.Playing.{Went, went-none, went-more, went-stop, went-all}
-use Rattle.automata.specs.RunOf.{runIn, runOf, HasLimits}
-use Rattle.automata.specs.StepOf.{reasonOf}
+use Rattle.automata.specs.RunOf.{runIn, runOf}
 use Rattle.automata.specs.TurnOf.{cycledOf}
 use Rattle.automata.specs.PlayedOf.{Rested}
 use Rattle.automata.proofs.Turning.{ready}
@@ -25,35 +25,30 @@ use Rattle.automata.proofs.plays.rest_played.Statement.{statement}
 use Rattle.automata.proofs.plays.rest_played.Tie as tie
 
 abbrev Inv-loop : tie.InvT-loop
-Inv-loop s shape first next masks turn cap locations₀ clocks₀ variables₀ cycles₀ k₀ locations clocks variables cycles k =
+Inv-loop s shape first next turn cap masks locations₀ clocks₀ variables₀ cycles₀ k₀ locations clocks variables cycles k =
     Went (automata (readAutomata s)) masks (runIn locations₀ clocks₀ variables₀ 0 1 cycles₀) k (runIn locations clocks variables 0 1 cycles)
     × Rested (automata (readAutomata s)) (runIn locations clocks variables 0 1 cycles)
     × (k ≤ cycles)
-    × HasLimits s shape turn cap
 
 abbrev μ-loop : tie.MeasureT-loop
-μ-loop s shape first next masks turn cap locations₀ clocks₀ variables₀ cycles₀ k₀ locations clocks variables cycles k = length masks - k
+μ-loop s shape first next turn cap masks locations₀ clocks₀ variables₀ cycles₀ k₀ locations clocks variables cycles k = length masks - k
 
 -- the run that is given
 given-is : (c : tie.Start Inv-loop μ-loop) → let r = c .args .run in runOf r ≡ runIn (r .locations) (r .clocks) (r .variables) 0 1 (r .cycles)
-given-is c = let r = c .args .run in λ i. runIn (r .locations) (r .clocks) (r .variables) (c .pre .1 .events i) (c .pre .1 .position i) (r .cycles)
-
-limits-of-requires : tie.Need-limits-of-requires Inv-loop μ-loop
-limits-of-requires c κs = (c .before .before .before .before .before .pre .0 .accepted, (length-replicate {A = ℕ} 256 65535, length-replicate {A = ℕ} 256 65535))
+given-is c = let r = c .args .run in λ i. runIn (r .locations) (r .clocks) (r .variables) (c .pre .1 .1 .events i) (c .pre .1 .1 .position i) (r .cycles)
 
 loop-holds : tie.Need-loop-holds Inv-loop μ-loop
 loop-holds c =
-    let b = c .before .before .before .before .before .before .before .before .before in
+    let b = c .before .before .before .before .before .before in
     let r = b .args .run in (
       went-none (automata (readAutomata (now (b .args .s)))) (now (b .args .masks)) (runIn (r .locations) (r .clocks) (r .variables) 0 1 (r .cycles)),
-      subst (Rested (automata (readAutomata (now (b .args .s))))) (given-is b) (b .pre .1),
+      subst (Rested (automata (readAutomata (now (b .args .s))))) (given-is b) (b .pre .1 .1),
       omega arith,
-      c .before .before .before .limits-of .ensures,
     )
 
 few : (c : tie.At-loop Inv-loop μ-loop) → c .loop .cycles ≤ 1_000_000
 few c =
-    let b = c .before .before .before .before .before .before .before .before .before .before in
+    let b = c .before .before .before .before .before .before .before in
     let l = c .loop in
     rested-few (now (b .args .s)) (b .args .shape) (b .pre .0 .accepted) (runIn (l .locations) (l .clocks) (l .variables) 0 1 (l .cycles)) (l .inv .1)
 
@@ -65,7 +60,7 @@ rest-at-requires c κs = search needs
 
 returns : tie.Need-returns Inv-loop μ-loop
 returns c =
-    let b = c .before .before .before .before .before .before .before .before .before .before .before .before .before in
+    let b = c .before .before .before .before .before .before .before .before .before .before in
     let l = c .before .before .before .loop in
     let s = now (b .args .s) in
     let m = automata (readAutomata s) in
@@ -82,50 +77,50 @@ mul-cycle-in-place : tie.Need-mul-cycle-in-place Inv-loop μ-loop
 mul-cycle-in-place c = search needs
 
 shared-slice-read-cycle-in-place : tie.Need-shared-slice-read-cycle-in-place Inv-loop μ-loop
-shared-slice-read-cycle-in-place c = c .before .before .before .before .before .before .before .loop-test .taken
+shared-slice-read-cycle-in-place c = c .before .before .before .before .before .loop-test .taken
 
 cycle-in-place-requires : tie.Need-cycle-in-place-requires Inv-loop μ-loop
 cycle-in-place-requires c κs =
-    let b = c .before .before .before .before .before .before .before .before .before .before .before .before .before .before .before .before .before .before in
-    let l = c .before .before .before .before .before .before .before .before .loop in
+    let b = c .before .before .before .before .before .before .before .before .before .before .before .before .before in
+    let l = c .before .before .before .before .before .before .loop in
     let s = now (b .args .s) in
     let sh = b .args .shape in
     let ok = b .pre .0 .accepted in
     let q = runIn (l .locations) (l .clocks) (l .variables) 0 1 (l .cycles) in
     let given = getD (now (b .args .masks)) (l .k) 0 in
-    (b .pre .0, (ready s sh ok given q (rested-fine s sh ok given q (l .inv .1) (c .before .before .before .before .before .before .if1 .left)), (rested-clocks s sh ok q (l .inv .1), l .inv .3)))
+    (b .pre .0, (ready s sh ok given q (rested-fine s sh ok given q (l .inv .1) (c .before .before .before .before .if1 .left)), (rested-clocks s sh ok q (l .inv .1), b .pre .1 .0)))
 
 -- the cycle of the present run, from its answer
 cycling : (c : tie.After-cycle-in-place Inv-loop μ-loop) →
-    let b = c .before .before .before .before .before .before .before .before .before .before .before .before .before .before .before .before .before .before .before in
-    let l = c .before .before .before .before .before .before .before .before .before .loop in
+    let b = c .before .before .before .before .before .before .before .before .before .before .before .before .before .before in
+    let l = c .before .before .before .before .before .before .before .loop in
     let x = c .cycle-in-place in
     cycle (automata (readAutomata (now (b .args .s)))) (getD (now (b .args .masks)) (l .k) 0) (runIn (l .locations) (l .clocks) (l .variables) 0 1 (l .cycles))
     ≡ finish (cycledOf (x .result) (runIn (x .last .1 .1 .1 .1 .1 .1 .0) (x .last .1 .1 .1 .1 .1 .1 .1 .0) (x .last .1 .1 .1 .1 .1 .1 .1 .1 .0) 0 1 (l .cycles + 1)))
 cycling c =
-    let b = c .before .before .before .before .before .before .before .before .before .before .before .before .before .before .before .before .before .before .before in
-    let l = c .before .before .before .before .before .before .before .before .before .loop in
+    let b = c .before .before .before .before .before .before .before .before .before .before .before .before .before .before in
+    let l = c .before .before .before .before .before .before .before .loop in
     let s = now (b .args .s) in
     let sh = b .args .shape in
     let ok = b .pre .0 .accepted in
     let q = runIn (l .locations) (l .clocks) (l .variables) 0 1 (l .cycles) in
     let given = getD (now (b .args .masks)) (l .k) 0 in
-    cycle-given (automata (readAutomata s)) (sh .automata) (length-initial s sh (ok .shape)) given q (give given q) (rested-fine s sh ok given q (l .inv .1) (c .before .before .before .before .before .before .before .if1 .left)) refl
+    cycle-given (automata (readAutomata s)) (sh .automata) (length-initial s sh (ok .shape)) given q (give given q) (rested-fine s sh ok given q (l .inv .1) (c .before .before .before .before .before .if1 .left)) refl
     ∙ ap finish (sym (c .cycle-in-place .ensures .0))
 
 enum-told : tie.Need-enum-told Inv-loop μ-loop
 enum-told c = search needs
 
 cast-rest-at-2 : tie.Need-cast-rest-at-2 Inv-loop μ-loop
-cast-rest-at-2 c = omega (arith, few (c .before .before .before .before .before .before .before .before .before .before .before), c .before .before .before .before .before .before .before .before .before .before .before .loop .inv .2)
+cast-rest-at-2 c = omega (arith, few (c .before .before .before .before .before .before .before .before .before), c .before .before .before .before .before .before .before .before .before .loop .inv .2)
 
 rest-at-requires-2 : tie.Need-rest-at-requires-2 Inv-loop μ-loop
 rest-at-requires-2 c κs = search needs
 
 returns-2 : tie.Need-returns-2 Inv-loop μ-loop
 returns-2 c =
-    let b = c .before .before .before .before .before .before .before .before .before .before .before .before .before .before .before .before .before .before .before .before .before .before in
-    let l = c .before .before .before .before .before .before .before .before .before .before .before .before .loop in
+    let b = c .before .before .before .before .before .before .before .before .before .before .before .before .before .before .before .before .before in
+    let l = c .before .before .before .before .before .before .before .before .before .before .loop in
     let t = c .before .before .before in
     let x = t .cycle-in-place in
     let g = c .before .enum-told .given in
@@ -136,25 +131,25 @@ returns-2 c =
     let after = runIn (x .last .1 .1 .1 .1 .1 .1 .0) (x .last .1 .1 .1 .1 .1 .1 .1 .0) (x .last .1 .1 .1 .1 .1 .1 .1 .1 .0) 0 1 (l .cycles + 1) in
     rest-of _ _
     (ap (played m (now (b .args .masks))) (given-is b)
-    ∙ went-stop m (now (b .args .masks)) r₀ (l .k) q (reasonOf (g .0 .0)) (c .before .before .before .before .before .before .before .before .before .before .before .loop-test .taken) (l .inv .0) (cycling t ∙ ap (λ o. finish (cycledOf o after)) (g .1)))
-    _ _ (c .rest-at2 .ensures .0) (c .rest-at2 .ensures .1 ∙ ap (λ f. f 0 1 (l .cycles)) (x .ensures .1 (g .0 .0) (g .1))) (omega (arith, few (c .before .before .before .before .before .before .before .before .before .before .before .before), l .inv .2))
+    ∙ went-stop m (now (b .args .masks)) r₀ (l .k) q (reasonOf (g .0 .0)) (c .before .before .before .before .before .before .before .before .before .loop-test .taken) (l .inv .0) (cycling t ∙ ap (λ o. finish (cycledOf o after)) (g .1)))
+    _ _ (c .rest-at2 .ensures .0) (c .rest-at2 .ensures .1 ∙ ap (λ f. f 0 1 (l .cycles)) (x .ensures .1 (g .0 .0) (g .1))) (omega (arith, few (c .before .before .before .before .before .before .before .before .before .before), l .inv .2))
 
 enum-told-2 : tie.Need-enum-told-2 Inv-loop μ-loop
 enum-told-2 c = search needs
 
 add-cycles : tie.Need-add-cycles Inv-loop μ-loop
-add-cycles c = omega (arith, few (c .before .before .before .before .before .before .before .before .before .before .before))
+add-cycles c = omega (arith, few (c .before .before .before .before .before .before .before .before .before))
 
 add-k : tie.Need-add-k Inv-loop μ-loop
-add-k c = omega (arith, few (c .before .before .before .before .before .before .before .before .before .before .before), c .before .before .before .before .before .before .before .before .before .before .before .loop .inv .2)
+add-k c = omega (arith, few (c .before .before .before .before .before .before .before .before .before), c .before .before .before .before .before .before .before .before .before .loop .inv .2)
 
 loop-less : tie.Need-loop-less Inv-loop μ-loop
-loop-less c = omega (arith, c .before .before .before .before .before .before .before .before .before .before .loop-test .taken)
+loop-less c = omega (arith, c .before .before .before .before .before .before .before .before .loop-test .taken)
 
 loop-again : tie.Need-loop-again Inv-loop μ-loop
 loop-again c =
-    let b = c .before .before .before .before .before .before .before .before .before .before .before .before .before .before .before .before .before .before .before .before .before in
-    let l = c .before .before .before .before .before .before .before .before .before .before .before .loop in
+    let b = c .before .before .before .before .before .before .before .before .before .before .before .before .before .before .before .before in
+    let l = c .before .before .before .before .before .before .before .before .before .loop in
     let t = c .before .before in
     let x = t .cycle-in-place in
     let s = now (b .args .s) in
@@ -164,10 +159,9 @@ loop-again c =
     let q = runIn (l .locations) (l .clocks) (l .variables) 0 1 (l .cycles) in
     let after = runIn (x .last .1 .1 .1 .1 .1 .1 .0) (x .last .1 .1 .1 .1 .1 .1 .1 .0) (x .last .1 .1 .1 .1 .1 .1 .1 .1 .0) 0 1 (l .cycles + 1) in
     let done = cycling t ∙ ap (λ o. finish (cycledOf o after)) (c .enum-told2 .given .1) in (
-      went-more m (now (b .args .masks)) r₀ (l .k) q after (c .before .before .before .before .before .before .before .before .before .before .loop-test .taken) (l .inv .0) done,
+      went-more m (now (b .args .masks)) r₀ (l .k) q after (c .before .before .before .before .before .before .before .before .loop-test .taken) (l .inv .0) done,
       rested-next s (b .args .shape) (b .pre .0 .accepted) (getD (now (b .args .masks)) (l .k) 0) q after done .0,
       omega (arith, l .inv .2),
-      l .inv .3,
     )
 
 cast-rest-at-3 : tie.Need-cast-rest-at-3 Inv-loop μ-loop
@@ -178,7 +172,7 @@ rest-at-requires-3 c κs = search needs
 
 returns-3 : tie.Need-returns-3 Inv-loop μ-loop
 returns-3 c =
-    let b = c .before .before .before .before .before .before .before .before .before .before .before .before in
+    let b = c .before .before .before .before .before .before .before .before .before in
     let l = c .before .before .loop in
     let m = automata (readAutomata (now (b .args .s))) in
     let r = b .args .run in
@@ -194,7 +188,6 @@ rest-played-spec =
     (tie.spec
     Inv-loop
     μ-loop
-    limits-of-requires
     loop-holds
     cast-rest-at
     rest-at-requires

@@ -1,18 +1,15 @@
 -- `runs::limits_of` meets its contract: the invariant is that the limits of the clocks before k are there. Assumes nothing.
-use mathlib.Core.Path.{_≡_, ap, _∙_, subst}
-use mathlib.Core.Bool.{cond}
+use mathlib.Core.Path.{_≡_, _∙_, subst}
 use mathlib.Core.List.{List}
 use Prim.Native.Nat.{ℕ, _-_, _≤_}
 use native.Mathlib.Omega.{arith}
 use borrow.Author.Needs.{needs}
-use borrow.Author.Tests.{lt-ltb}
 use denote.Ref.{now}
-use lib.ListN.{getD}
 use Rattle.automata_files.specs.declared.Shape.{Shape}
 use Rattle.automata_files.specs.Places.{clockAt}
 use Rattle.automata_files.proofs.Readings.{most-clocks}
 use Rattle.automata_files.proofs.Sound.{ticks-known}
-use Rattle.machines.proofs.Filled.{Filled, filled-none, filled-more}
+use Rattle.machines.proofs.Filled.{Filled, filled-none, filled-more, filled-mapped}
 use Rattle.automata.specs.RunOf.{turnFor, capFor}
 use Rattle.automata.proofs.runs.limits_of.Statement.{statement}
 use Rattle.automata.proofs.runs.limits_of.Tie as tie
@@ -97,11 +94,10 @@ returns : tie.Need-returns Inv-loop μ-loop
 returns c =
     let a = c .before .before .before .before .args in
     let l = c .before .before .loop in
-    let end : l .k ≡ a .shape .clocks = omega (arith, l .inv .0, c .if1 .left) in
-    record {
-      turns = λ k h. l .inv .1 .1 k ∙ ap (λ t. cond t (turns (now (a .s)) (a .shape) k) (getD (now (a .turn)) k 0)) (lt-ltb k (l .k) (omega (arith, h, end)));
-      caps = λ k h. l .inv .2 .1 k ∙ ap (λ t. cond t (caps (now (a .s)) (a .shape) k) (getD (now (a .cap)) k 0)) (lt-ltb k (l .k) (omega (arith, h, end)));
-    }
+    let end : l .k ≡ a .shape .clocks = omega (arith, l .inv .0, c .if1 .left) in (
+      filled-mapped (λ k x. turns (now (a .s)) (a .shape) k) (a .shape .clocks) (now (a .turn)) (l .turn) (subst (Filled (turns (now (a .s)) (a .shape)) 0 (now (a .turn)) (l .turn)) end (l .inv .1)),
+      filled-mapped (λ k x. caps (now (a .s)) (a .shape) k) (a .shape .clocks) (now (a .cap)) (l .cap) (subst (Filled (caps (now (a .s)) (a .shape)) 0 (now (a .cap)) (l .cap)) end (l .inv .2)),
+    )
 
 pub limits-of-spec : {M : Type 1} → statement M
 limits-of-spec =

@@ -6,8 +6,9 @@ use borrow.Author.Needs.{needs}
 use denote.Ref.{now}
 use Rattle.model.specs.AutomataTable.{readAutomata}
 use Rattle.automata_files.proofs.Readings.{most-automata}
+use Rattle.machines.specs.Answers.{reasonOf}
 use Rattle.automata.specs.RunOf.{runIn}
-use Rattle.automata.specs.StepOf.{reasonOf, choiceOf, ChoiceIn}
+use Rattle.automata.specs.StepOf.{choiceOf, ChoiceIn}
 use Rattle.automata.proofs.StepLaws.{step-fault, step-takes}
 use Rattle.automata.proofs.steps.edge_step.Statement.{statement}
 use Rattle.automata.proofs.steps.edge_step.Tie as tie
@@ -53,7 +54,7 @@ returns-2 c =
       λ p q.
           step-fault (readAutomata (now (x .s))) (x .automaton) (runIn (now (x .locations)) (now (x .clocks)) (now (x .vars)) (x .events) p q) (reasonOf (w .0 .0))
           (ap choiceOf (sym (w .1)) ∙ c .before .before .before .open-edge .ensures .0),
-      refl,
+      (refl, (refl, refl)),
     )
 
 pub edge-step-spec : {M : Type 1} → statement M

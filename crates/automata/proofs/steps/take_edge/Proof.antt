@@ -15,7 +15,8 @@ use Rattle.model.specs.AutomataTable.{readAutomata}
 use Rattle.automata_files.specs.Places.{firstUpdate, firstReset, updateIn}
 use Rattle.automata_files.proofs.Readings.{most-edges, edge-is}
 use Rattle.machines.specs.Chains.{earliest}
-use Rattle.machines.specs.Worlds.{reasonOf, worldIn, worldAfter}
+use Rattle.machines.specs.Answers.{reasonOf}
+use Rattle.machines.specs.Worlds.{worldIn, worldAfter}
 use Rattle.automata.specs.Index.{ownerIn, owned}
 use Rattle.automata.specs.RunOf.{runIn}
 use Rattle.automata.proofs.Chained.{Walk, walk-from, walk-at, walk-to, walk-ends, walk-done, upTo, Ahead, ahead-first, ahead-second, rises}
@@ -126,26 +127,22 @@ do-update-requires c κs = let p = place (c .before) in (start (c .before) .pre 
 enum-known-w : tie.Need-enum-known-w Inv-loop μ-loop
 enum-known-w c = search needs
 
-update-fault-requires : tie.Need-update-fault-requires Inv-loop μ-loop
-update-fault-requires c κs = search needs
-
 returns : tie.Need-returns Inv-loop μ-loop
 returns c =
-    let j = c .before .before .before .before in
+    let j = c .before .before .before in
     let i = j .before .before in
     let x = start i .args in
     let l = i .before .loop in
-    let g = c .before .before .w .given in
+    let g = c .before .w .given in
     let w = reasonOf (g .0 .0) in (
       λ p q.
-          ap fault (c .update-fault .ensures)
-          ∙ take-fault (readAutomata (now (x .s))) (x .automaton) (runIn (now (x .locations)) (now (x .clocks)) (now (x .vars)) (x .events) p q) (x .e) w
+          take-fault (readAutomata (now (x .s))) (x .automaton) (runIn (now (x .locations)) (now (x .clocks)) (now (x .vars)) (x .events) p q) (x .e) w
           (ap (λ f. f p q)
           (sym
           (walk-ends (few-updates (start i)) (walk i) (some-record i) (λ y z. fault w)
           (do-fault (readAutomata (now (x .s)) .nodes) (readAutomata (now (x .s)) .variables) (λ m. updateIn (now (x .s)) m .1) (l .n) (worldIn (l .vars) (l .raised)) w
           (λ y z. ap (λ d. worldAfter d (j .do-update .last .1 .1 .1 .0) y z) (sym (g .1)) ∙ j .do-update .ensures y z))))),
-      refl,
+      (refl, (refl, refl)),
     )
 
 enum-known-x : tie.Need-enum-known-x Inv-loop μ-loop
@@ -229,7 +226,7 @@ returns-2 c =
           ∙ do-none (readAutomata (now (x .s)) .nodes) (readAutomata (now (x .s)) .variables) (λ m. updateIn (now (x .s)) m .1) (worldIn (l .vars) (l .raised)))))
           (c .target-of .result) (c .target-of .ensures ∙ sym (ap (λ u. u .target) (edge-is (now (x .s)) (x .shape) (a .pre .0 .shape) (x .e) (a .pre .3))))
           (k .last .1 .1 .1 .1 .1 .0) (k .ensures) _ refl,
-      ap length (k .ensures) ∙ length-reset (of (x .e) (readAutomata (now (x .s)) .resets)) (now (x .clocks)),
+      (ap length (k .ensures) ∙ length-reset (of (x .e) (readAutomata (now (x .s)) .resets)) (now (x .clocks)), tt),
     )
 
 pub take-edge-spec : {M : Type 1} → statement M
@@ -246,7 +243,6 @@ take-edge-spec =
     loop-holds
     do-update-requires
     enum-known-w
-    update-fault-requires
     returns
     enum-known-x
     cast-n-2

@@ -1,19 +1,34 @@
--- `turns::turn_of` meets its contract. Assumes nothing.
-use mathlib.Core.Path.{ap, _∙_}
-use Rattle.model.specs.Outcome.{settled}
-use Rattle.automata.specs.RunOf.{runOf}
+-- `turns::turn_of` meets its contract: the index has room for the table. Assumes nothing.
 use borrow.Author.Needs.{needs}
+use Rattle.automata.proofs.TableLaws.{room-short, room-long}
 use Rattle.automata.proofs.turns.turn_of.Statement.{statement}
 use Rattle.automata.proofs.turns.turn_of.Tie as tie
 
-turn-places-requires : tie.Need-turn-places-requires
-turn-places-requires c κs = search needs
+slice-aggregate-turn-indexed : tie.Need-slice-aggregate-turn-indexed
+slice-aggregate-turn-indexed c = search needs
 
-settle-turn-requires : tie.Need-settle-turn-requires
-settle-turn-requires c κs = search needs
+turn-indexed-requires : tie.Need-turn-indexed-requires
+turn-indexed-requires c κs = let b = c .before .before .before in (b .pre, room-short _ _ (b .pre .shape) (c .before .if1 .taken))
+
+slice-aggregate-turn-indexed-2 : tie.Need-slice-aggregate-turn-indexed-2
+slice-aggregate-turn-indexed-2 c = search needs
+
+turn-indexed-requires-2 : tie.Need-turn-indexed-requires-2
+turn-indexed-requires-2 c κs = let b = c .before .before .before in (b .pre, room-long _ _ (b .pre .shape))
 
 returns : tie.Need-returns
-returns c = c .settle-turn .ensures ∙ ap (settled (runOf (c .before .before .before .before .before .before .before .before .before .before .before .before .before .before .before .before .args .run))) (c .before .before .before .before .turn-places .ensures)
+returns c = search needs
+
+returns-2 : tie.Need-returns-2
+returns-2 c = search needs
 
 pub turn-of-spec : {M : Type 1} → statement M
-turn-of-spec = tie.close (tie.spec turn-places-requires settle-turn-requires returns)
+turn-of-spec =
+    tie.close
+    (tie.spec
+    slice-aggregate-turn-indexed
+    turn-indexed-requires
+    slice-aggregate-turn-indexed-2
+    turn-indexed-requires-2
+    returns
+    returns-2)

@@ -1,0 +1,34 @@
+-- `cycles::cycle_by_turns` meets its contract: the index has room for the table. Assumes nothing.
+use borrow.Author.Needs.{needs}
+use Rattle.automata.proofs.TableLaws.{room-short, room-long}
+use Rattle.automata.proofs.cycles.cycle_by_turns.Statement.{statement}
+use Rattle.automata.proofs.cycles.cycle_by_turns.Tie as tie
+
+slice-aggregate-cycle-indexed : tie.Need-slice-aggregate-cycle-indexed
+slice-aggregate-cycle-indexed c = search needs
+
+cycle-indexed-requires : tie.Need-cycle-indexed-requires
+cycle-indexed-requires c κs = let b = c .before .before .before in (b .pre, room-short _ _ (b .pre .shape) (c .before .if1 .taken))
+
+slice-aggregate-cycle-indexed-2 : tie.Need-slice-aggregate-cycle-indexed-2
+slice-aggregate-cycle-indexed-2 c = search needs
+
+cycle-indexed-requires-2 : tie.Need-cycle-indexed-requires-2
+cycle-indexed-requires-2 c κs = let b = c .before .before .before in (b .pre, room-long _ _ (b .pre .shape))
+
+returns : tie.Need-returns
+returns c = search needs
+
+returns-2 : tie.Need-returns-2
+returns-2 c = search needs
+
+pub cycle-by-turns-spec : {M : Type 1} → statement M
+cycle-by-turns-spec =
+    tie.close
+    (tie.spec
+    slice-aggregate-cycle-indexed
+    cycle-indexed-requires
+    slice-aggregate-cycle-indexed-2
+    cycle-indexed-requires-2
+    returns
+    returns-2)

@@ -1,0 +1,300 @@
+// Cycles of automata: by turns, one call after the other; and in place, for many cycles.
+ghost use mathlib.Core.Path.{_≡_};
+ghost use Prim.Native.Nat.{ℕ, _+_, _-_};
+ghost use lib.ListN.{length};
+ghost use Rattle.model.specs.Outcome.{settled};
+ghost use Rattle.model.specs.Runs.{cycle as model-cycle};
+ghost use Rattle.model.specs.AutomataTable.{readAutomata};
+ghost use Rattle.model.specs.Automata.{automata as machine};
+ghost use Rattle.machines.specs.Turns.{after};
+ghost use Rattle.automata.specs.Accepted.{Accepted};
+ghost use Rattle.automata.specs.Index.{RoomFor};
+ghost use Rattle.automata.specs.RunOf.{runIn, runOf, Sized, HasLimits};
+ghost use Rattle.automata.specs.TurnOf.{calledOf, Known, Ready, goneOf, GoneLow, cycledOf, endedOf};
+use super::index::index_of;
+use super::runs::Run;
+use super::runs::before_turn;
+use super::runs::events_given;
+use super::runs::grow;
+use super::steps::Went;
+use super::steps::edge_step;
+use super::turns::turn;
+use automata_files::Shape;
+use machines::answers::Answer;
+use machines::answers::Ending;
+use machines::answers::Reason;
+use machines::checks::Before;
+
+// The answer of a call that is done or not, and the run after it.
+pub struct Called {
+    pub answer: Ending,
+    pub run: Run,
+}
+
+// A cycle is its turns, one call after the other, up to time's; its events are given to the first. If a turn faults or is refused, the run is as it was.
+fn turns_called(
+    s: &[u8],
+    shape: Shape,
+    first: &[u16; 896],
+    next: &[u16],
+    run: Run,
+    events: u32,
+) -> Called
+    requires { ⌜ Known (now s) shape (now first) (now next) ⌝ }
+    ensures { λ r. ⌜ calledOf r ≡ settled (runOf run) (model-cycle (machine (readAutomata (now (s .entry)))) events (runOf run)) ⌝ }
+{
+    let mut present = run;
+    let mut given = events;
+    loop {
+        let turned = turn(s, shape, first, next, present, given);
+        let after = turned.run;
+        let answer = turned.answer;
+        match answer {
+            Answer::Taken(_) => {
+                present = after;
+                given = 0;
+            }
+            Answer::Idle => {
+                present = after;
+                given = 0;
+            }
+            Answer::Time => {
+                return Called {
+                    answer: Ending::Done,
+                    run: after,
+                };
+            }
+            Answer::Fault(w) => {
+                return Called {
+                    answer: Ending::Fault(w),
+                    run,
+                };
+            }
+            Answer::Refused(w) => {
+                return Called {
+                    answer: Ending::Refused(w),
+                    run,
+                };
+            }
+        }
+    }
+}
+
+// The same, with the index in what is lent, which names nothing yet.
+fn cycle_indexed(s: &[u8], shape: Shape, next: &mut [u16], run: Run, events: u32) -> Called
+    requires { ⌜ Accepted (now s) shape ⌝ }
+    requires { ⌜ RoomFor shape (now next) ⌝ }
+    ensures { λ r. ⌜ calledOf r ≡ settled (runOf run) (model-cycle (machine (readAutomata (now (s .entry)))) events (runOf run)) ⌝ }
+{
+    let mut first = [65535u16; 896];
+    index_of(s, shape, &mut first, next);
+    turns_called(s, shape, &first, next, run, events)
+}
+
+// A cycle of an accepted table: all its turns, or none. The index is that of a turn.
+pub fn cycle_by_turns(s: &[u8], shape: Shape, run: Run, events: u32) -> Called
+    requires { ⌜ Accepted (now s) shape ⌝ }
+    ensures { λ r. ⌜ calledOf r ≡ settled (runOf run) (model-cycle (machine (readAutomata (now (s .entry)))) events (runOf run)) ⌝ }
+{
+    if s.len() <= 16384 {
+        let mut next = [65535u16; 1024];
+        cycle_indexed(s, shape, &mut next, run, events)
+    } else {
+        let mut next = [14536u16; 14536];
+        cycle_indexed(s, shape, &mut next, run, events)
+    }
+}
+
+// What turns in place come to: all were taken, or why one was not.
+pub enum Gone {
+    All,
+    Fault(Reason),
+}
+
+// The automata's turns of a cycle, in place, from the present position on.
+fn automata_taken(
+    s: &[u8],
+    shape: Shape,
+    first: &[u16; 896],
+    next: &[u16],
+    locations: &mut [u16; 8],
+    clocks: &mut [u16; 256],
+    vars: &mut [i16; 64],
+    events: u32,
+    position: u32,
+    cycles: u32,
+) -> Gone
+    requires { ⌜ Known (now s) shape (now first) (now next) ⌝ }
+    requires { ⌜ Ready shape (runIn (now locations) (now clocks) (now vars) events position cycles) ⌝ }
+    ensures { λ r. ⌜ goneOf (machine (readAutomata (now (s .entry)))) r (runIn (now (locations .exit)) (now (clocks .exit)) (now (vars .exit)) 0 (shape .automata + 1) cycles) ≡ after (machine (readAutomata (now (s .entry)))) (shape .automata + 2 - position) (runIn (now (locations .entry)) (now (clocks .entry)) (now (vars .entry)) events position cycles) ⌝ }
+    ensures { λ r. ⌜ GoneLow (shape .clocks) (now (clocks .entry)) r (now (clocks .exit)) ⌝ }
+{
+    let mut present = events;
+    let mut automaton = (position - 1) as u16;
+    while automaton < shape.automata {
+        match edge_step(
+            s,
+            shape,
+            first,
+            next,
+            automaton,
+            locations,
+            clocks,
+            vars,
+            present,
+        ) {
+            Went::Fault(w) => return Gone::Fault(w),
+            Went::Taken(_, x) => {
+                present = x;
+                automaton += 1;
+            }
+        }
+    }
+    Gone::All
+}
+
+// A cycle in place, from the present position on. After a fault the places are of no use.
+fn cycle_gone(
+    s: &[u8],
+    shape: Shape,
+    first: &[u16; 896],
+    next: &[u16],
+    turn: &[u16; 256],
+    cap: &[u16; 256],
+    locations: &mut [u16; 8],
+    clocks: &mut [u16; 256],
+    vars: &mut [i16; 64],
+    events: u32,
+    position: u32,
+    cycles: u32,
+) -> Gone
+    requires { ⌜ Known (now s) shape (now first) (now next) ⌝ }
+    requires { ⌜ Ready shape (runIn (now locations) (now clocks) (now vars) events position cycles) ⌝ }
+    requires { ⌜ length (now clocks) ≡ 256 ⌝ }
+    requires { ⌜ HasLimits (now s) shape (now turn) (now cap) ⌝ }
+    ensures { λ r. ⌜ cycledOf r (runIn (now (locations .exit)) (now (clocks .exit)) (now (vars .exit)) 0 1 (cycles + 1)) ≡ after (machine (readAutomata (now (s .entry)))) (shape .automata + 2 - position) (runIn (now (locations .entry)) (now (clocks .entry)) (now (vars .entry)) events position cycles) ⌝ }
+{
+    match automata_taken(
+        s,
+        shape,
+        first,
+        next,
+        locations,
+        clocks,
+        vars,
+        events,
+        position,
+        cycles,
+    ) {
+        Gone::Fault(w) => Gone::Fault(w),
+        Gone::All => {
+            grow(s, shape, turn, cap, clocks);
+            Gone::All
+        }
+    }
+}
+
+// A cycle in place, from the present position on: all its turns, or none.
+pub fn cycle_in_place(
+    s: &[u8],
+    shape: Shape,
+    first: &[u16; 896],
+    next: &[u16],
+    turn: &[u16; 256],
+    cap: &[u16; 256],
+    locations: &mut [u16; 8],
+    clocks: &mut [u16; 256],
+    vars: &mut [i16; 64],
+    events: u32,
+    position: u32,
+    cycles: u32,
+) -> Gone
+    requires { ⌜ Known (now s) shape (now first) (now next) ⌝ }
+    requires { ⌜ Ready shape (runIn (now locations) (now clocks) (now vars) events position cycles) ⌝ }
+    requires { ⌜ length (now clocks) ≡ 256 ⌝ }
+    requires { ⌜ HasLimits (now s) shape (now turn) (now cap) ⌝ }
+    ensures { λ r. ⌜ cycledOf r (runIn (now (locations .exit)) (now (clocks .exit)) (now (vars .exit)) 0 1 (cycles + 1)) ≡ after (machine (readAutomata (now (s .entry)))) (shape .automata + 2 - position) (runIn (now (locations .entry)) (now (clocks .entry)) (now (vars .entry)) events position cycles) ⌝ }
+    ensures { λ r. ⌜ ((w : Reason) → r ≡ Gone.Fault w → runIn (now (locations .exit)) (now (clocks .exit)) (now (vars .exit)) ≡ runIn (now (locations .entry)) (now (clocks .entry)) (now (vars .entry))) ⌝ }
+{
+    let locations_before = *locations;
+    let clocks_before = *clocks;
+    let vars_before = *vars;
+    match cycle_gone(
+        s,
+        shape,
+        first,
+        next,
+        turn,
+        cap,
+        locations,
+        clocks,
+        vars,
+        events,
+        position,
+        cycles,
+    ) {
+        Gone::Fault(w) => {
+            *locations = locations_before;
+            *clocks = clocks_before;
+            *vars = vars_before;
+            Gone::Fault(w)
+        }
+        Gone::All => Gone::All,
+    }
+}
+
+// A cycle of any run, in place, after the checks: all its turns, or none. After it there are no events, at position 1.
+pub fn cycle_checked(
+    s: &[u8],
+    shape: Shape,
+    first: &[u16; 896],
+    next: &[u16],
+    turn: &[u16; 256],
+    cap: &[u16; 256],
+    locations: &mut [u16; 8],
+    clocks: &mut [u16; 256],
+    vars: &mut [i16; 64],
+    present: u32,
+    position: u32,
+    cycles: u32,
+    events: u32,
+) -> Ending
+    requires { ⌜ Known (now s) shape (now first) (now next) ⌝ }
+    requires { ⌜ Sized (now locations) (now clocks) (now vars) ⌝ }
+    requires { ⌜ HasLimits (now s) shape (now turn) (now cap) ⌝ }
+    ensures { λ r. ⌜ endedOf r (runIn (now (locations .exit)) (now (clocks .exit)) (now (vars .exit)) 0 1 (cycles + 1)) ≡ model-cycle (machine (readAutomata (now (s .entry)))) events (runIn (now (locations .entry)) (now (clocks .entry)) (now (vars .entry)) present position cycles) ⌝ }
+{
+    match before_turn(
+        s,
+        shape,
+        locations,
+        clocks,
+        vars,
+        present,
+        position,
+        cycles,
+        events,
+    ) {
+        Before::Refused(w) => Ending::Refused(w),
+        Before::Fine => {
+            let given = events_given(events, position, present);
+            match cycle_in_place(
+                s,
+                shape,
+                first,
+                next,
+                turn,
+                cap,
+                locations,
+                clocks,
+                vars,
+                given,
+                position,
+                cycles,
+            ) {
+                Gone::Fault(w) => Ending::Fault(w),
+                Gone::All => Ending::Done,
+            }
+        }
+    }
+}
