@@ -1,68 +1,82 @@
--- `list::list` is safe: the first record of a kind is not after the present one. Assumes nothing.
-use Prim.Native.Nat.{_-_, _≤_}
-use borrow.Author.Needs.{needs}
 use Rattle.list.proofs.list.Statement.{statement}
 use Rattle.list.proofs.list.Tie as tie
+use Rattle.list.proofs.list.Reads as reads
+use Rattle.list.proofs.list.Lts as lts
+use Rattle.list.proofs.print_record.Reads as print-record-reads
 
 abbrev Inv-loop : tie.InvT-loop
-Inv-loop s kind₀ first₀ n₀ kind first n = (n ≤ 16384) × (first ≤ n)
+Inv-loop s counts₀ n₀ counts n = ?
 
 abbrev μ-loop : tie.MeasureT-loop
-μ-loop s kind₀ first₀ n₀ kind first n = 16384 - n
+μ-loop s counts₀ n₀ counts n = ?
 
+-- src/main.rt:92:5
 loop-holds : tie.Need-loop-holds Inv-loop μ-loop
-loop-holds c = search needs
+loop-holds c = ?
 
-cast-at : tie.Need-cast-at Inv-loop μ-loop
-cast-at c = search needs
-
-mul-at : tie.Need-mul-at Inv-loop μ-loop
-mul-at c = search needs
-
-add-end : tie.Need-add-end Inv-loop μ-loop
-add-end c = search needs
-
+-- src/main.rt:94:13
 returns : tie.Need-returns Inv-loop μ-loop
-returns c = search needs
+returns c = ?
 
-shared-slice-read-first-of : tie.Need-shared-slice-read-first-of Inv-loop μ-loop
-shared-slice-read-first-of c = search needs
+-- src/main.rt:96:22
+mul-kind : tie.Need-mul-kind Inv-loop μ-loop
+mul-kind c = ?
 
-first-of-requires : tie.Need-first-of-requires Inv-loop μ-loop
-first-of-requires c κs = search needs
-
+-- src/main.rt:96:20
 shared-slice-read-kind : tie.Need-shared-slice-read-kind Inv-loop μ-loop
-shared-slice-read-kind c = search needs
+shared-slice-read-kind c = ?
 
-sub-print-record : tie.Need-sub-print-record Inv-loop μ-loop
-sub-print-record c = search needs
+-- src/main.rt:96:20
+cast-kind : tie.Need-cast-kind Inv-loop μ-loop
+cast-kind c = ?
 
-sub-print-record-2 : tie.Need-sub-print-record-2 Inv-loop μ-loop
-sub-print-record-2 c = search needs
+-- src/main.rt:97:32
+mul-print-record : tie.Need-mul-print-record Inv-loop μ-loop
+mul-print-record c = ?
 
-part-print-record-start : tie.Need-part-print-record-start Inv-loop μ-loop
-part-print-record-start c = search needs
+-- src/main.rt:97:32
+array-read-print-record : tie.Need-array-read-print-record Inv-loop μ-loop
+array-read-print-record c = ?
 
-part-print-record-end : tie.Need-part-print-record-end Inv-loop μ-loop
-part-print-record-end c = search needs
-
+-- src/main.rt:97:13
 print-record-requires : tie.Need-print-record-requires Inv-loop μ-loop
-print-record-requires c κs = search needs
+print-record-requires c κs = ?
 
+-- src/main.rt:98:13
 returns-2 : tie.Need-returns-2 Inv-loop μ-loop
-returns-2 c = search needs
+returns-2 c = ?
 
+-- src/main.rt:100:9
+mul-counts : tie.Need-mul-counts Inv-loop μ-loop
+mul-counts c = ?
+
+-- src/main.rt:100:9
+array-read-counts : tie.Need-array-read-counts Inv-loop μ-loop
+array-read-counts c = ?
+
+-- src/main.rt:100:9
+add-counts : tie.Need-add-counts Inv-loop μ-loop
+add-counts c = ?
+
+-- src/main.rt:100:9
+array-write-counts : tie.Need-array-write-counts Inv-loop μ-loop
+array-write-counts c = ?
+
+-- src/main.rt:101:9
 add-n : tie.Need-add-n Inv-loop μ-loop
-add-n c = search needs
+add-n c = ?
 
+-- src/main.rt:92:5
 loop-less : tie.Need-loop-less Inv-loop μ-loop
-loop-less c = search needs
+loop-less c = ?
 
+-- src/main.rt:92:5
 loop-again : tie.Need-loop-again Inv-loop μ-loop
-loop-again c = search needs
+loop-again c = ?
 
+-- src/main.rt:89:1
 returns-3 : tie.Need-returns-3 Inv-loop μ-loop
-returns-3 c = search needs
+returns-3 c = ?
 
 pub list-spec : {M : Type 1} → statement M
 list-spec =
@@ -71,19 +85,18 @@ list-spec =
     Inv-loop
     μ-loop
     loop-holds
-    cast-at
-    mul-at
-    add-end
     returns
-    shared-slice-read-first-of
-    first-of-requires
+    mul-kind
     shared-slice-read-kind
-    sub-print-record
-    sub-print-record-2
-    part-print-record-start
-    part-print-record-end
+    cast-kind
+    mul-print-record
+    array-read-print-record
     print-record-requires
     returns-2
+    mul-counts
+    array-read-counts
+    add-counts
+    array-write-counts
     add-n
     loop-less
     loop-again

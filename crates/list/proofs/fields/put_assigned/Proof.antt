@@ -1,0 +1,36 @@
+-- `fields::put_assigned` meets its contract, by those of its calls. Assumes nothing.
+use mathlib.Core.Path.{refl}
+use native.Mathlib.Omega.{arith}
+use borrow.Author.Needs.{needs}
+use Rattle.list.proofs.Near.{near-then, near-as}
+use Rattle.list.proofs.fields.put_assigned.Statement.{statement}
+use Rattle.list.proofs.fields.put_assigned.Tie as tie
+
+slice-aggregate-put-named : tie.Need-slice-aggregate-put-named
+slice-aggregate-put-named c = search needs
+
+put-named-requires : tie.Need-put-named-requires
+put-named-requires c κs = search needs
+
+slice-aggregate-put-named-2 : tie.Need-slice-aggregate-put-named-2
+slice-aggregate-put-named-2 c = search needs
+
+put-named-requires-2 : tie.Need-put-named-requires-2
+put-named-requires-2 c κs = search needs
+
+same-length : tie.Need-same-length
+same-length c = search needs
+
+returns : tie.Need-returns
+returns c = near-as (near-then (c .before .before .before .before .before .before .before .put-named .ensures) (c .before .before .put-named2 .ensures)) refl (omega arith)
+
+pub put-assigned-spec : {M : Type 1} → statement M
+put-assigned-spec =
+    tie.close
+    (tie.spec
+    slice-aggregate-put-named
+    put-named-requires
+    slice-aggregate-put-named-2
+    put-named-requires-2
+    same-length
+    returns)
