@@ -1,4 +1,4 @@
--- Texts written one after the other, with how far they reach; and the entries of tables of codes. Assumes nothing.
+-- Texts written one after the other, with how far they reach. Assumes nothing.
 use mathlib.Core.Path.{_≡_, subst}
 use mathlib.Core.List.{List, _++_}
 use Prim.Native.Nat.{ℕ, _+_, _≤_}

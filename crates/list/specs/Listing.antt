@@ -13,10 +13,10 @@ use Rattle.list.specs.Parts.{variableText, nodeText}
 use Rattle.list.specs.Sets.{chartText, stateText, transitionText, actionText}
 use Rattle.list.specs.Tables.{automatonText, locationText, edgeText, literalText, clockText, updateText, resetText}
 
--- record r, the i-th of its kind
-abbrev pub recordText : ℕ → List ℕ → List ℕ
-recordText i r =
-    caseOf (kind r)
+-- by its kind, record r that is the i-th of its kind
+abbrev pub textBy : ℕ → ℕ → List ℕ → List ℕ
+textBy k i r =
+    caseOf k
     ((1, chartText i (two r 2))
     ∷ (2, stateText i (byte r 1))
     ∷ (3, transitionText i (readTransition r))
@@ -33,6 +33,9 @@ recordText i r =
     ∷ (40, updateText i (readUpdate r))
     ∷ [])
     (resetText i (readReset r))
+
+abbrev pub recordText : ℕ → List ℕ → List ℕ
+recordText i r = textBy (kind r) i r
 
 abbrev pub lineText : ℕ → List ℕ → List ℕ
 lineText i r = recordText i r ++ (feed ∷ [])

@@ -1,82 +1,79 @@
+-- `list::list` is safe, and gives each record its number: the counts are those of the records behind. Assumes nothing.
+use Prim.Native.Nat.{_*_, _-_, _≤_, _<_}
+use native.Mathlib.Omega.{arith}
+use borrow.Author.Needs.{needs}
+use Rattle.records.specs.Bytes.{byte}
+use Rattle.list.proofs.Counting.{Counted, counted-none, counted-more, number-le}
 use Rattle.list.proofs.list.Statement.{statement}
 use Rattle.list.proofs.list.Tie as tie
-use Rattle.list.proofs.list.Reads as reads
-use Rattle.list.proofs.list.Lts as lts
-use Rattle.list.proofs.print_record.Reads as print-record-reads
 
 abbrev Inv-loop : tie.InvT-loop
-Inv-loop s counts₀ n₀ counts n = ?
+Inv-loop s counts₀ n₀ counts n = (n ≤ 16384) × Counted s n counts
 
 abbrev μ-loop : tie.MeasureT-loop
-μ-loop s counts₀ n₀ counts n = ?
+μ-loop s counts₀ n₀ counts n = 16384 - n
 
--- src/main.rt:92:5
+-- a byte is below 256
+low : (c : tie.After-shared-slice-known2 Inv-loop μ-loop) → byte (c .before .before .before .before .before .args .s .now) (16 * c .before .before .before .loop .n) < 256
+low c = omega (arith, c .shared-slice-known2 .given (16 * c .before .before .before .loop .n))
+
 loop-holds : tie.Need-loop-holds Inv-loop μ-loop
-loop-holds c = ?
+loop-holds c = (omega arith, counted-none _)
 
--- src/main.rt:94:13
 returns : tie.Need-returns Inv-loop μ-loop
-returns c = ?
+returns c = search needs
 
--- src/main.rt:96:22
 mul-kind : tie.Need-mul-kind Inv-loop μ-loop
-mul-kind c = ?
+mul-kind c = search needs
 
--- src/main.rt:96:20
 shared-slice-read-kind : tie.Need-shared-slice-read-kind Inv-loop μ-loop
-shared-slice-read-kind c = ?
+shared-slice-read-kind c = search needs
 
--- src/main.rt:96:20
 cast-kind : tie.Need-cast-kind Inv-loop μ-loop
-cast-kind c = ?
+cast-kind c = omega (arith, low c)
 
--- src/main.rt:97:32
 mul-print-record : tie.Need-mul-print-record Inv-loop μ-loop
-mul-print-record c = ?
+mul-print-record c = omega (arith, low c)
 
--- src/main.rt:97:32
 array-read-print-record : tie.Need-array-read-print-record Inv-loop μ-loop
-array-read-print-record c = ?
+array-read-print-record c = low c
 
--- src/main.rt:97:13
 print-record-requires : tie.Need-print-record-requires Inv-loop μ-loop
-print-record-requires c κs = ?
+print-record-requires c κs =
+    let l = c .before .before .before .loop in
+    (omega arith, l .inv .1 .number (byte (c .before .before .before .before .before .args .s .now) (16 * l .n)) (low c))
 
--- src/main.rt:98:13
 returns-2 : tie.Need-returns-2 Inv-loop μ-loop
-returns-2 c = ?
+returns-2 c = search needs
 
--- src/main.rt:100:9
 mul-counts : tie.Need-mul-counts Inv-loop μ-loop
-mul-counts c = ?
+mul-counts c = omega (arith, low (c .before .before))
 
--- src/main.rt:100:9
 array-read-counts : tie.Need-array-read-counts Inv-loop μ-loop
-array-read-counts c = ?
+array-read-counts c = low (c .before .before)
 
--- src/main.rt:100:9
 add-counts : tie.Need-add-counts Inv-loop μ-loop
-add-counts c = ?
+add-counts c =
+    let l = c .before .before .before .before .before .loop in
+    let s = c .before .before .before .before .before .before .before .args .s .now in
+    omega (arith, l .inv .1 .number (byte s (16 * l .n)) (low (c .before .before)), number-le s (byte s (16 * l .n)) (l .n))
 
--- src/main.rt:100:9
 array-write-counts : tie.Need-array-write-counts Inv-loop μ-loop
-array-write-counts c = ?
+array-write-counts c = low (c .before .before)
 
--- src/main.rt:101:9
 add-n : tie.Need-add-n Inv-loop μ-loop
-add-n c = ?
+add-n c = search needs
 
--- src/main.rt:92:5
 loop-less : tie.Need-loop-less Inv-loop μ-loop
-loop-less c = ?
+loop-less c = search needs
 
--- src/main.rt:92:5
 loop-again : tie.Need-loop-again Inv-loop μ-loop
-loop-again c = ?
+loop-again c =
+    let l = c .before .before .before .before .before .loop in
+    (omega arith, counted-more (c .before .before .before .before .before .before .before .args .s .now) (l .n) (l .counts) (omega arith) (low (c .before .before)) (l .inv .1))
 
--- src/main.rt:89:1
 returns-3 : tie.Need-returns-3 Inv-loop μ-loop
-returns-3 c = ?
+returns-3 c = search needs
 
 pub list-spec : {M : Type 1} → statement M
 list-spec =

@@ -1,9 +1,15 @@
--- `fields::put_operator` meets its contract, by that of the call for each case. Assumes nothing.
+-- `fields::put_operator` meets its contract, by that of the call for each case; a constant is its bits read back. Assumes nothing.
 use mathlib.Core.Path.{sym, ap, _∙_}
+use Prim.Native.Nat.{_^_}
 use native.Mathlib.Omega.{arith}
 use borrow.Author.Needs.{needs}
+use mir.Val.{SFits}
+use mir.Syntax.{w32}
+use mir.Facts.{toZ-ofZ}
+use Rattle.records.proofs.RoundTrips.{signed-unsigned}
+use Rattle.records.specs.Bytes.{signed, unsigned}
 use Rattle.expressions.specs.Answers.{nodeFor}
-use Rattle.list.specs.Parts.{operatorText}
+use Rattle.list.specs.Parts.{namedSigned, operatorText}
 use Rattle.list.proofs.Near.{near-as}
 use Rattle.list.proofs.fields.put_operator.Statement.{statement}
 use Rattle.list.proofs.fields.put_operator.Tie as tie
@@ -94,8 +100,11 @@ same-length c = search needs
 
 returns : tie.Need-returns
 returns c =
-    near-as (c .before .before .put-signed .ensures) ((let told = c .before .before .before .before .before .before .before .node in let u = c .before .before .before .unsigned32 in let kt = c .before .before .before .before .before .before .known-told in ?)
-    ∙ ap (λ x. operatorText (nodeFor x)) (sym (c .before .before .before .before .before .before .before .node .given .1))) (omega arith)
+    let z = c .before .before .before .before .before .before .before .node .given .0 .0 in
+    let fits : SFits w32 z = record { sfits = c .before .before .before .before .before .before .known-told .given .0 .1 } in
+    near-as (c .before .before .put-signed .ensures)
+    (ap (namedSigned ": constant ") (ap (signed (2 ^ 31)) (c .before .before .before .unsigned32 .ensures ∙ ap (unsigned (2 ^ 31)) (toZ-ofZ fits)) ∙ signed-unsigned (2 ^ 31) z (fits .sfits)) ∙ ap (λ x. operatorText (nodeFor x)) (sym (c .before .before .before .before .before .before .before .node .given .1)))
+    (omega arith)
 
 same-length-2 : tie.Need-same-length-2
 same-length-2 c = search needs

@@ -5,8 +5,8 @@ use native.Mathlib.Omega.{arith}
 use borrow.Author.Needs.{needs}
 use Rattle.records.specs.Bytes.{byte, two}
 use Rattle.model.specs.ChartSet.{readDeed}
-use Rattle.list.specs.Parts.{named, deedText}
 use Rattle.list.specs.Sets.{ownerText}
+use Rattle.list.specs.Parts.{named, deedText}
 use Rattle.list.proofs.Near.{near-then, near-as}
 use Rattle.list.proofs.sets.put_action.Statement.{statement}
 use Rattle.list.proofs.sets.put_action.Tie as tie

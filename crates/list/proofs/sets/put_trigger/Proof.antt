@@ -2,10 +2,10 @@
 use mathlib.Core.Path.{_≡_, refl, sym, ap, _∙_}
 use Prim.Native.Nat.{ℕ}
 use native.Mathlib.Omega.{arith}
-use borrow.Author.Needs.{needs}
 use borrow.Author.Tests.{ne-eqb}
-use Rattle.records.specs.Lists.{caseOf}
+use borrow.Author.Needs.{needs}
 use Rattle.records.specs.Bytes.{byte, four}
+use Rattle.records.specs.Lists.{caseOf}
 use Rattle.model.specs.ChartSet.{always}
 use Rattle.chart_files.specs.Places.{triggerBy}
 use Rattle.list.specs.Sets.{triggerText}

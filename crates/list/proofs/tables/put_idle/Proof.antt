@@ -1,11 +1,11 @@
 -- `tables::put_idle` meets its contract: nothing is written of an edge that does not idle. Assumes nothing.
 use mathlib.Core.Path.{sym, ap}
 use native.Mathlib.Omega.{arith}
-use borrow.Author.Needs.{needs}
 use borrow.Author.Tests.{eq-eqb, ne-eqb}
+use borrow.Author.Needs.{needs}
 use Rattle.records.proofs.Wrote.{nothing-wrote}
-use Rattle.list.specs.Tables.{idleText}
 use Rattle.list.specs.Parts.{WroteNear}
+use Rattle.list.specs.Tables.{idleText}
 use Rattle.list.proofs.Near.{near-as}
 use Rattle.list.proofs.tables.put_idle.Statement.{statement}
 use Rattle.list.proofs.tables.put_idle.Tie as tie

@@ -2,8 +2,8 @@
 use native.Mathlib.Omega.{arith}
 use borrow.Author.Needs.{needs}
 use lib.Dec.{eqb}
-use Rattle.model.specs.AutomataTable.{readLiteral}
 use Rattle.model.specs.ChartSet.{readGuard}
+use Rattle.model.specs.AutomataTable.{readLiteral}
 use Rattle.list.specs.Tables.{literalText}
 use Rattle.list.proofs.Near.{near-then, near-as}
 use Rattle.list.proofs.tables.put_literal.Statement.{statement}

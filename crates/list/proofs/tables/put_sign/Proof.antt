@@ -1,8 +1,8 @@
 -- `tables::put_sign` meets its contract, by that of the call for each case. Assumes nothing.
 use mathlib.Core.Path.{sym, ap}
 use native.Mathlib.Omega.{arith}
-use borrow.Author.Needs.{needs}
 use borrow.Author.Tests.{eq-eqb, ne-eqb}
+use borrow.Author.Needs.{needs}
 use Rattle.list.specs.Tables.{signText}
 use Rattle.list.proofs.Near.{near-as}
 use Rattle.list.proofs.tables.put_sign.Statement.{statement}

@@ -1,11 +1,11 @@
 -- `texts::put_twos` meets its contract: from half on, a number's magnitude is what its bits lack of twice the half. Assumes nothing.
+use mathlib.Core.List.{_∷_}
 use mathlib.Core.Bool.{cond}
 use mathlib.Core.Path.{_≡_, sym, ap, _∙_}
-use mathlib.Core.List.{_∷_}
 use Prim.Native.Nat.{ℕ, suc, _*_, _-_, _≤_, _<_}
 use native.Mathlib.Omega.{arith}
-use borrow.Author.Needs.{needs}
 use borrow.Author.Tests.{lt-ltb, le-ltb}
+use borrow.Author.Needs.{needs}
 use lib.IntN.{pos, negsuc}
 use Rattle.records.specs.Bytes.{signed}
 use Rattle.model.specs.Replay.{decimal, signedDecimal, minus}
