@@ -1,18 +1,18 @@
--- How many records of each kind stand before a record: none before the first, and one more of its kind behind each. Assumes nothing.
+-- How many records of each kind stand before a record: none before the first, one more of its kind behind each; and that this is its number. Assumes nothing.
 use mathlib.Core.Path.{_≡_, refl, sym, ap, _∙_}
 use mathlib.Core.Bool.{Bool, true, false, cond}
 use mathlib.Core.List.{List, [], _∷_, _++_}
-use Prim.Native.Nat.{ℕ, suc, _+_, _*_, _/_, _≤_, _<_}
+use Prim.Native.Nat.{ℕ, zero, suc, _+_, _*_, _/_, _≤_, _<_}
 use native.Mathlib.Nat.{add-zero}
 use native.Mathlib.Numerals.{add-one}
 use native.Mathlib.Omega.{arith}
-use borrow.Author.Tests.{eq-eqb, ne-eqb, eqb-true, eqb-false}
+use borrow.Author.Tests.{eq-eqb, eqb-true, eqb-false}
 use lib.Dec.{eqb}
 use lib.ListN.{length, getD, take, set, replicate, length-set, length-take, getD-replicate}
 use lib.Seq.{take-suc, getD-set-same, getD-set-other}
-use Rattle.records.specs.Lists.{count}
-use Rattle.records.specs.Bytes.{byte, records, kind}
-use Rattle.records.proofs.Records.{getD-records, length-records}
+use Rattle.records.specs.Lists.{keep, count}
+use Rattle.records.specs.Bytes.{byte, records, kind, ofKind}
+use Rattle.records.proofs.Records.{recordAt, getD-records, length-records}
 use Rattle.records.proofs.FramingLaws.{count-le, kind-record}
 use Rattle.chart_files.proofs.Numbers.{count-append}
 use Rattle.list.specs.Listing.{numberOf}
@@ -21,9 +21,6 @@ pub number-le : (s : List ℕ) (k n : ℕ) → numberOf s k n ≤ n
 number-le s k n = omega (arith, count-le (λ r. eqb (kind r) k) (take n (records s)), length-take n (records s))
 
 module _ (s : List ℕ) (k n : ℕ) (h : n < length s / 16) where
-  of-kind : List ℕ → Bool
-  of-kind r = eqb (kind r) k
-
   number-more : numberOf s k (n + 1) ≡ numberOf s k n + cond (eqb (byte s (16 * n)) k) 1 0
   unfolding count
   number-more =
@@ -33,7 +30,29 @@ module _ (s : List ℕ) (k n : ℕ) (h : n < length s / 16) where
       ∙ ap (λ r. numberOf s k n + cond (eqb (kind r) k) 1 0) (getD-records s n h)
       ∙ ap (λ b. numberOf s k n + cond (eqb b k) 1 0) (kind-record s n)
 
--- the array has the numbers of all kinds
+-- ---- the number is the record's index among those of its kind, by which the model reads and names it
+
+module _ {A : Type 0} (p : A → Bool) (d : A) where
+  kept-at : (xs : List A) (n : ℕ) → n < length xs → p (getD xs n d) ≡ true → getD (keep p xs) (count p (take n xs)) d ≡ getD xs n d
+  unfolding keep count
+  kept-at [] n h e = absurd (omega arith)
+  kept-at (x ∷ xs) zero h e = ap (λ b. getD (cond b (x ∷ keep p xs) (keep p xs)) 0 d) e
+  kept-at (x ∷ xs) (suc n) h e = go (p x) (kept-at xs n (omega arith) e)
+    where
+      go : (b : Bool) → getD (keep p xs) (count p (take n xs)) d ≡ getD xs n d →
+          getD (cond b (x ∷ keep p xs) (keep p xs)) (cond b (suc (count p (take n xs))) (count p (take n xs))) d ≡ getD xs n d
+      go true q = q
+      go false q = q
+
+pub number-names : (s : List ℕ) (n : ℕ) → n < length s / 16 → getD (ofKind (byte s (16 * n)) s) (numberOf s (byte s (16 * n)) n) [] ≡ recordAt s n
+number-names s n h =
+    kept-at (λ r. eqb (kind r) (byte s (16 * n))) [] (records s) n (omega (arith, length-records s))
+    (ap (λ r. eqb (kind r) (byte s (16 * n))) (getD-records s n h) ∙ eq-eqb (kind (recordAt s n)) (byte s (16 * n)) (kind-record s n))
+    ∙ getD-records s n h
+
+-- ---- in the code's array
+
+-- it has the numbers of all kinds
 pub record Counted (s : List ℕ) (n : ℕ) (counts : List ℕ) : Type 0 where
   pub places : length counts ≡ 256
   pub number : (k : ℕ) → k < 256 → getD counts k 0 ≡ numberOf s k n

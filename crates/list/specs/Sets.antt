@@ -22,11 +22,14 @@ triggerText (after ms) = measured ", after " ms " ms"
 triggerText (every ms) = measured ", every " ms " ms"
 
 -- 3
-abbrev pub endsText : ℕ → Transition → List ℕ
-endsText i t = named "transition " i ++ named ": state " (t .source) ++ named " to state " (t .target)
-
 abbrev pub transitionText : ℕ → Transition → List ℕ
-transitionText i t = endsText i t ++ named ", priority " (t .priority) ++ triggerText (t .trigger) ++ guardText (t .guard)
+transitionText i t =
+    named "transition " i
+    ++ named ": state " (t .source)
+    ++ named " to state " (t .target)
+    ++ named ", priority " (t .priority)
+    ++ triggerText (t .trigger)
+    ++ guardText (t .guard)
 
 -- "1 place: 1 entry, 2 exit, 3 transition; 2-3 owner"
 abbrev pub ownerText : ℕ → ℕ → List ℕ

@@ -5,7 +5,6 @@ ghost use lib.ListN.{length};
 ghost use Rattle.records.specs.Bytes.{byte, two as twoBytes};
 ghost use Rattle.expressions.specs.Nodes.{choice, readNode};
 ghost use Rattle.expressions.specs.Answers.{operatorOf, relationOf, nodeFor};
-ghost use Rattle.model.specs.Runs.{assign};
 ghost use Rattle.model.specs.ChartSet.{readGuard, readVariable};
 ghost use Rattle.chart_files.specs.Parts.{deedFor};
 ghost use Rattle.list.specs.Parts.{WroteNear, guardText, deedText, variableText, operandsText, arithmeticText, comparisonText, operatorText, nodeText};
@@ -45,20 +44,15 @@ pub fn put_guard(out: &mut [u8], at: usize, node: u16) -> usize
     }
 }
 
-fn put_assigned(out: &mut [u8], at: usize, variable: u8, node: u16) -> usize
-    requires { ⌜ at < 2 ^ 19 ⌝ }
-    ensures { λ r. ⌜ WroteNear 64 (now (out .entry)) at (deedText (assign variable node)) (now (out .exit)) r ⌝ }
-{
-    let next = put_named(out, at, b": variable ", variable as u32);
-    put_named(out, next, b" := node ", node as u32)
-}
-
 pub fn put_deed(out: &mut [u8], at: usize, deed: Deed) -> usize
     requires { ⌜ at < 2 ^ 19 ⌝ }
     ensures { λ r. ⌜ WroteNear 64 (now (out .entry)) at (deedText (deedFor deed)) (now (out .exit)) r ⌝ }
 {
     match deed {
-        Deed::Assign(v, n) => put_assigned(out, at, v, n),
+        Deed::Assign(v, n) => {
+            let next = put_named(out, at, b": variable ", v as u32);
+            put_named(out, next, b" := node ", n as u32)
+        }
         Deed::Raise(e) => put_named(out, at, b": raise event ", e as u32),
     }
 }

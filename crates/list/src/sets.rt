@@ -3,7 +3,7 @@ ghost use Prim.Native.Nat.{_<_, _^_};
 ghost use Rattle.records.specs.Bytes.{byte, two as twoBytes};
 ghost use Rattle.model.specs.ChartSet.{readTransition};
 ghost use Rattle.list.specs.Parts.{WroteNear};
-ghost use Rattle.list.specs.Sets.{chartText, stateText, triggerText, endsText, transitionText, ownerText, actionText};
+ghost use Rattle.list.specs.Sets.{chartText, stateText, triggerText, transitionText, ownerText, actionText};
 use super::fields::one;
 use super::fields::put_deed;
 use super::fields::put_guard;
@@ -42,18 +42,12 @@ fn put_trigger(out: &mut [u8], at: usize, r: &[u8]) -> usize
     }
 }
 
-fn put_ends(out: &mut [u8], i: u32, r: &[u8]) -> usize
-    ensures { λ n. ⌜ WroteNear 96 (now (out .entry)) 0 (endsText i (readTransition (now (r .entry)))) (now (out .exit)) n ⌝ }
-{
-    let source = put_named(out, 0, b"transition ", i);
-    let target = put_named(out, source, b": state ", two(r, 2));
-    put_named(out, target, b" to state ", two(r, 4))
-}
-
 pub fn put_transition(out: &mut [u8], i: u32, r: &[u8]) -> usize
     ensures { λ n. ⌜ WroteNear 256 (now (out .entry)) 0 (transitionText i (readTransition (now (r .entry)))) (now (out .exit)) n ⌝ }
 {
-    let priority = put_ends(out, i, r);
+    let source = put_named(out, 0, b"transition ", i);
+    let target = put_named(out, source, b": state ", two(r, 2));
+    let priority = put_named(out, target, b" to state ", two(r, 4));
     let trigger = put_named(out, priority, b", priority ", one(r, 1));
     let guard = put_trigger(out, trigger, r);
     put_guard(out, guard, u16_at(r, 12))
