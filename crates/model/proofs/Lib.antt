@@ -31,9 +31,11 @@ pub mod PathTaken
 pub mod Demand3
 pub mod TwinPath
 pub mod ExampleSets
+pub mod ExampleFiles
 mod MarkedExamples
 mod ChartExamples
 mod CheckExamples
 mod PathExamples
 mod FileExamples
 mod TwinExamples
+mod BoundaryFileExamples
