@@ -2,23 +2,23 @@
 -- Assumes nothing.
 use mathlib.Core.Path.{_≡_, refl}
 use mathlib.Core.List.{List, [], _∷_, _++_}
-use mathlib.Core.Bool.{Bool, cond}
-use Prim.Native.Nat.{ℕ, suc, _+_, _-_}
+use mathlib.Core.Bool.{cond}
+use Prim.Native.Nat.{ℕ, _+_}
 use lib.Dec.{eqb}
-use lib.ListN.{set, replicate}
-use Rattle.records.specs.Lists.{keep, gather, from}
+use lib.ListN.{set}
+use Rattle.records.specs.Lists.{keep, from}
 use Rattle.records.specs.Framing.{wrongAmounts}
 use Rattle.model.specs.ChartFile.{chartLimits, ChartFile}
 use Rattle.records.proofs.Tables.{Agree}
-use Rattle.expressions.proofs.ExampleNodes.{rec16, node, constant, read, binary}
-use Rattle.model.proofs.ExampleSets.{chart, state, transition, freely, onEvent, timed, variable, action, zeroWatch, waiting, raising}
-use Rattle.model.proofs.ExampleFiles.{edited, refused, assigningNode, guardedBy, everyFew}
+use Rattle.expressions.proofs.ExampleNodes.{rec16, node, constant, binary}
+use Rattle.model.proofs.ExampleSets.{chart, state, transition, freely, variable, action, zeroWatch, waiting, raising}
+use Rattle.model.proofs.ExampleFiles.{bytes, copies, edited, refused, assigningNode, guardedBy, everyFew}
 
 -- ---- 3: the most of each kind
 
 -- whether a chart and so many records of a kind are too many
 abbrev tooMany : (kind n : ℕ) → ℕ
-tooMany kind n = cond (wrongAmounts 1 chartLimits (chart 0 ++ gather (λ r. r) (replicate n (rec16 (kind ∷ []))))) 1 0
+tooMany kind n = cond (wrongAmounts 1 chartLimits (chart 0 ++ copies n (rec16 (kind ∷ [])))) 1 0
 
 abbrev amounts : List (ℕ × ℕ)
 amounts =
@@ -46,10 +46,6 @@ amount-rows = (refl, (refl, (refl, (refl, (refl, (refl, (refl, (refl, (refl, (re
 -- the bytes of a record, 1 to 15, that are refused by 4 where they are 1
 abbrev strays : List ℕ → List ℕ
 strays r = keep (λ k. eqb (refused (chart 0 ++ set r k 1)) 4) (from 1 15)
-
--- bytes a to e, as the paper counts them
-abbrev bytes : (a e : ℕ) → List ℕ
-bytes a e = from a (suc e - a)
 
 abbrev underTrigger : ℕ → List ℕ
 underTrigger trigger = strays (transition 1 0 0 trigger 0 0 0)

@@ -1,13 +1,21 @@
 -- Files with bytes put in, and the number that refuses them, for the examples. Assumes nothing: these are definitions.
 use mathlib.Core.Option.{Option, some, none}
 use mathlib.Core.List.{List, [], _∷_, _++_}
-use Prim.Native.Nat.{ℕ}
-use lib.ListN.{set}
+use Prim.Native.Nat.{ℕ, suc, _-_}
+use lib.ListN.{set, replicate}
+use Rattle.records.specs.Lists.{gather, from}
 use Rattle.records.specs.Refusal.{Refusal, refusalNumber}
 use Rattle.model.specs.ChartFile.{chartsRefusal}
 use Rattle.model.specs.AutomataFile.{automataRefusal}
 use Rattle.model.specs.Translation.{twinBytes}
 use Rattle.model.proofs.ExampleSets.{chart, state, transition, freely, timed, variable, action, zeroWatch, waiting, raising}
+
+-- bytes a to e of a record, as the paper counts them, and so many copies of a record
+abbrev pub bytes : (a e : ℕ) → List ℕ
+bytes a e = from a (suc e - a)
+
+abbrev pub copies : ℕ → List ℕ → List ℕ
+copies n r = gather (λ x. x) (replicate n r)
 
 -- bytes put in at places
 abbrev pub edited : List ℕ → List (ℕ × ℕ) → List ℕ

@@ -39,3 +39,4 @@ mod PathExamples
 mod FileExamples
 mod TwinExamples
 mod BoundaryFileExamples
+mod BoundaryTableExamples
