@@ -12,7 +12,7 @@ use Rattle.model.specs.AutomataFile.{automataLimits, tableTests, Automat
 use Rattle.model.specs.Translation.{twinBytes, Translation}
 use Rattle.records.proofs.Tables.{Agree}
 use Rattle.expressions.proofs.ExampleNodes.{rec16}
-use Rattle.model.proofs.ExampleSets.{chart, state, freely, timed, variable}
+use Rattle.model.proofs.ExampleSets.{alternating}
 use Rattle.model.proofs.ExampleFiles.{bytes, copies, editedTwin, editedClocks, editedPair}
 
 -- ---- 3: the most of each kind
@@ -146,14 +146,7 @@ table-rows = (refl, (refl, (refl, (refl, (refl, (refl, (refl, (refl, (refl, (ref
 
 -- ---- the translation
 
--- two charts whose states alternate, clocks that leave both, and two variables, the second negative throughout
-abbrev alternating : List ℕ
-alternating =
-    chart 0 ++ chart 1 ++ state 0 ++ state 1 ++ state 0 ++ state 1
-    ++ freely 1 0 2 ++ freely 1 1 3 ++ timed 2 3 3 500 ++ timed 3 2 2 3_600_000
-    ++ variable 0 9 1 ++ variable 65526 65535 65533
-
--- its twin's records, each without the zeros at its end
+-- the records of a twin, each without the zeros at its end
 abbrev alternatingTwin : List (List ℕ)
 alternatingTwin =
     (33 ∷ 0 ∷ 0 ∷ [])

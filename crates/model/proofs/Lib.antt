@@ -40,3 +40,4 @@ mod FileExamples
 mod TwinExamples
 mod BoundaryFileExamples
 mod BoundaryTableExamples
+mod BoundaryRunExamples
