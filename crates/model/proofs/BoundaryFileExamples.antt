@@ -2,44 +2,15 @@
 -- Assumes nothing.
 use mathlib.Core.Path.{_≡_, refl}
 use mathlib.Core.List.{List, [], _∷_, _++_}
-use mathlib.Core.Bool.{cond}
 use Prim.Native.Nat.{ℕ, _+_}
 use lib.Dec.{eqb}
 use lib.ListN.{set}
 use Rattle.records.specs.Lists.{keep, from}
-use Rattle.records.specs.Framing.{wrongAmounts}
-use Rattle.model.specs.ChartFile.{chartLimits, ChartFile}
+use Rattle.model.specs.ChartFile.{ChartFile}
 use Rattle.records.proofs.Tables.{Agree}
-use Rattle.expressions.proofs.ExampleNodes.{rec16, node, constant, binary}
+use Rattle.expressions.proofs.ExampleNodes.{node, constant, binary}
 use Rattle.model.proofs.ExampleSets.{chart, state, transition, freely, variable, action, zeroWatch, waiting, raising}
-use Rattle.model.proofs.ExampleFiles.{bytes, copies, edited, refused, assigningNode, guardedBy, everyFew}
-
--- ---- 3: the most of each kind
-
--- whether a chart and so many records of a kind are too many
-abbrev tooMany : (kind n : ℕ) → ℕ
-tooMany kind n = cond (wrongAmounts 1 chartLimits (chart 0 ++ copies n (rec16 (kind ∷ [])))) 1 0
-
-abbrev amounts : List (ℕ × ℕ)
-amounts =
-    -- at the limit, and one above it; the first chart is there already
-    (tooMany 1 7, 0)
-    ∷ (tooMany 1 8, 1)
-    ∷ (tooMany 2 128, 0)
-    ∷ (tooMany 2 129, 1)
-    ∷ (tooMany 3 256, 0)
-    ∷ (tooMany 3 257, 1)
-    ∷ (tooMany 4 64, 0)
-    ∷ (tooMany 4 65, 1)
-    ∷ (tooMany 5 1_024, 0)
-    ∷ (tooMany 5 1_025, 1)
-    ∷ (tooMany 6 512, 0)
-    ∷ (tooMany 6 513, 1)
-    ∷ []
-
-amount-rows : Agree amounts
-unfolding ChartFile
-amount-rows = (refl, (refl, (refl, (refl, (refl, (refl, (refl, (refl, (refl, (refl, (refl, (refl, tt))))))))))))
+use Rattle.model.proofs.ExampleFiles.{bytes, edited, refused, assigningNode, guardedBy, everyFew}
 
 -- ---- 4: the bytes that must be zero, by kind and code
 

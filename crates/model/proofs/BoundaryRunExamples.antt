@@ -184,12 +184,12 @@ ats = padded 8 0 (1 ∷ 4 ∷ [])
 abbrev holding : List ℤ → ℤ
 holding vars = turn (paired 0 9 65436) (run (1 ∷ []) [] vars 0 1 0)
 
--- the twin of `alternating` in locations 2 and 3 with these clocks
-abbrev clocks : List ℕ → Run
-clocks xs = record { at = padded 8 0 (2 ∷ 3 ∷ []); timers = padded 256 0 xs; world = run [] [] (pos 1 ∷ negsuc 2 ∷ []) 0 1 0 .world }
+-- the twin of `alternating` in locations 2 and 3, with these clocks and with this second variable
+abbrev twinRun : List ℕ → ℤ → Run
+twinRun clocks v = record { at = padded 8 0 (2 ∷ 3 ∷ []); timers = padded 256 0 clocks; world = run [] [] (pos 1 ∷ v ∷ []) 0 1 0 .world }
 
-abbrev clocked : List ℕ → ℤ
-clocked xs = numbered answerCode (turnCall automataTables (twinBytes alternating) 0 (clocks xs) .answer)
+abbrev twinTurn : List ℕ → ℤ → ℤ
+twinTurn clocks v = numbered answerCode (turnCall automataTables (twinBytes alternating) 0 (twinRun clocks v) .answer)
 
 abbrev checks : List (ℤ × ℤ)
 checks =
@@ -213,16 +213,19 @@ checks =
     ∷ (holding (pos 1 ∷ negsuc 99 ∷ []), negsuc 16)
     ∷ (holding (pos 1 ∷ negsuc 100 ∷ []), negsuc 11)
     ∷ (holding (pos 1 ∷ pos 0 ∷ []), negsuc 11)
-    -- clocks at their tops and over them, after and every; the last unused one
-    ∷ (clocked (6 ∷ 36_000 ∷ []), pos 3)
-    ∷ (clocked (7 ∷ 36_000 ∷ []), negsuc 11)
-    ∷ (clocked (6 ∷ 36_001 ∷ []), negsuc 11)
-    ∷ (clocked (replicate 255 0 ++ (1 ∷ [])), negsuc 11)
+    -- clocks at their tops and over them, after and every; the last unused one; the second variable
+    ∷ (twinTurn (6 ∷ 36_000 ∷ []) (negsuc 0), pos 3)
+    ∷ (twinTurn (7 ∷ 36_000 ∷ []) (negsuc 0), negsuc 11)
+    ∷ (twinTurn (6 ∷ 36_001 ∷ []) (negsuc 0), negsuc 11)
+    ∷ (twinTurn (replicate 255 0 ++ (1 ∷ [])) (negsuc 0), negsuc 11)
+    ∷ (twinTurn [] (negsuc 9), pos 6)
+    ∷ (twinTurn [] (negsuc 10), negsuc 11)
+    ∷ (twinTurn [] (pos 0), negsuc 11)
     ∷ []
 
 check-rows : Agree checks
 unfolding PathBack AutomataFile
-check-rows = (refl, (refl, (refl, (refl, (refl, (refl, (refl, (refl, (refl, (refl, (refl, (refl, (refl, (refl, (refl, (refl, (refl, (refl, (refl, (refl, tt))))))))))))))))))))
+check-rows = (refl, (refl, (refl, (refl, (refl, (refl, (refl, (refl, (refl, (refl, (refl, (refl, (refl, (refl, (refl, (refl, (refl, (refl, (refl, (refl, (refl, (refl, (refl, tt)))))))))))))))))))))))
 
 -- ---- 20: the path's 1,000,000 cycles
 

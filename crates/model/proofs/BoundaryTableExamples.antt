@@ -2,60 +2,17 @@
 -- examples would let pass. Assumes nothing.
 use mathlib.Core.Path.{_≡_, refl}
 use mathlib.Core.List.{List, [], _∷_, _++_}
-use mathlib.Core.Bool.{Bool, true, false, cond}
-use Prim.Native.Nat.{ℕ, suc, _-_}
+use mathlib.Core.Bool.{Bool, true, false}
+use Prim.Native.Nat.{ℕ, suc}
 use lib.Dec.{eqb}
-use lib.ListN.{set, take, drop}
+use lib.ListN.{set}
 use Rattle.records.specs.Lists.{keep, gather, from}
-use Rattle.records.specs.Framing.{wrongAmounts}
-use Rattle.model.specs.AutomataFile.{automataLimits, tableTests, AutomataFile}
+use Rattle.model.specs.AutomataFile.{tableTests, AutomataFile}
 use Rattle.model.specs.Translation.{twinBytes, Translation}
 use Rattle.records.proofs.Tables.{Agree}
 use Rattle.expressions.proofs.ExampleNodes.{rec16}
 use Rattle.model.proofs.ExampleSets.{alternating}
-use Rattle.model.proofs.ExampleFiles.{bytes, copies, editedTwin, editedClocks, editedPair}
-
--- ---- 3: the most of each kind
-
--- whether so many records of a kind are too many, where that kind is the format's only one
-abbrev tooMany : (kind n : ℕ) → ℕ
-tooMany kind n = cond (wrongAmounts kind (take 1 (drop (kind - 33) automataLimits)) (copies n (rec16 (kind ∷ [])))) 1 0
-
--- whether an automaton and so many records of a kind are
-abbrev tooManyInFile : (kind n : ℕ) → ℕ
-tooManyInFile kind n = cond (wrongAmounts 33 automataLimits (rec16 (33 ∷ []) ++ copies n (rec16 (kind ∷ [])))) 1 0
-
-abbrev amounts : List (ℕ × ℕ)
-amounts =
-    -- at the limit, and one above it
-    (tooMany 33 8, 0)
-    ∷ (tooMany 33 9, 1)
-    ∷ (tooMany 34 128, 0)
-    ∷ (tooMany 34 129, 1)
-    ∷ (tooMany 35 384, 0)
-    ∷ (tooMany 35 385, 1)
-    ∷ (tooMany 36 2_432, 0)
-    ∷ (tooMany 36 2_433, 1)
-    ∷ (tooMany 37 256, 0)
-    ∷ (tooMany 37 257, 1)
-    ∷ (tooMany 38 64, 0)
-    ∷ (tooMany 38 65, 1)
-    ∷ (tooMany 39 1_024, 0)
-    ∷ (tooMany 39 1_025, 1)
-    ∷ (tooMany 40 6_144, 0)
-    ∷ (tooMany 40 6_145, 1)
-    ∷ (tooMany 41 4_096, 0)
-    ∷ (tooMany 41 4_097, 1)
-    -- among the other kinds
-    ∷ (tooManyInFile 33 7, 0)
-    ∷ (tooManyInFile 33 8, 1)
-    ∷ (tooManyInFile 38 64, 0)
-    ∷ (tooManyInFile 38 65, 1)
-    ∷ []
-
-amount-rows : Agree amounts
-unfolding AutomataFile
-amount-rows = (refl, (refl, (refl, (refl, (refl, (refl, (refl, (refl, (refl, (refl, (refl, (refl, (refl, (refl, (refl, (refl, (refl, (refl, (refl, (refl, (refl, (refl, tt))))))))))))))))))))))
+use Rattle.model.proofs.ExampleFiles.{bytes, editedTwin, editedClocks, editedPair}
 
 -- ---- which clause of 11 applies first
 

@@ -38,6 +38,7 @@ mod CheckExamples
 mod PathExamples
 mod FileExamples
 mod TwinExamples
+mod BoundaryLimitExamples
 mod BoundaryFileExamples
 mod BoundaryTableExamples
 mod BoundaryRunExamples
