@@ -9,15 +9,15 @@ use Prim.Native.String.{String}
 use lib.ListN.{length, replicate, set, take}
 use lib.IntN.{ℤ, pos, negsuc}
 use Rattle.records.specs.Lists.{padded}
-use Rattle.records.specs.Refusal.{Refusal, Out, val, fault, zero-ticks, out-of-bounds}
+use Rattle.records.specs.Refusal.{Out, val, zero-ticks, out-of-bounds}
 use Rattle.expressions.specs.Nodes.{nodeAt}
 use Rattle.expressions.specs.Values.{number, truth}
 use Rattle.model.specs.Outcome.{Outcome}
-use Rattle.model.specs.Runs.{Run, Answer}
+use Rattle.model.specs.Runs.{Run}
 use Rattle.model.specs.ChartSet.{readCharts}
 use Rattle.model.specs.AutomataFile.{AutomataFile}
 use Rattle.model.specs.Translation.{twinBytes, translate}
-use Rattle.model.specs.PathBack.{Walk, ledBack, PathBack}
+use Rattle.model.specs.PathBack.{ledBack, PathBack}
 use Rattle.model.specs.Calls.{Format, chartSets, automataTables, startCall, turnCall, cycleCall, numbered, answerCode}
 use Rattle.model.specs.Replay.{Replayed, replay, Replay}
 use Rattle.records.proofs.Tables.{Agree}
@@ -57,7 +57,7 @@ number-rows = (refl, (refl, (refl, (refl, (refl, tt)))))
 
 abbrev truths : List (Out Bool × Out Bool)
 truths =
-    -- at most, between two and of negative operands; less and equal of negative operands
+    -- at most of a smaller one; at most, less and equal of negative operands
     (truthOn 18 1 2, val true)
     ∷ (truthOn 18 (minus 2) (minus 1), val true)
     ∷ (truthOn 18 (minus 1) (minus 2), val false)
