@@ -1,29 +1,26 @@
 -- A cycle of an accepted set, turn by turn. Assumes nothing.
-use mathlib.Core.Path.{_≡_, refl, sym, ap, _∙_, subst}
+use mathlib.Core.Path.{_≡_, refl, ap}
 use mathlib.Core.Logic.{_⊎_, inl, inr}
 use mathlib.Core.List.{List, [], _∷_}
-use mathlib.Core.Option.{none}
 use Prim.Native.Nat.{ℕ, _+_, _-_, _≤_, _<_}
 use native.Mathlib.Omega.{arith}
 use types.Run.{OneOf}
 use denote.Enum.Declared.{tagOf}
-use Rattle.records.specs.Refusal.{Refusal, val, fault, _>>=_}
+use Rattle.records.specs.Refusal.{Refusal, val, fault}
 use Rattle.model.specs.Outcome.{settled}
 use Rattle.model.specs.Runs as M
 use Rattle.model.specs.ChartSet.{readCharts}
 use Rattle.model.specs.Charts.{charts}
-use Rattle.model.specs.ChartFile.{chartsRefusal}
 use Rattle.model.proofs.StaysPossible.{NotTime}
 use Rattle.model.proofs.Steady.{steady-charts}
 use Rattle.model.proofs.Accepted.{sound}
-use Rattle.model.proofs.CyclesByTurns.{charts-turn-moves}
 use Rattle.chart_files.proofs.Readings.{length-initial}
 use Rattle.chart_files.specs.declared.Shape.{Shape}
 use Rattle.machines.specs.declared.answers.Answer.{Answer}
 use Rattle.machines.specs.declared.answers.Answer.the-variants.{Taken, Idle, Time, Fault, Refused}
 use Rattle.machines.specs.Answers.{answerOf}
 use Rattle.machines.proofs.answers.Answer as declared-answer
-use Rattle.machines.proofs.ByTurns.{settled-was, cycle-goes-on, cycle-ends, cycle-fails}
+use Rattle.machines.proofs.ByTurns as B
 use Rattle.charts.specs.declared.runs.Run.{Run}
 use Rattle.charts.specs.declared.turns.Turned.{Turned}
 use Rattle.charts.specs.Accepted.{Accepted}
@@ -48,24 +45,18 @@ part-turn (Refused w) (inr e) = absurd (omega (arith, e))
 
 -- a turn of the present run, by what it answered
 module _ (s : List ℕ) (sh : Shape) (ok : Accepted s sh) (given : ℕ) (present : Run) (t : Turned) (is : turnOf t ≡ settled (runOf present) (M.turn (charts (readCharts s)) given (runOf present))) where
-  was : M.turn (charts (readCharts s)) given (runOf present) ≡ (answerOf (t .answer) >>= λ a. val (a, runOf (t .run)))
-  was = settled-was (turnOf t) (runOf present) (M.turn (charts (readCharts s)) given (runOf present)) is
-
-  taken : (a : M.Answer) → answerOf (t .answer) ≡ val a → M.turn (charts (readCharts s)) given (runOf present) ≡ val (a, runOf (t .run))
-  taken a e = was ∙ ap (λ o. o >>= λ a. val (a, runOf (t .run))) e
-
   pub goes-on : PartTurn (t .answer) → M.cycle (charts (readCharts s)) given (runOf present) ≡ M.cycle (charts (readCharts s)) 0 (runOf (t .run))
-  goes-on p = cycle-goes-on (charts (readCharts s)) (steady-charts (readCharts s) (sound s (ok .unrefused))) given (runOf present) (runOf (t .run)) (p .answer) (p .not-time) (taken (p .answer) (p .is))
+  goes-on p = B.goes-on (charts (readCharts s)) (steady-charts (readCharts s) (sound s (ok .unrefused))) given (runOf present) (turnOf t) is (p .answer) (p .is) (p .not-time)
 
   pub nearer : PartTurn (t .answer) → sh .charts + 2 - t .run .position < sh .charts + 2 - present .position
   nearer p =
-      let m = charts-turn-moves s (ok .unrefused) given (runOf present) (p .answer) (runOf (t .run)) (taken (p .answer) (p .is)) (p .not-time) in
+      let m = B.moves-on (charts (readCharts s)) (steady-charts (readCharts s) (sound s (ok .unrefused))) given (runOf present) (turnOf t) is (p .answer) (p .is) (p .not-time) in
       let l : present .position ≤ M.parts (charts (readCharts s)) = m .0 in
       let e : t .run .position ≡ present .position + 1 = m .1 in
       omega (arith, e, l, length-initial s sh (ok .shape))
 
   pub ends : t .answer ≡ Time → M.cycle (charts (readCharts s)) given (runOf present) ≡ val (tt, runOf (t .run))
-  ends e = cycle-ends (charts (readCharts s)) (steady-charts (readCharts s) (sound s (ok .unrefused))) given (runOf present) (runOf (t .run)) (taken M.time (ap answerOf e))
+  ends e = B.ends-at-time (charts (readCharts s)) (steady-charts (readCharts s) (sound s (ok .unrefused))) given (runOf present) (turnOf t) is (ap answerOf e)
 
   pub fails : (w : Refusal) → answerOf (t .answer) ≡ fault w → M.cycle (charts (readCharts s)) given (runOf present) ≡ fault w
-  fails w e = cycle-fails (charts (readCharts s)) (steady-charts (readCharts s) (sound s (ok .unrefused))) given (runOf present) (runOf (t .run)) w (was ∙ ap (λ o. o >>= λ a. val (a, runOf (t .run))) e)
+  fails = B.ends-in-fault (charts (readCharts s)) (steady-charts (readCharts s) (sound s (ok .unrefused))) given (runOf present) (turnOf t) is

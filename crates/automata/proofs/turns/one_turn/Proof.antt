@@ -1,8 +1,8 @@
--- `turns::turn_of` meets its contract: the index has room for the table. Assumes nothing.
+-- `turns::one_turn` meets its contract: the index has room for the table. Assumes nothing.
 use borrow.Author.Needs.{needs}
 use Rattle.automata.proofs.TableLaws.{room-short, room-long}
-use Rattle.automata.proofs.turns.turn_of.Statement.{statement}
-use Rattle.automata.proofs.turns.turn_of.Tie as tie
+use Rattle.automata.proofs.turns.one_turn.Statement.{statement}
+use Rattle.automata.proofs.turns.one_turn.Tie as tie
 
 slice-aggregate-turn-indexed : tie.Need-slice-aggregate-turn-indexed
 slice-aggregate-turn-indexed c = search needs
@@ -22,8 +22,8 @@ returns c = search needs
 returns-2 : tie.Need-returns-2
 returns-2 c = search needs
 
-pub turn-of-spec : {M : Type 1} → statement M
-turn-of-spec =
+pub one-turn-spec : {M : Type 1} → statement M
+one-turn-spec =
     tie.close
     (tie.spec
     slice-aggregate-turn-indexed

@@ -1,8 +1,8 @@
--- `plays::play_of` meets its contract: the index has room for the table. Assumes nothing.
+-- `plays::play_in_place` meets its contract: the index has room for the table. Assumes nothing.
 use borrow.Author.Needs.{needs}
 use Rattle.automata.proofs.TableLaws.{room-short, room-long}
-use Rattle.automata.proofs.plays.play_of.Statement.{statement}
-use Rattle.automata.proofs.plays.play_of.Tie as tie
+use Rattle.automata.proofs.plays.play_in_place.Statement.{statement}
+use Rattle.automata.proofs.plays.play_in_place.Tie as tie
 
 slice-aggregate-play-indexed : tie.Need-slice-aggregate-play-indexed
 slice-aggregate-play-indexed c = search needs
@@ -22,8 +22,8 @@ returns c = search needs
 returns-2 : tie.Need-returns-2
 returns-2 c = search needs
 
-pub play-of-spec : {M : Type 1} → statement M
-play-of-spec =
+pub play-in-place-spec : {M : Type 1} → statement M
+play-in-place-spec =
     tie.close
     (tie.spec
     slice-aggregate-play-indexed
