@@ -5,3 +5,4 @@ pub mod GateEvents
 pub mod GateMasks
 pub mod RefusedAnswers
 pub mod SetTypes
+pub mod TableTypes
