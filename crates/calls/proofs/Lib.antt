@@ -4,3 +4,5 @@ pub mod GateAlone
 pub mod GateEvents
 pub mod GateMasks
 pub mod RefusedAnswers
+pub mod SetTypes
+pub mod TableTypes
