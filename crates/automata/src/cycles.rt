@@ -14,7 +14,6 @@ ghost use Rattle.automata.specs.TurnOf.{calledOf, Known, Ready, goneOf, 
 use super::index::index_of;
 use super::runs::Run;
 use super::runs::before_turn;
-use super::runs::events_given;
 use super::runs::grow;
 use super::steps::Went;
 use super::steps::edge_step;
@@ -24,6 +23,7 @@ use machines::answers::Answer;
 use machines::answers::Ending;
 use machines::answers::Reason;
 use machines::checks::Before;
+use machines::checks::events_given;
 
 // The answer of a call that is done or not, and the run after it.
 pub struct Called {

@@ -12,9 +12,9 @@ ghost use Rattle.automata.specs.RunOf.{runOf};
 ghost use Rattle.automata.specs.TurnOf.{calledOf};
 use super::cycles::Called;
 use super::cycles::cycle_by_turns;
-use super::plays::play_of;
+use super::plays::play_in_place;
 use super::runs::Run;
-use super::turns::turn_of;
+use super::turns::one_turn;
 use automata_files::Shape;
 use machines::answers::Answer;
 use machines::answers::Cycles;
@@ -47,7 +47,7 @@ pub fn turn(s: &[u8], shape: Shape, run: &mut Run, events: u32) -> Answer
     ensures { λ r. ⌜ (answerOf r ≡ settled (runOf (now (run .entry))) (model-turn (machine (readAutomata (now (s .entry)))) events (runOf (now (run .entry)))) .answer)
         × (runOf (now (run .exit)) ≡ settled (runOf (now (run .entry))) (model-turn (machine (readAutomata (now (s .entry)))) events (runOf (now (run .entry)))) .lent) ⌝ }
 {
-    let turned = turn_of(s, shape, *run, events);
+    let turned = one_turn(s, shape, *run, events);
     *run = turned.run;
     turned.answer
 }
@@ -69,7 +69,7 @@ pub fn play(s: &[u8], shape: Shape, run: &mut Run, masks: &[u32]) -> Cycles
     ensures { λ r. ⌜ (cyclesOf r ≡ settled (runOf (now (run .entry))) (playing (machine (readAutomata (now (s .entry)))) (now (masks .entry)) (runOf (now (run .entry)))) .answer)
         × (runOf (now (run .exit)) ≡ settled (runOf (now (run .entry))) (playing (machine (readAutomata (now (s .entry)))) (now (masks .entry)) (runOf (now (run .entry)))) .lent) ⌝ }
 {
-    let played = play_of(s, shape, *run, masks);
+    let played = play_in_place(s, shape, *run, masks);
     *run = played.run;
     played.answer
 }

@@ -176,7 +176,7 @@ fn play_indexed(s: &[u8], shape: Shape, next: &mut [u16], run: Run, masks: &[u32
 }
 
 // Many cycles of an accepted table. The index is that of a turn.
-pub fn play_of(s: &[u8], shape: Shape, run: Run, masks: &[u32]) -> Played
+pub fn play_in_place(s: &[u8], shape: Shape, run: Run, masks: &[u32]) -> Played
     requires { ⌜ Accepted (now s) shape ⌝ }
     ensures { λ r. ⌜ playedOf r ≡ settled (runOf run) (playing (machine (readAutomata (now (s .entry)))) (now (masks .entry)) (runOf run)) ⌝ }
 {

@@ -172,13 +172,6 @@ pub fn before_turn(
     decide(possible, events, position, cycles)
 }
 
-// Input events are given at position 1.
-pub fn events_given(events: u32, position: u32, present: u32) -> u32
-    ensures { λ r. ⌜ r ≡ cond (eqb position 1) events present ⌝ }
-{
-    if position == 1 { events } else { present }
-}
-
 // Where a clock goes back to 1: an every-clock at its ticks, an after-clock nowhere, as none comes to 65535.
 fn turn_for(after: bool, ticks: u16) -> u16
     ensures { λ r. ⌜ r ≡ turnFor (timingIf after) ticks ⌝ }

@@ -13,7 +13,6 @@ ghost use Rattle.automata.specs.TurnOf.{turnOf, takenOf, Known, Ready};
 use super::index::index_of;
 use super::runs::Run;
 use super::runs::before_turn;
-use super::runs::events_given;
 use super::runs::pass_time;
 use super::runs::run_in;
 use super::steps::Went;
@@ -21,6 +20,7 @@ use super::steps::edge_step;
 use automata_files::Shape;
 use machines::answers::Answer;
 use machines::checks::Before;
+use machines::checks::events_given;
 
 // A turn's answer, and the run after it.
 pub struct Turned {
@@ -254,7 +254,7 @@ fn turn_indexed(s: &[u8], shape: Shape, next: &mut [u16], run: Run, events: u32)
 
 // A turn of an accepted table. The index is short for a short file. The long one is filled with 14536, which names no record: its two bytes differ, so that
 // it is stored by vectors and not by one instruction that is repeated for each byte.
-pub fn turn_of(s: &[u8], shape: Shape, run: Run, events: u32) -> Turned
+pub fn one_turn(s: &[u8], shape: Shape, run: Run, events: u32) -> Turned
     requires { ⌜ Accepted (now s) shape ⌝ }
     ensures { λ r. ⌜ turnOf r ≡ settled (runOf run) (model-turn (machine (readAutomata (now (s .entry)))) events (runOf run)) ⌝ }
 {

@@ -19,7 +19,7 @@ use Rattle.model.specs.ChartFile.{inCode, guardNodes, assignedNodes, guards, as
 use Rattle.chart_files.specs.declared.Shape.{Shape}
 use Rattle.chart_files.specs.Shape.{IsShape}
 use Rattle.chart_files.specs.Places.{transitionAt, placeAt, nodePart}
-use Rattle.chart_files.specs.Used.{guardAt, assignedAt, truths, numbers}
+use Rattle.chart_files.specs.Used.{guardAt, assignedAt, operandUse, guardUse, assignedUse, allUses, truths, numbers}
 use Rattle.chart_files.proofs.ListLaws.{gather-map, alike-upto}
 use Rattle.chart_files.proofs.Readings.{transitions-are, gather-actions, lookup-is, length-nodes, most-nodes}
 use Rattle.model.proofs.ListLaws.{gather-append}
@@ -61,23 +61,11 @@ module _ {A B : Type 0} (p : B → Bool) (f g : A → List B) where
 -- ---- all uses: what is counted from none on, in 1,024 places
 
 module _ (s : List ℕ) (sh : Shape) where
-  abbrev operandUse : List ℕ
-  operandUse = allOperands (nodeAt (nodePart s sh)) (sh .nodes)
-
-  abbrev guardUse : List ℕ
-  guardUse = gather (guardAt s sh) (upto (sh .transitions))
-
-  abbrev assignedUse : List ℕ
-  assignedUse = gather (assignedAt s sh) (upto (sh .actions))
-
-  abbrev pub allUses : List ℕ
-  allUses = addUses (addUses (addUses (replicate 1024 0) operandUse) guardUse) assignedUse
-
-  pub length-uses : length allUses ≡ 1024
+  pub length-uses : length (allUses s sh) ≡ 1024
   length-uses =
-      adds-length (addUses (addUses (replicate 1024 0) operandUse) guardUse) assignedUse
-      ∙ adds-length (addUses (replicate 1024 0) operandUse) guardUse
-      ∙ adds-length (replicate 1024 0) operandUse
+      adds-length (addUses (addUses (replicate 1024 0) (operandUse s sh)) (guardUse s sh)) (assignedUse s sh)
+      ∙ adds-length (addUses (replicate 1024 0) (operandUse s sh)) (guardUse s sh)
+      ∙ adds-length (replicate 1024 0) (operandUse s sh)
       ∙ length-replicate {A = ℕ} 1024 0
 
 three-uses : (u : List ℕ) (k : ℕ) (xs ys zs : List ℕ) → k < length u → getD u k 0 ≡ 0 → getD (addUses (addUses (addUses u xs) ys) zs) k 0 ≡ min 2 (times k xs + times k ys + times k zs)

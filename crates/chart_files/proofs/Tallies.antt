@@ -13,7 +13,7 @@ use Rattle.records.specs.Lists.{all, count, from, upto}
 use Rattle.records.proofs.FramingLaws.{and-true}
 use Rattle.expressions.proofs.Uses.{times}
 use Rattle.expressions.proofs.Loops.{left-more, left-none}
-use Rattle.chart_files.specs.Tallies.{addOne, within}
+use Rattle.chart_files.specs.Tallies.{addOne, within, tally}
 use Rattle.chart_files.proofs.Numbers.{same-truth, both-true, all-at, all-by}
 
 -- what stands at a place with what is still to be counted there
@@ -109,25 +109,41 @@ module _ (most : ℕ) (key : ℕ → ℕ) (size : ℕ) where
 
   -- the places of those below i are counted: what is left to count decides
   abbrev pub Tallied : List ℕ → List ℕ → ℕ → Type 0
-  Tallied c₀ c i = (i ≤ size) × (length c ≡ length c₀) × (within most c₀ (map key (upto size)) ≡ within most c (rest i))
+  Tallied c₀ c i =
+      (i ≤ size)
+      × (length c ≡ length c₀)
+      × (within most c₀ (map key (upto size)) ≡ within most c (rest i))
+      × (tally most c₀ (map key (upto size)) ≡ tally most c (rest i))
 
   pub tallied-none : (c : List ℕ) → Tallied c c 0
-  tallied-none c = (omega arith, refl, ap (λ k. within most c (map key (from 0 k))) (sym (sub-zero size)))
+  tallied-none c = let e : size ≡ size - 0 = sym (sub-zero size) in (omega arith, refl, ap (λ k. within most c (map key (from 0 k))) e, ap (λ k. tally most c (map key (from 0 k))) e)
 
   step : (c : List ℕ) (i : ℕ) → i < size → within most c (rest i) ≡ (ltb (getD c (key i) 0) most && within most (addOne c (key i)) (rest (i + 1)))
   unfolding within
   step c i h = ap (λ l. within most c (map key l)) (left-more i size h)
+
+  tally-step : (c : List ℕ) (i : ℕ) → i < size → tally most c (rest i) ≡ cond (ltb (getD c (key i) 0) most) (tally most (addOne c (key i)) (rest (i + 1))) c
+  unfolding tally
+  tally-step c i h = ap (λ l. tally most c (map key l)) (left-more i size h)
 
   pub tallied-more : (c₀ c d : List ℕ) (i : ℕ) → Tallied c₀ c i → i < size → ltb (getD c (key i) 0) most ≡ true → d ≡ addOne c (key i) → Tallied c₀ d (i + 1)
   tallied-more c₀ c d i t h e q = (
     omega arith,
     ap length q ∙ long c (key i) ∙ t .1,
     t .2 ∙ step c i h ∙ (λ x. e x && within most (sym q x) (rest (i + 1))),
+    t .3 ∙ tally-step c i h ∙ (λ x. cond (e x) (tally most (sym q x) (rest (i + 1))) c),
   )
 
-  pub tallied-not : (c₀ c : List ℕ) (i : ℕ) → Tallied c₀ c i → i < size → ltb (getD c (key i) 0) most ≡ false → within most c₀ (map key (upto size)) ≡ false
-  tallied-not c₀ c i t h e = t .2 ∙ step c i h ∙ ap (λ b. b && within most (addOne c (key i)) (rest (i + 1))) e
+  -- what a test of all answers, and leaves counted
+  abbrev Ends : List ℕ → List ℕ → Bool → Type 0
+  Ends c₀ c r = (r ≡ within most c₀ (map key (upto size))) × (c ≡ tally most c₀ (map key (upto size)))
 
-  pub tallied-all : (c₀ c : List ℕ) (i : ℕ) → Tallied c₀ c i → size ≤ i → within most c₀ (map key (upto size)) ≡ true
-  unfolding within
-  tallied-all c₀ c i t h = t .2 ∙ ap (λ l. within most c (map key l)) (left-none i size h)
+  pub tallied-not : (c₀ c d : List ℕ) (i : ℕ) → Tallied c₀ c i → i < size → ltb (getD c (key i) 0) most ≡ false → d ≡ c → Ends c₀ d false
+  tallied-not c₀ c d i t h e q = (
+    sym (t .2 ∙ step c i h ∙ ap (λ b. b && within most (addOne c (key i)) (rest (i + 1))) e),
+    q ∙ sym (t .3 ∙ tally-step c i h ∙ ap (λ b. cond b (tally most (addOne c (key i)) (rest (i + 1))) c) e),
+  )
+
+  pub tallied-all : (c₀ c : List ℕ) (i : ℕ) → Tallied c₀ c i → size ≤ i → Ends c₀ c true
+  unfolding within tally
+  tallied-all c₀ c i t h = (sym (t .2 ∙ ap (λ l. within most c (map key l)) (left-none i size h)), sym (t .3 ∙ ap (λ l. tally most c (map key l)) (left-none i size h)))

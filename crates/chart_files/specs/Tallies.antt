@@ -1,5 +1,5 @@
 -- Tallies: counts in places, none of which is to come above a limit. Assumes nothing: these are definitions.
-use mathlib.Core.Bool.{Bool, true, _&&_}
+use mathlib.Core.Bool.{Bool, true, cond, _&&_}
 use mathlib.Core.List.{List, [], _∷_}
 use Prim.Native.Nat.{ℕ, _+_}
 use lib.Dec.{ltb}
@@ -13,3 +13,8 @@ addOne c k = set c k (getD c k 0 + 1)
 unfoldable pub within : ℕ → List ℕ → List ℕ → Bool
 within most c [] = true
 within most c (k ∷ ks) = ltb (getD c k 0) most && within most (addOne c k) ks
+
+-- what they come to, up to the first that would come above
+unfoldable pub tally : ℕ → List ℕ → List ℕ → List ℕ
+tally most c [] = c
+tally most c (k ∷ ks) = cond (ltb (getD c k 0) most) (tally most (addOne c k) ks) c

@@ -2,12 +2,14 @@
 use mathlib.Core.Bool.{Bool}
 use mathlib.Core.List.{List}
 use Prim.Native.Nat.{ℕ}
-use Rattle.records.specs.Lists.{all}
-use Rattle.expressions.specs.Nodes.{Node}
+use lib.ListN.{replicate}
+use Rattle.records.specs.Lists.{all, gather, upto}
+use Rattle.expressions.specs.Nodes.{Node, nodeAt}
 use Rattle.expressions.specs.Sorts.{sortOf, isNumber, isTruth}
+use Rattle.expressions.specs.Uses.{addUses, allOperands}
 use Rattle.model.specs.ChartFile.{guardNodes, assignedNodes}
 use Rattle.chart_files.specs.declared.Shape.{Shape}
-use Rattle.chart_files.specs.Places.{transitionAt, actionAt}
+use Rattle.chart_files.specs.Places.{transitionAt, actionAt, nodePart}
 
 -- the node that transition t has as its guard, and that action i assigns, if there is one
 module _ (s : List ℕ) (sh : Shape) where
@@ -16,6 +18,19 @@ module _ (s : List ℕ) (sh : Shape) where
 
   abbrev pub assignedAt : ℕ → List ℕ
   assignedAt i = assignedNodes (actionAt s sh i .1)
+
+  -- the nodes that are used as operands, as guards and in assignments, and the uses of each node, counted in that order
+  abbrev pub operandUse : List ℕ
+  operandUse = allOperands (nodeAt (nodePart s sh)) (sh .nodes)
+
+  abbrev pub guardUse : List ℕ
+  guardUse = gather guardAt (upto (sh .transitions))
+
+  abbrev pub assignedUse : List ℕ
+  assignedUse = gather assignedAt (upto (sh .actions))
+
+  abbrev pub allUses : List ℕ
+  allUses = addUses (addUses (addUses (replicate 1024 0) operandUse) guardUse) assignedUse
 
 module _ (node : ℕ → Node) where
   abbrev pub truths : List ℕ → Bool

@@ -1,6 +1,6 @@
 // Refusal 7: transitions inside charts, initial states, priorities, and at most eight actions an owner.
 ghost use mathlib.Core.Path.{_≡_};
-ghost use mathlib.Core.Bool.{true, _&&_};
+ghost use mathlib.Core.Bool.{true, cond, _&&_};
 ghost use mathlib.Core.List.{map, _++_};
 ghost use Prim.Native.Nat.{_+_, _*_, _≤_, _<_};
 ghost use lib.Dec.{ltb};
@@ -13,7 +13,7 @@ ghost use Rattle.model.specs.ChartFile as file;
 ghost use Rattle.chart_files.specs.Shape.{IsShape};
 ghost use Rattle.chart_files.specs.Places.{initialAt, transitionAt};
 ghost use Rattle.chart_files.specs.Names.{initialNamed};
-ghost use Rattle.chart_files.specs.Tallies.{addOne, within};
+ghost use Rattle.chart_files.specs.Tallies.{addOne, within, tally};
 ghost use Rattle.chart_files.specs.Structure.{insideChart, isFree, apart, idle, leftOnce, sourceAt, pairAt, ownerAt};
 use super::Shape;
 use super::fields::Guard;
@@ -198,7 +198,7 @@ fn initials_fit(s: &[u8], shape: Shape) -> bool
 // One more at place k, unless it has as many as it may. A place past the end is none.
 fn count_within(counts: &mut [u8], k: usize, most: u8) -> bool
     requires { ⌜ 0 < most ⌝ }
-    ensures { λ r. ⌜ (r ≡ ltb (getD (now (counts .entry)) k 0) most) × (r ≡ true → now (counts .exit) ≡ addOne (now (counts .entry)) k) ⌝ }
+    ensures { λ r. ⌜ (r ≡ ltb (getD (now (counts .entry)) k 0) most) × (now (counts .exit) ≡ cond r (addOne (now (counts .entry)) k) (now (counts .entry))) ⌝ }
 {
     if counts.len() <= k {
         return true;
@@ -224,7 +224,7 @@ fn pair(s: &[u8], shape: Shape, t: u16) -> usize
 // No pair comes twice, from what is seen on.
 fn pairs_within(s: &[u8], shape: Shape, seen: &mut [u8]) -> bool
     requires { ⌜ IsShape (now s) shape × (all file.inCode (records (now s)) ≡ true) ⌝ }
-    ensures { λ r. ⌜ r ≡ within 1 (now (seen .entry)) (map (pairAt (now (s .entry)) shape) (upto (shape .transitions))) ⌝ }
+    ensures { λ r. ⌜ (r ≡ within 1 (now (seen .entry)) (map (pairAt (now (s .entry)) shape) (upto (shape .transitions)))) × (now (seen .exit) ≡ tally 1 (now (seen .entry)) (map (pairAt (now (s .entry)) shape) (upto (shape .transitions)))) ⌝ }
 {
     let n = shape.transitions;
     let mut t = 0;
@@ -260,7 +260,7 @@ fn owner_at(s: &[u8], shape: Shape, i: u16) -> usize
 
 // No owner comes more than eight times, from what is counted on.
 fn owners_within(s: &[u8], shape: Shape, counts: &mut [u8]) -> bool
-    ensures { λ r. ⌜ r ≡ within 8 (now (counts .entry)) (map (ownerAt (now (s .entry)) shape) (upto (shape .actions))) ⌝ }
+    ensures { λ r. ⌜ (r ≡ within 8 (now (counts .entry)) (map (ownerAt (now (s .entry)) shape) (upto (shape .actions)))) × (now (counts .exit) ≡ tally 8 (now (counts .entry)) (map (ownerAt (now (s .entry)) shape) (upto (shape .actions)))) ⌝ }
 {
     let n = shape.actions;
     let mut i = 0;

@@ -4,17 +4,17 @@ ghost use mathlib.Core.Bool.{true};
 ghost use Prim.Native.Nat.{_≤_};
 ghost use lib.Dec.{eqb};
 ghost use lib.ListN.{length, getD, replicate};
-ghost use Rattle.records.specs.Lists.{all, gather, upto};
+ghost use Rattle.records.specs.Lists.{all, upto};
 ghost use Rattle.records.specs.Bytes.{records};
 ghost use Rattle.expressions.specs.Nodes.{nodeOf, nodeAt};
 ghost use Rattle.expressions.specs.Sorts.{verdictOf};
-ghost use Rattle.expressions.specs.Uses.{addUses, allOperands};
+ghost use Rattle.expressions.specs.Uses.{addUses};
 ghost use Rattle.model.specs.ChartSet.{readCharts};
 ghost use Rattle.model.specs.ChartFile as file;
 ghost use Rattle.chart_files.specs.Shape.{IsShape};
 ghost use Rattle.chart_files.specs.Places.{nodePart};
 ghost use Rattle.chart_files.specs.Parts.{guardFor, deedFor};
-ghost use Rattle.chart_files.specs.Used.{guardAt, assignedAt, truths, numbers};
+ghost use Rattle.chart_files.specs.Used.{guardAt, assignedAt, operandUse, guardUse, assignedUse, allUses, truths, numbers};
 use super::Shape;
 use super::fields::Deed;
 use super::fields::Guard;
@@ -56,7 +56,7 @@ fn guard_fits(s: &[u8], shape: Shape, nodes: &[u8], t: u16, uses: &mut [u8]) -> 
 // Counts them too, so that each is read once.
 fn guards_fit(s: &[u8], shape: Shape, uses: &mut [u8]) -> bool
     requires { ⌜ IsShape (now s) shape ⌝ }
-    ensures { λ r. ⌜ (r ≡ truths (nodeOf (readCharts (now (s .entry)) .nodes)) (file.guards (readCharts (now (s .entry))))) × (now (uses .exit) ≡ addUses (now (uses .entry)) (gather (guardAt (now (s .entry)) shape) (upto (shape .transitions)))) ⌝ }
+    ensures { λ r. ⌜ (r ≡ truths (nodeOf (readCharts (now (s .entry)) .nodes)) (file.guards (readCharts (now (s .entry))))) × (now (uses .exit) ≡ addUses (now (uses .entry)) (guardUse (now (s .entry)) shape)) ⌝ }
 {
     let nodes = node_records(s, shape);
     let n = shape.transitions;
@@ -99,7 +99,7 @@ fn assigned_fits(s: &[u8], shape: Shape, nodes: &[u8], i: u16, uses: &mut [u8]) 
 // Counts them too. All actions have a place, so no place is asked for.
 fn assigned_fit(s: &[u8], shape: Shape, uses: &mut [u8]) -> bool
     requires { ⌜ IsShape (now s) shape × (all file.inCode (records (now s)) ≡ true) ⌝ }
-    ensures { λ r. ⌜ (r ≡ numbers (nodeOf (readCharts (now (s .entry)) .nodes)) (file.assigned (readCharts (now (s .entry))))) × (now (uses .exit) ≡ addUses (now (uses .entry)) (gather (assignedAt (now (s .entry)) shape) (upto (shape .actions)))) ⌝ }
+    ensures { λ r. ⌜ (r ≡ numbers (nodeOf (readCharts (now (s .entry)) .nodes)) (file.assigned (readCharts (now (s .entry))))) × (now (uses .exit) ≡ addUses (now (uses .entry)) (assignedUse (now (s .entry)) shape)) ⌝ }
 {
     let nodes = node_records(s, shape);
     let n = shape.actions;
@@ -129,8 +129,8 @@ fn all_once(uses: &[u8], size: u16) -> bool
 
 // Of a framed file whose codes and ranges are kept, by what `test_nodes` found of its nodes; `uses` has those as operands.
 pub fn nodes_fit(s: &[u8], shape: Shape, found: u8, uses: &mut [u8]) -> bool
-    requires { ⌜ IsShape (now s) shape × (all file.inCode (records (now s)) ≡ true) × (found ≡ verdictOf (nodeAt (nodePart (now s) shape)) (shape .nodes) (shape .variables)) × (now uses ≡ addUses (replicate 1024 0) (allOperands (nodeAt (nodePart (now s) shape)) (shape .nodes))) ⌝ }
-    ensures { λ r. ⌜ r ≡ file.nodesFit (readCharts (now (s .entry))) ⌝ }
+    requires { ⌜ IsShape (now s) shape × (all file.inCode (records (now s)) ≡ true) × (found ≡ verdictOf (nodeAt (nodePart (now s) shape)) (shape .nodes) (shape .variables)) × (now uses ≡ addUses (replicate 1024 0) (operandUse (now s) shape)) ⌝ }
+    ensures { λ r. ⌜ (r ≡ file.nodesFit (readCharts (now (s .entry)))) × (now (uses .exit) ≡ allUses (now (s .entry)) shape) ⌝ }
 {
     let guards = guards_fit(s, shape, uses);
     let assigned = assigned_fit(s, shape, uses);

@@ -17,7 +17,7 @@ use Rattle.chart_files.specs.declared.Shape.{Shape}
 use Rattle.chart_files.specs.Shape.{IsShape}
 use Rattle.chart_files.proofs.Readings.{length-initial}
 use Rattle.machines.specs.Worlds.{codedFault}
-use Rattle.machines.specs.declared.deeds.Done.{Done}
+use Rattle.charts.specs.declared.plays.Progress.{Progress}
 use Rattle.machines.proofs.Codes.{coded-value, coded-fault}
 use Rattle.machines.proofs.Turning.{val-is, at-part, cycle-more, cycle-stop, cycle-end}
 use Rattle.charts.specs.RunOf.{runIn, aged}
@@ -181,7 +181,7 @@ module _ (s : List ℕ) (sh : Shape) (is : IsShape s sh) where
     cycle-young h k l = let passed = cycle-passed h .0 in omega (arith, passed .unfinished, passed .timers k l)
 
     -- time passes, unless a turn faulted
-    module _ (d : Done) (ages′ : List ℕ) (told : (q : Run) → ranTo d q ≡ endedBy code q) (grown : code ≤ 4_294_967_295 → ages′ ≡ mapFrom 0 (aged (sh .charts)) ages) where
+    module _ (d : Progress) (ages′ : List ℕ) (told : (q : Run) → ranTo d q ≡ endedBy code q) (grown : code ≤ 4_294_967_295 → ages′ ≡ mapFrom 0 (aged (sh .charts)) ages) where
       pub cycle-closed : ranTo d (runIn states ages′ vars 0 1 (c + 1)) ≡ after (charts (readCharts s)) (sh .charts + 2 - r .world .position) r
       cycle-closed = told (runIn states ages′ vars 0 1 (c + 1)) ∙ go (ltb 4_294_967_295 code) refl
         where

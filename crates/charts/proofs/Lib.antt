@@ -12,4 +12,6 @@ pub mod ChartTurns
 pub mod Kept
 pub mod Turning
 pub mod Checking
+pub mod CycleLaws
 pub mod PlayLaws
+pub mod Types

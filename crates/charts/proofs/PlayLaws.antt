@@ -16,13 +16,14 @@ use Rattle.model.proofs.PossibleRuns.{possible-rests, checked-is}
 use Rattle.model.specs.ChartSet.{ChartSet, readCharts}
 use Rattle.model.specs.Charts.{chartStep, charts}
 use Rattle.model.specs.Calls.{chartSets}
+use Rattle.machines.specs.Answers.{cyclesOf}
 use Rattle.machines.specs.Playing.{played, stoppedAt, playing, playCall}
 use Rattle.machines.proofs.Turning.{cycle-refused}
 use Rattle.machines.proofs.Playing as P
-use Rattle.charts.specs.declared.plays.Cycles.the-variants.{Done}
+use Rattle.machines.specs.declared.answers.Cycles.the-variants.{Done}
 use Rattle.charts.specs.declared.plays.Played.{Played}
 use Rattle.charts.specs.RunOf.{runOf, runIn}
-use Rattle.charts.specs.PlayedOf.{cyclesOf, playedOf}
+use Rattle.charts.specs.PlayedOf.{playedOf}
 use Rattle.charts.proofs.Kept.{step-kept}
 
 pub count-kept : (cs : ChartSet) (part : ℕ) (r : Run) → P.KeptCount r (charts cs .step part r)

@@ -2,7 +2,7 @@
 use mathlib.Core.Path.{_≡_, refl, sym, ap, _∙_}
 use mathlib.Core.Bool.{Bool, true, false, not, cond, _&&_, _||_}
 use mathlib.Core.List.{List, [], _∷_, map}
-use Prim.Native.Nat.{ℕ, zero, suc, _+_, _≤_, _<_}
+use Prim.Native.Nat.{ℕ, zero, suc, _+_, _≤_, _<_, max}
 use native.Mathlib.Nat.{sub-zero}
 use native.Mathlib.Omega.{arith}
 use lib.Dec.{leb, ltb, eqb}
@@ -16,12 +16,12 @@ use Rattle.model.specs.ChartFile.{prioritiesDiffer}
 use Rattle.chart_files.specs.declared.Shape.{Shape}
 use Rattle.chart_files.specs.Places.{transitionAt}
 use Rattle.chart_files.proofs.ListLaws.{keep-keep}
-use Rattle.chart_files.proofs.Readings.{transition-is, length-homes, length-transitions, most-transitions}
+use Rattle.chart_files.proofs.Readings.{transition-is, length-transitions, most-transitions}
 use Rattle.charts.specs.Accepted.{Accepted}
-use Rattle.charts.specs.Tables.{headOr, earliest, named, leaves, placed, HasRows}
+use Rattle.charts.specs.Tables.{headOr, earliest, named, leaves, placed, HasRows, highest, HasEnds}
 use Rattle.machines.proofs.Earliest.{keep-alike, only-one}
 use Rattle.charts.proofs.Sound.{all-kept, priority-known, differ}
-use Rattle.charts.proofs.TableLaws.{leaving, Rows}
+use Rattle.charts.proofs.TableLaws.{leaving, Rows, priorityFrom, Ended}
 use Rattle.model.proofs.Sorting.{sorted-buckets}
 
 all-from : (p : ℕ → Bool) (k n : ℕ) → ((t : ℕ) → k ≤ t → t < k + n → p t ≡ true) → all p (from k n) ≡ true
@@ -99,6 +99,11 @@ module _ (cs : ChartSet) (st : ℕ) where
       pub row-named : row cs st ≡ gather (λ q. named (earliest (leaves cs st q) 0 (length (cs .transitions)))) (from 1 16)
       row-named = row-by-priority ∙ (λ i. gather (λ q. place-named q i) (from 1 16))
 
+highest-alike : (f g : ℕ → ℕ) (n k : ℕ) → ((i : ℕ) → i < k + n → f i ≡ g i) → highest f (from k n) ≡ highest g (from k n)
+unfolding highest from
+highest-alike f g zero k same = refl
+highest-alike f g (suc n) k same = λ i. max (same k (omega arith) i) (highest-alike f g n (suc k) (λ j l. same j (omega arith)) i)
+
 -- ---- the tables of an accepted file
 
 abbrev pub sourceAt : List ℕ → Shape → ℕ → ℕ
@@ -108,16 +113,25 @@ abbrev pub priorityAt : List ℕ → Shape → ℕ → ℕ
 priorityAt s sh u = transitionAt s sh u .priority
 
 module _ (s : List ℕ) (sh : Shape) (ok : Accepted s sh) where
-  pub rows-are : (rows : List (List ℕ)) → sh .states ≤ length rows → Rows (sourceAt s sh) (priorityAt s sh) (sh .transitions) (length rows) rows 0 → HasRows (readCharts s) rows
-  rows-are rows enough r = record {
-    enough = omega (arith, enough, length-homes s sh (ok .shape));
-    places = λ st j h l.
-        r .filled st j h l
-        ∙ ap (λ l. placed (headOr 65535 l))
-        (ap (λ n. keep (leaving (sourceAt s sh) (priorityAt s sh) (sh .transitions) (length rows) st (j + 1)) (from 0 n)) (sub-zero (sh .transitions))
-        ∙ keep-alike (leaving (sourceAt s sh) (priorityAt s sh) (sh .transitions) (length rows) st (j + 1)) (leaves (readCharts s) st (j + 1)) 0 (sh .transitions)
-        (λ i a b. let m : i < sh .transitions = omega arith in λ k. eqb (sym (transition-is s sh (ok .shape) i m) k .source) st && eqb (sym (transition-is s sh (ok .shape) i m) k .priority) (j + 1))
-        ∙ ap (λ n. keep (leaves (readCharts s) st (j + 1)) (from 0 n)) (sym (length-transitions s sh (ok .shape))));
+  pub rows-are : (rows : List (List ℕ)) → Rows (sourceAt s sh) (priorityAt s sh) (sh .transitions) 128 rows 0 → HasRows (readCharts s) rows
+  rows-are rows r st j h l =
+      r .filled st j h l
+      ∙ ap (λ l. placed (headOr 65535 l))
+      (ap (λ n. keep (leaving (sourceAt s sh) (priorityAt s sh) (sh .transitions) 128 st (j + 1)) (from 0 n)) (sub-zero (sh .transitions))
+      ∙ keep-alike (leaving (sourceAt s sh) (priorityAt s sh) (sh .transitions) 128 st (j + 1)) (leaves (readCharts s) st (j + 1)) 0 (sh .transitions)
+      (λ i a b. let m : i < sh .transitions = omega arith in λ k. eqb (sym (transition-is s sh (ok .shape) i m) k .source) st && eqb (sym (transition-is s sh (ok .shape) i m) k .priority) (j + 1))
+      ∙ ap (λ n. keep (leaves (readCharts s) st (j + 1)) (from 0 n)) (sym (length-transitions s sh (ok .shape))))
+
+  pub ends-are : (rows : List (List ℕ)) (ends : List ℕ) → Ended (sourceAt s sh) (priorityAt s sh) (sh .transitions) rows ends 0 → HasEnds (readCharts s) rows ends
+  ends-are rows ends e = record {
+    exact = λ st h.
+        e .exact st h
+        ∙ ap (λ n. highest (priorityFrom (sourceAt s sh) (priorityAt s sh) (sh .transitions) st) (from 0 n)) (sub-zero (sh .transitions))
+        ∙ highest-alike (priorityFrom (sourceAt s sh) (priorityAt s sh) (sh .transitions) st) (λ u. cond (eqb (transition (readCharts s) u .source) st) (transition (readCharts s) u .priority) 0) (sh .transitions) 0
+        (λ i l. let m : i < sh .transitions = omega arith in λ k. cond (eqb (sym (transition-is s sh (ok .shape) i m) k .source) st) (sym (transition-is s sh (ok .shape) i m) k .priority) 0)
+        ∙ ap (λ n. highest (λ u. cond (eqb (transition (readCharts s) u .source) st) (transition (readCharts s) u .priority) 0) (from 0 n)) (sym (length-transitions s sh (ok .shape)));
+    short = e .short;
+    empty = e .empty;
   }
 
   priorities : (t : ℕ) → t < length (readCharts s .transitions) → (1 ≤ transition (readCharts s) t .priority) × (transition (readCharts s) t .priority ≤ 16)

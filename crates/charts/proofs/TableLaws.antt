@@ -2,13 +2,14 @@
 use mathlib.Core.Path.{_≡_, refl, sym, ap, _∙_}
 use mathlib.Core.Bool.{Bool, true, false, cond, _&&_}
 use mathlib.Core.List.{List, []}
-use Prim.Native.Nat.{ℕ, _+_, _-_, _≤_, _<_}
+use Prim.Native.Nat.{ℕ, suc, _+_, _-_, _≤_, _<_, max}
 use native.Mathlib.Omega.{arith}
 use lib.Dec.{eqb}
 use lib.ListN.{length, getD, set, replicate, length-set, length-replicate, getD-replicate}
 use lib.Seq.{getD-set-same, getD-set-other}
-use borrow.Author.Tests.{eqb-true, eqb-false}
-use Rattle.charts.specs.Tables.{EmptyRows, HasEnds, earliest, placed}
+use borrow.Author.Tests.{eqb-true, eqb-false, eq-eqb, ne-eqb}
+use Rattle.records.specs.Lists.{from}
+use Rattle.charts.specs.Tables.{highest, earliest, placed}
 use Rattle.machines.proofs.Earliest.{earliest-one, earliest-none}
 
 -- ---- so many rows: each number u has a source and a priority
@@ -83,52 +84,79 @@ module _ (source priority : ℕ → ℕ) (size count : ℕ) where
 
 -- ---- an end for each row
 
-abbrev pub Ended : List (List ℕ) → List ℕ → Type 0
-Ended rows ends = (length ends ≡ 128) × HasEnds rows ends
+module _ (source priority : ℕ → ℕ) (size : ℕ) where
+  -- the priority of a number, if it leaves a state
+  abbrev pub priorityFrom : ℕ → ℕ → ℕ
+  priorityFrom st u = cond (eqb (source u) st) (priority u) 0
 
-pub ends-none : (count : ℕ) → Ended (replicate count (replicate {A = ℕ} 16 256)) (replicate 128 0)
-ends-none count = (
-  length-replicate {A = ℕ} 128 0,
-  λ st h k.
-      let l : st < count = omega (arith, h, length-replicate count (replicate {A = ℕ} 16 256)) in (
-        omega (arith, getD-replicate {A = ℕ} 128 st 0 0 k),
-        λ j _ m. ap (λ r. getD r j 0) (getD-replicate count st (replicate {A = ℕ} 16 256) [] l) ∙ getD-replicate {A = ℕ} 16 j 256 0 m,
-      ),
-)
+  -- the ends of rows that are filled down to t
+  pub record Ended (rows : List (List ℕ)) (ends : List ℕ) (t : ℕ) : Type 0 where
+    pub all : length ends ≡ 128
+    pub exact : (st : ℕ) → st < 128 → getD ends st 0 ≡ highest (priorityFrom st) (from t (size - t))
+    pub short : (st : ℕ) → st < 128 → getD ends st 0 ≤ 16
+    pub empty : (st j : ℕ) → st < 128 → getD ends st 0 ≤ j → j < 16 → getD (getD rows st []) j 0 ≡ 256
 
--- place k of row i is written, and its end is past it
-module _ (rows : List (List ℕ)) (ends : List ℕ) (i k u p : ℕ) (so-far : Ended rows ends) (in-rows : i < length rows) (in-ends : i < 128) (low : getD ends i 0 ≤ p) (past : k + 1 ≤ p) (fits : p ≤ 16) where
-  pub ends-more : Ended (set rows i (set (getD rows i []) k u)) (set ends i p)
-  ends-more = (length-set ends i p ∙ so-far .0, λ st h l. go st (omega (arith, h, length-set rows i (set (getD rows i []) k u))) l (eqb st i) refl)
-    where
-      rows′ : List (List ℕ)
-      rows′ = set rows i (set (getD rows i []) k u)
+  pub ends-none : Ended (replicate 128 (replicate {A = ℕ} 16 256)) (replicate 128 0) size
+  unfolding highest from
+  ends-none = record {
+    all = length-replicate {A = ℕ} 128 0;
+    exact = λ st h. getD-replicate {A = ℕ} 128 st 0 0 h ∙ sym (ap (λ n. highest (priorityFrom st) (from size n)) (let e : size - size ≡ 0 = omega arith in e));
+    short = λ st h. omega (arith, getD-replicate {A = ℕ} 128 st 0 0 h);
+    empty = λ st j h _ l. ap (λ r. getD r j 0) (getD-replicate 128 st (replicate {A = ℕ} 16 256) [] h) ∙ getD-replicate {A = ℕ} 16 j 256 0 l;
+  }
 
-      go : (st : ℕ) → st < length rows → st < 128 → (b : Bool) → eqb st i ≡ b →
-          (getD (set ends i p) st 0 ≤ 16) × ((j : ℕ) → getD (set ends i p) st 0 ≤ j → j < 16 → getD (getD rows′ st []) j 0 ≡ 256)
-      go st h n true e =
-          let q : st ≡ i = eqb-true st i e in
-          let a : getD (set ends i p) st 0 ≡ p = ap (λ n. getD (set ends i p) n 0) q ∙ getD-set-same ends i p 0 (omega (arith, so-far .0)) in
-          let b : getD rows′ st [] ≡ set (getD rows i []) k u = ap (λ n. getD rows′ n []) q ∙ getD-set-same rows i (set (getD rows i []) k u) [] in-rows in (
-            omega (arith, a),
-            λ j l m.
-                ap (λ r. getD r j 0) b
-                ∙ getD-set-other (getD rows i []) k j u 0 (λ d. absurd (omega (arith, a, d)))
-                ∙ so-far .1 i in-rows in-ends .1 j (omega (arith, a)) m,
-          )
-      go st h n false e =
-          let d : st ≡ i → ⊥ = eqb-false st i e in
-          let a : getD (set ends i p) st 0 ≡ getD ends st 0 = getD-set-other ends i st p 0 d in (
-            omega (arith, a, so-far .1 st h n .0),
-            λ j l m. ap (λ r. getD r j 0) (getD-set-other rows i st (set (getD rows i []) k u) [] d) ∙ so-far .1 st h n .1 j (omega (arith, a)) m,
-          )
+  -- number u stands at place k of row i, and the row's end is past it
+  module _ (rows : List (List ℕ)) (ends : List ℕ) (u i k : ℕ) (so-far : Ended rows ends (u + 1)) (long : length rows ≡ 128) (below : u < size) (at-source : source u ≡ i) (at-priority : priority u ≡ k + 1) (in-rows : i < 128) (in-row : k < 16) where
+    abbrev end : ℕ
+    end = max (getD ends i 0) (k + 1)
 
--- a row's whole length is an end
-pub whole-rows : (rows : List (List ℕ)) → HasEnds rows (replicate 128 16)
-whole-rows rows st h n = let e : getD (replicate {A = ℕ} 128 16) st 0 ≡ 16 = getD-replicate {A = ℕ} 128 st 16 0 n in (omega (arith, e), λ j l m. absurd (omega (arith, e)))
+    abbrev next-ends : List ℕ
+    next-ends = set ends i end
 
--- rows as they are made
-pub empty-rows : (states count : ℕ) → states ≤ count → EmptyRows states (replicate count (replicate 16 256))
-empty-rows states count h =
-    let e : length (replicate count (replicate {A = ℕ} 16 256)) ≡ count = length-replicate count (replicate {A = ℕ} 16 256) in
-    (omega (arith, e), ap (λ n. replicate n (replicate {A = ℕ} 16 256)) (sym e))
+    end-here : getD next-ends i 0 ≡ end
+    end-here = getD-set-same ends i end 0 (omega (arith, so-far .all))
+
+    down : (st : ℕ) → highest (priorityFrom st) (from u (size - u)) ≡ max (priorityFrom st u) (highest (priorityFrom st) (from (u + 1) (size - (u + 1))))
+    unfolding highest from
+    down st =
+        ap (λ n. highest (priorityFrom st) (from u n)) (let e : size - u ≡ suc (size - (u + 1)) = omega arith in e)
+        ∙ ap (λ n. max (priorityFrom st u) (highest (priorityFrom st) (from n (size - (u + 1))))) (let e : suc u ≡ u + 1 = omega arith in e)
+
+    pub ends-more : Ended (set rows i (set (getD rows i []) k u)) next-ends u
+    ends-more = record {
+      all = length-set ends i end ∙ so-far .all;
+      exact = λ st h. exact-at st h (eqb st i) refl;
+      short = λ st h. short-at st h (eqb st i) refl;
+      empty = λ st j h le l. empty-at st j h le l (eqb st i) refl;
+    }
+      where
+        exact-at : (st : ℕ) → st < 128 → (b : Bool) → eqb st i ≡ b → getD next-ends st 0 ≡ highest (priorityFrom st) (from u (size - u))
+        exact-at st h true e =
+            let q : st ≡ i = eqb-true st i e in
+            let f : priorityFrom st u ≡ k + 1 = rw (eq-eqb (source u) st (at-source ∙ sym q)) at-priority in
+            let o : getD ends i 0 ≡ highest (priorityFrom st) (from (u + 1) (size - (u + 1))) = ap (λ n. getD ends n 0) (sym q) ∙ so-far .exact st h in
+            ap (λ n. getD next-ends n 0) q ∙ end-here ∙ max-swap (getD ends i 0) (k + 1) ∙ (λ m. max (sym f m) (o m)) ∙ sym (down st)
+          where
+            max-swap : (a b : ℕ) → max a b ≡ max b a
+            max-swap a b = omega arith
+        exact-at st h false e =
+            let f : priorityFrom st u ≡ 0 = rw (ne-eqb (source u) st (λ d. eqb-false st i e (sym d ∙ at-source))) refl in
+            let o = so-far .exact st h in
+            getD-set-other ends i st end 0 (eqb-false st i e) ∙ o ∙ (let z : highest (priorityFrom st) (from (u + 1) (size - (u + 1))) ≡ max 0 (highest (priorityFrom st) (from (u + 1) (size - (u + 1)))) = omega arith in z) ∙ (λ m. max (sym f m) (highest (priorityFrom st) (from (u + 1) (size - (u + 1))))) ∙ sym (down st)
+
+        short-at : (st : ℕ) → st < 128 → (b : Bool) → eqb st i ≡ b → getD next-ends st 0 ≤ 16
+        short-at st h true e =
+            let a : getD next-ends st 0 ≡ end = ap (λ n. getD next-ends n 0) (eqb-true st i e) ∙ end-here in
+            omega (arith, a, so-far .short i in-rows)
+        short-at st h false e = let a : getD next-ends st 0 ≡ getD ends st 0 = getD-set-other ends i st end 0 (eqb-false st i e) in omega (arith, a, so-far .short st h)
+
+        empty-at : (st j : ℕ) → st < 128 → getD next-ends st 0 ≤ j → j < 16 → (b : Bool) → eqb st i ≡ b → getD (getD (set rows i (set (getD rows i []) k u)) st []) j 0 ≡ 256
+        empty-at st j h le l true e =
+            let q : st ≡ i = eqb-true st i e in
+            let a : getD next-ends st 0 ≡ end = ap (λ n. getD next-ends n 0) q ∙ end-here in
+            let b : getD (set rows i (set (getD rows i []) k u)) st [] ≡ set (getD rows i []) k u = ap (λ n. getD (set rows i (set (getD rows i []) k u)) n []) q ∙ getD-set-same rows i (set (getD rows i []) k u) [] (omega (arith, long)) in
+            ap (λ r. getD r j 0) b ∙ getD-set-other (getD rows i []) k j u 0 (λ d. absurd (omega (arith, a, d))) ∙ so-far .empty i j in-rows (omega (arith, a)) l
+        empty-at st j h le l false e =
+            let d : st ≡ i → ⊥ = eqb-false st i e in
+            let a : getD next-ends st 0 ≡ getD ends st 0 = getD-set-other ends i st end 0 d in
+            ap (λ r. getD r j 0) (getD-set-other rows i st (set (getD rows i []) k u) [] d) ∙ so-far .empty st j h (omega (arith, a)) l

@@ -1,5 +1,5 @@
 -- Turns of chart sets: what the laws of turns ask of a machine. Assumes nothing.
-use mathlib.Core.Path.{_≡_, sym, ap, _∙_}
+use mathlib.Core.Path.{_≡_}
 use mathlib.Core.Bool.{true}
 use mathlib.Core.List.{List}
 use Prim.Native.Nat.{ℕ, _+_, _-_, _≤_, _<_}
@@ -7,9 +7,8 @@ use native.Mathlib.Omega.{arith}
 use borrow.Author.Tests.{leb-true}
 use lib.Dec.{leb}
 use lib.ListN.{getD}
-use Rattle.records.specs.Refusal.{val, fault}
-use Rattle.model.specs.Outcome.{settled}
-use Rattle.model.specs.Runs.{Run, Answer, parts, timersPossible, checked, give, stepped, turn, cycle}
+use Rattle.records.specs.Refusal.{val}
+use Rattle.model.specs.Runs.{Run, Answer, parts, timersPossible, checked, give, stepped}
 use Rattle.model.specs.ChartSet.{readCharts}
 use Rattle.model.specs.Charts.{chartStep, charts}
 use Rattle.chart_files.specs.declared.Shape.{Shape}
@@ -17,14 +16,7 @@ use Rattle.chart_files.specs.Shape.{IsShape}
 use Rattle.chart_files.proofs.Readings.{length-initial}
 use Rattle.machines.proofs.Possible.{all-upto}
 use Rattle.machines.proofs.Turning as T
-use Rattle.charts.specs.declared.runs.Run as declared-run
-use Rattle.charts.specs.declared.turns.Refusal.{Refusal as Stop}
-use Rattle.charts.specs.declared.turns.Answer as declared-answer
-use Rattle.charts.specs.declared.turns.Turned.{Turned}
-use Rattle.charts.specs.declared.turns.Ending as declared-ending
-use Rattle.charts.specs.declared.turns.Called.{Called}
-use Rattle.charts.specs.RunOf.{runOf}
-use Rattle.charts.specs.TurnOf.{refusalOf, answerOf, turnOf, endingOf, calledOf, Ready}
+use Rattle.charts.specs.TurnOf.{Ready}
 use Rattle.charts.proofs.Kept.{step-kept}
 
 abbrev Young : ℕ → ℕ → ℕ → ℕ → Type 0
@@ -48,16 +40,3 @@ module _ (s : List ℕ) (sh : Shape) (is : IsShape s sh) where
 
   pub chart-place : (r : Run) (a : Answer) (q : Run) → chartStep (readCharts s) (r .world .position - 1) r ≡ val (a, q) → q .world .position ≡ r .world .position
   chart-place r = T.part-place (charts (readCharts s)) r (step-kept (readCharts s) (r .world .position - 1) r)
-
--- ---- a call that the checks refuse
-
-module _ (s : List ℕ) (events : ℕ) (run : declared-run.Run) (f : Stop) (stopped : checked (charts (readCharts s)) events (runOf run) ≡ fault (refusalOf f)) where
-  pub turn-unready : (t : Turned) → (t .answer ≡ declared-answer.the-variants.Refused f) × (t .run ≡ run) → turnOf t ≡ settled (runOf run) (turn (charts (readCharts s)) events (runOf run))
-  turn-unready t e =
-      (λ i. record { answer = answerOf (e .0 i); lent = runOf (e .1 i) })
-      ∙ sym (ap (settled (runOf run)) (T.turn-refused (charts (readCharts s)) events (runOf run) (refusalOf f) stopped))
-
-  pub cycle-undone : (t : Called) → (t .answer ≡ declared-ending.the-variants.Refused f) × (t .run ≡ run) → calledOf t ≡ settled (runOf run) (cycle (charts (readCharts s)) events (runOf run))
-  cycle-undone t e =
-      (λ i. record { answer = endingOf (e .0 i); lent = runOf (e .1 i) })
-      ∙ sym (ap (settled (runOf run)) (T.cycle-refused (charts (readCharts s)) events (runOf run) (refusalOf f) stopped))

@@ -10,13 +10,10 @@ use Rattle.records.specs.Refusal.{Out, val, fault, _>>=_}
 use Rattle.model.specs.Runs.{World, Run, Answer, taken, idle, moved}
 use Rattle.model.specs.ChartSet.{ChartSet}
 use Rattle.model.specs.Charts.{chartStep}
-pub use Rattle.machines.specs.Worlds.{reasonOf}
+use Rattle.machines.specs.Answers.{reasonOf}
 use Rattle.machines.specs.Worlds.{coded}
-use Rattle.machines.specs.declared.deeds.Done as declared-done
-use Rattle.charts.specs.declared.steps.Reply.{Reply}
-use Rattle.charts.specs.declared.steps.Reply.the-variants.{Taken, Idle, Fault}
-use Rattle.charts.specs.declared.steps.Step.{Step}
-use Rattle.charts.specs.RunOf.{runOf, runIn}
+use Rattle.charts.specs.declared.plays.Progress as declared-progress
+use Rattle.charts.specs.RunOf.{runIn}
 
 -- the first transition that holds, if one does, as one number: 65,535 stands for none
 abbrev pub choiceBy : ℕ → Out (Option ℕ)
@@ -34,14 +31,6 @@ slotHolds f t = cond (eqb t 65535) (val false) (f t)
 -- the run in which a chart has entered a state
 abbrev pub entered : Run → ℕ → ℕ → World → Run
 entered r chart target w = record { at = set (r .at) chart target; timers = set (r .timers) chart 0; world = w }
-
-abbrev pub replyOf : Reply → Out Answer
-replyOf (Taken t) = val (taken t)
-replyOf Idle = val idle
-replyOf (Fault w) = fault (reasonOf w)
-
-abbrev pub stepOf : Step → Out (Answer × Run)
-stepOf x = replyOf (x .reply) >>= λ a. val (a, runOf (x .run))
 
 -- ---- in place
 
@@ -63,6 +52,6 @@ abbrev pub endedBy : ℕ → Run → Out Run
 endedBy code r = coded code >>= λ events. val r
 
 -- a cycle, from the run that it leaves
-abbrev pub ranTo : declared-done.Done → Run → Out Run
-ranTo (declared-done.the-variants.Events events) r = val r
-ranTo (declared-done.the-variants.Fault w) r = fault (reasonOf w)
+abbrev pub ranTo : declared-progress.Progress → Run → Out Run
+ranTo declared-progress.the-variants.Done r = val r
+ranTo (declared-progress.the-variants.Fault w) r = fault (reasonOf w)

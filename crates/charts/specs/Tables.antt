@@ -1,11 +1,11 @@
 -- Tables that a turn reads, made once for a set: of each state its leaving transitions by priority, of each owner its actions in file order. Assumes nothing: these are definitions.
 use mathlib.Core.Path.{_≡_}
 use mathlib.Core.Logic.{_⊎_}
-use mathlib.Core.Bool.{Bool, _&&_}
+use mathlib.Core.Bool.{Bool, cond, _&&_}
 use mathlib.Core.List.{List, [], _∷_, map}
-use Prim.Native.Nat.{ℕ, _+_, _-_, _≤_, _<_, min}
+use Prim.Native.Nat.{ℕ, _+_, _-_, _≤_, _<_, min, max}
 use lib.Dec.{eqb}
-use lib.ListN.{length, getD, replicate}
+use lib.ListN.{length, getD}
 use Rattle.records.specs.Lists.{keep, upto, caseOf}
 use Rattle.records.specs.Refusal.{Out, _>>=_}
 use Rattle.model.specs.Runs.{World, deeds}
@@ -28,18 +28,23 @@ slotAt cs st q = earliest (leaves cs st q) 0 (length (cs .transitions))
 abbrev pub placed : ℕ → ℕ
 placed t = min 256 t
 
--- a row for each state at least, and all name none
-abbrev pub EmptyRows : ℕ → List (List ℕ) → Type 0
-EmptyRows states rows = (states ≤ length rows) × (rows ≡ replicate (length rows) (replicate 16 256))
+-- "array of arrays, 128 rows of 16 transition numbers": a row for each state, with a place for each priority, 1 to 16, in order
+abbrev pub HasRows : ChartSet → List (List ℕ) → Type 0
+HasRows cs rows = (st j : ℕ) → st < 128 → j < 16 → getD (getD rows st []) j 0 ≡ placed (slotAt cs st (j + 1))
 
--- a row for each state at least, with a place for each priority, 1 to 16, in order
-pub record HasRows (cs : ChartSet) (rows : List (List ℕ)) : Type 0 where
-  pub enough : length (cs .homes) ≤ length rows
-  pub places : (st j : ℕ) → st < length rows → j < 16 → getD (getD rows st []) j 0 ≡ placed (slotAt cs st (j + 1))
+unfoldable pub highest : (ℕ → ℕ) → List ℕ → ℕ
+highest f [] = 0
+highest f (x ∷ xs) = max (f x) (highest f xs)
 
--- of each row, as far as there are ends, which are 128, an end: no place from there on names a transition
-abbrev pub HasEnds : List (List ℕ) → List ℕ → Type 0
-HasEnds rows ends = (st : ℕ) → st < length rows → st < 128 → (getD ends st 0 ≤ 16) × ((j : ℕ) → getD ends st 0 ≤ j → j < 16 → getD (getD rows st []) j 0 ≡ 256)
+-- the highest priority of the transitions that leave a state, 0 where none does
+abbrev pub rowEnd : ChartSet → ℕ → ℕ
+rowEnd cs st = highest (λ u. cond (eqb (transition cs u .source) st) (transition cs u .priority) 0) (upto (length (cs .transitions)))
+
+-- of each row its end: no place from there on names a transition
+pub record HasEnds (cs : ChartSet) (rows : List (List ℕ)) (ends : List ℕ) : Type 0 where
+  pub exact : (st : ℕ) → st < 128 → getD ends st 0 ≡ rowEnd cs st
+  pub short : (st : ℕ) → st < 128 → getD ends st 0 ≤ 16
+  pub empty : (st j : ℕ) → st < 128 → getD ends st 0 ≤ j → j < 16 → getD (getD rows st []) j 0 ≡ 256
 
 -- ---- actions
 

@@ -1,55 +1,31 @@
 -- What turns and cycles answer, as outcomes of the model's calls. Assumes nothing: these are definitions.
 use mathlib.Core.List.{List}
 use Prim.Native.Nat.{ℕ, _≤_, _<_}
-use Rattle.records.specs.Refusal.{Refusal as Number, impossible-run, misplaced-events, cycles-done, Out, val, fault}
 use Rattle.model.specs.Outcome.{Outcome}
 use Rattle.model.specs.Runs as M
 use Rattle.model.specs.ChartSet.{readCharts}
+use Rattle.machines.specs.Answers.{answerOf, endingOf}
 use Rattle.machines.specs.Turns as R
 pub use Rattle.machines.specs.Turns.{after, finish}
 use Rattle.chart_files.specs.declared.Shape.{Shape}
-use Rattle.chart_files.specs.Shape.{refusalFor}
-use Rattle.charts.specs.declared.turns.Refusal.{Refusal}
-use Rattle.charts.specs.declared.turns.Refusal.the-variants.{File, Impossible, Misplaced, Finished}
-use Rattle.charts.specs.declared.turns.Answer.{Answer}
-use Rattle.charts.specs.declared.turns.Answer.the-variants.{Taken, Idle, Time, Fault, Refused}
 use Rattle.charts.specs.declared.turns.Turned.{Turned}
-use Rattle.charts.specs.declared.turns.Ending as declared-ending
-use Rattle.charts.specs.declared.turns.Called.{Called}
+use Rattle.charts.specs.declared.cycles.Called.{Called}
 use Rattle.charts.specs.Accepted.{Accepted}
-use Rattle.charts.specs.Tables.{HasRows, HasActions}
-use Rattle.charts.specs.StepOf.{reasonOf}
+use Rattle.charts.specs.Tables.{HasRows, HasEnds, HasActions}
 use Rattle.charts.specs.RunOf.{runOf}
-
-abbrev pub refusalOf : Refusal → Number
-refusalOf (File w) = refusalFor w
-refusalOf Impossible = impossible-run
-refusalOf Misplaced = misplaced-events
-refusalOf Finished = cycles-done
-
-abbrev pub answerOf : Answer → Out M.Answer
-answerOf (Taken t) = val (M.taken t)
-answerOf Idle = val M.idle
-answerOf Time = val M.time
-answerOf (Fault w) = fault (reasonOf w)
-answerOf (Refused w) = fault (refusalOf w)
 
 -- a turn's answer, and the lent run afterwards
 abbrev pub turnOf : Turned → Outcome M.Answer M.Run
 turnOf t = record { answer = answerOf (t .answer); lent = runOf (t .run) }
 
-abbrev pub endingOf : declared-ending.Ending → Out (Unit {0})
-endingOf declared-ending.the-variants.Done = val tt
-endingOf (declared-ending.the-variants.Fault w) = fault (reasonOf w)
-endingOf (declared-ending.the-variants.Refused w) = fault (refusalOf w)
-
 abbrev pub calledOf : Called → Outcome (Unit {0}) M.Run
 calledOf t = record { answer = endingOf (t .answer); lent = runOf (t .run) }
 
 -- What is known of a set whose turns are taken: it is accepted, and its tables are its own.
-pub record Known (s : List ℕ) (sh : Shape) (rows : List (List ℕ)) (first next : List ℕ) : Type 0 where
+pub record Known (s : List ℕ) (sh : Shape) (rows : List (List ℕ)) (ends first next : List ℕ) : Type 0 where
   pub accepted : Accepted s sh
   pub has-rows : HasRows (readCharts s) rows
+  pub has-ends : HasEnds (readCharts s) rows ends
   pub has-actions : HasActions s sh first next
 
 -- A run in the midst of a cycle: its position is one of so many charts' or time's, and time can pass.

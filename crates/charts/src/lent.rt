@@ -1,100 +1,63 @@
-// A run that the caller lends, moved on in place. Where a call is refused or faults the run is as it was.
+// A run that the caller lends, moved on in place: what is done to it is done by value, and it is given back at the end. Where a call is refused or faults the run is as it was.
 ghost use mathlib.Core.Path.{_≡_};
+ghost use Rattle.records.specs.Refusal.{val};
 ghost use Rattle.model.specs.Outcome.{settled};
-ghost use Rattle.model.specs.Runs.{turn as model-turn, cycle as model-cycle};
+ghost use Rattle.model.specs.Runs.{start as started, turn as model-turn, cycle as model-cycle};
 ghost use Rattle.model.specs.ChartSet.{readCharts};
 ghost use Rattle.model.specs.Charts.{charts as machine};
-ghost use Rattle.model.specs.Calls.{chartSets, startCall, turnCall, cycleCall};
-ghost use Rattle.machines.specs.Playing.{playCall};
+ghost use Rattle.machines.specs.Answers.{answerOf, endingOf, cyclesOf};
+ghost use Rattle.machines.specs.Playing.{playing};
+ghost use Rattle.charts.specs.Accepted.{Accepted};
 ghost use Rattle.charts.specs.RunOf.{runOf};
-ghost use Rattle.charts.specs.TurnOf.{answerOf, endingOf, Known};
-ghost use Rattle.charts.specs.PlayedOf.{cyclesOf};
-use super::calls::call_cycle;
-use super::calls::call_start;
-use super::calls::call_turn;
-use super::plays::Cycles;
-use super::plays::play;
+use super::cycles::cycle_by_turns;
+use super::cycles::fresh;
+use super::plays::play_in_place;
 use super::runs::Run;
-use super::turns::Answer;
-use super::turns::Ending;
-use super::turns::cycle;
-use super::turns::turn;
+use super::turns::one_turn;
 use chart_files::Shape;
+use machines::answers::Answer;
+use machines::answers::Cycles;
+use machines::answers::Ending;
 
-// A turn of an accepted set.
-pub fn turn_lent(
-    s: &[u8],
-    shape: Shape,
-    rows: &[[u16; 16]; 128],
-    first: &[u16; 512],
-    next: &[u16; 512],
-    run: &mut Run,
-    events: u32,
-) -> Answer
-    requires { ⌜ Known (now s) shape (now rows) (now first) (now next) ⌝ }
+// The lent run becomes a fresh one.
+pub fn start(s: &[u8], shape: Shape, run: &mut Run) -> Ending
+    requires { ⌜ Accepted (now s) shape ⌝ }
+    ensures { λ r. ⌜ (endingOf r ≡ val tt) × (runOf (now (run .exit)) ≡ started (machine (readCharts (now (s .entry))))) ⌝ }
+{
+    let called = fresh(s, shape, *run);
+    *run = called.run;
+    called.answer
+}
+
+// A turn.
+pub fn turn(s: &[u8], shape: Shape, run: &mut Run, events: u32) -> Answer
+    requires { ⌜ Accepted (now s) shape ⌝ }
     ensures { λ r. ⌜ (answerOf r ≡ settled (runOf (now (run .entry))) (model-turn (machine (readCharts (now (s .entry)))) events (runOf (now (run .entry)))) .answer)
         × (runOf (now (run .exit)) ≡ settled (runOf (now (run .entry))) (model-turn (machine (readCharts (now (s .entry)))) events (runOf (now (run .entry)))) .lent) ⌝ }
 {
-    let turned = turn(s, shape, rows, first, next, *run, events);
+    let turned = one_turn(s, shape, *run, events);
     *run = turned.run;
     turned.answer
 }
 
-// A cycle of an accepted set: all its turns, or none.
-pub fn cycle_lent(
-    s: &[u8],
-    shape: Shape,
-    rows: &[[u16; 16]; 128],
-    first: &[u16; 512],
-    next: &[u16; 512],
-    run: &mut Run,
-    events: u32,
-) -> Ending
-    requires { ⌜ Known (now s) shape (now rows) (now first) (now next) ⌝ }
+// A cycle: all its turns, or none.
+pub fn cycle(s: &[u8], shape: Shape, run: &mut Run, events: u32) -> Ending
+    requires { ⌜ Accepted (now s) shape ⌝ }
     ensures { λ r. ⌜ (endingOf r ≡ settled (runOf (now (run .entry))) (model-cycle (machine (readCharts (now (s .entry)))) events (runOf (now (run .entry)))) .answer)
         × (runOf (now (run .exit)) ≡ settled (runOf (now (run .entry))) (model-cycle (machine (readCharts (now (s .entry)))) events (runOf (now (run .entry)))) .lent) ⌝ }
 {
-    let called = cycle(s, shape, rows, first, next, *run, events);
+    let called = cycle_by_turns(s, shape, *run, events);
     *run = called.run;
     called.answer
 }
 
-// The lent run becomes a fresh one.
-pub fn start_lent(s: &[u8], run: &mut Run) -> Ending
-    ensures { λ r. ⌜ (endingOf r ≡ startCall chartSets (now (s .entry)) (runOf (now (run .entry))) .answer)
-        × (runOf (now (run .exit)) ≡ startCall chartSets (now (s .entry)) (runOf (now (run .entry))) .lent) ⌝ }
+// Many cycles, one for each mask, until one is refused or faults.
+pub fn play(s: &[u8], shape: Shape, run: &mut Run, masks: &[u32]) -> Cycles
+    requires { ⌜ Accepted (now s) shape ⌝ }
+    ensures { λ r. ⌜ (cyclesOf r ≡ settled (runOf (now (run .entry))) (playing (machine (readCharts (now (s .entry)))) (now (masks .entry)) (runOf (now (run .entry)))) .answer)
+        × (runOf (now (run .exit)) ≡ settled (runOf (now (run .entry))) (playing (machine (readCharts (now (s .entry)))) (now (masks .entry)) (runOf (now (run .entry)))) .lent) ⌝ }
 {
-    let called = call_start(s, *run);
-    *run = called.run;
-    called.answer
-}
-
-// A turn, on any bytes.
-pub fn turn_call(s: &[u8], run: &mut Run, events: u32) -> Answer
-    ensures { λ r. ⌜ (answerOf r ≡ turnCall chartSets (now (s .entry)) events (runOf (now (run .entry))) .answer)
-        × (runOf (now (run .exit)) ≡ turnCall chartSets (now (s .entry)) events (runOf (now (run .entry))) .lent) ⌝ }
-{
-    let turned = call_turn(s, *run, events);
-    *run = turned.run;
-    turned.answer
-}
-
-// A cycle, on any bytes.
-pub fn cycle_call(s: &[u8], run: &mut Run, events: u32) -> Ending
-    ensures { λ r. ⌜ (endingOf r ≡ cycleCall chartSets (now (s .entry)) events (runOf (now (run .entry))) .answer)
-        × (runOf (now (run .exit)) ≡ cycleCall chartSets (now (s .entry)) events (runOf (now (run .entry))) .lent) ⌝ }
-{
-    let called = call_cycle(s, *run, events);
-    *run = called.run;
-    called.answer
-}
-
-// Many cycles, on any bytes, the file checked once.
-pub fn play_call(s: &[u8], run: &mut Run, masks: &[u32]) -> Cycles
-    ensures { λ r. ⌜ (cyclesOf r ≡ playCall chartSets (now (s .entry)) (now (masks .entry)) (runOf (now (run .entry))) .answer)
-        × (runOf (now (run .exit)) ≡ playCall chartSets (now (s .entry)) (now (masks .entry)) (runOf (now (run .entry))) .lent) ⌝ }
-{
-    let played = play(s, *run, masks);
+    let played = play_in_place(s, shape, *run, masks);
     *run = played.run;
     played.answer
 }

@@ -1,6 +1,5 @@
 // Chart sets at work: runs, and the turns and cycles that they take.
 pub mod actions;
-pub mod calls;
 pub mod cycles;
 pub mod deeds;
 pub mod lent;

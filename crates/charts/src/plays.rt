@@ -1,49 +1,138 @@
-// Many cycles of chart sets, the file checked once.
+// Many cycles of an accepted set, in place on the run's arrays: what is checked before a turn is checked once.
 ghost use mathlib.Core.Path.{_≡_};
-ghost use Prim.Native.Nat.{_+_};
+ghost use Prim.Native.Nat.{ℕ, _+_, _-_, _≤_, _<_};
 ghost use lib.Dec.{T};
+ghost use lib.ListN.{length, getD};
+ghost use Rattle.records.specs.Lists.{mapFrom};
+ghost use Rattle.records.specs.Refusal.{val};
 ghost use Rattle.model.specs.Outcome.{settled};
-ghost use Rattle.model.specs.Runs.{possible};
+ghost use Rattle.model.specs.Runs.{Run as model-run, possible, checked, cycle as model-cycle};
 ghost use Rattle.model.specs.ChartSet.{readCharts};
 ghost use Rattle.model.specs.Charts.{charts as machine};
-ghost use Rattle.model.specs.Calls.{chartSets};
-ghost use Rattle.machines.specs.Playing.{played, playing, playCall};
-ghost use Rattle.charts.specs.Tables.{HasEnds};
-ghost use Rattle.charts.specs.RunOf.{runOf, runIn};
-ghost use Rattle.charts.specs.TurnOf.{Known};
+ghost use Rattle.machines.specs.Playing.{played, playing};
+ghost use Rattle.charts.specs.Accepted.{Accepted};
+ghost use Rattle.charts.specs.RunOf.{runOf, runIn, aged};
+ghost use Rattle.charts.specs.StepOf.{ranTo, endedBy};
+ghost use Rattle.charts.specs.TurnOf.{after, finish, Known, Ready};
 ghost use Rattle.charts.specs.PlayedOf.{playedOf};
-use super::cycles::cycle_again;
 use super::runs::Run;
+use super::runs::before_turn;
 use super::runs::between;
+use super::runs::older;
+use super::steps::turns_in_place;
 use super::tables::fill_actions;
 use super::tables::fill_rows;
-use super::turns::Ending;
-use super::turns::Refusal;
-use super::turns::cycle;
-use chart_files::Checked;
 use chart_files::Shape;
-use chart_files::check;
-use machines::deeds::Done;
-use machines::deeds::Reason;
+use machines::answers::Cycles;
+use machines::answers::Reason;
+use machines::checks::Before;
+use machines::checks::events_given;
+use machines::deeds::reason_by;
 
-// How many cycles were done, or why not even the first was.
-pub enum Cycles {
-    Done(u32),
-    Fault(Reason),
-    Refused(Refusal),
-}
-
+// How many cycles were done, or why not even the first was, and the run after them.
 pub struct Played {
     pub answer: Cycles,
     pub run: Run,
 }
 
-fn unplayed(run: Run, refusal: Refusal) -> Played
-    ensures { λ r. ⌜ (r .answer ≡ Cycles.Refused refusal) × (r .run ≡ run) ⌝ }
+// What turns in place come to: all were taken, or why one was not.
+enum Progress {
+    Done,
+    Fault(Reason),
+}
+
+// Time passes once the charts' turns are taken, whose events these are, unless one of them faulted.
+fn time_after(charts: u16, ages: &mut [u32; 8], events: u64) -> Progress
+    requires { ⌜ (charts ≤ 8) × (events ≤ 4_294_967_295 → (k : ℕ) → k < charts → getD (now ages) k 0 < 4_294_967_295) ⌝ }
+    ensures { λ r. ⌜ ((q : model-run) → ranTo r q ≡ endedBy events q) × (events ≤ 4_294_967_295 → now (ages .exit) ≡ mapFrom 0 (aged charts) (now (ages .entry))) × (4_294_967_295 < events → now (ages .exit) ≡ now (ages .entry)) ⌝ }
 {
-    Played {
-        answer: Cycles::Refused(refusal),
-        run,
+    if 4294967295 < events {
+        return Progress::Fault(reason_by(events));
+    }
+    older(charts, ages);
+    Progress::Done
+}
+
+// The turns from a position up to time's. After a fault the places are as the turns before it left them.
+fn cycle_in_place(
+    s: &[u8],
+    shape: Shape,
+    rows: &[[u16; 16]; 128],
+    ends: &[u8; 128],
+    first: &[u16; 512],
+    next: &[u16; 512],
+    states: &mut [u16; 8],
+    ages: &mut [u32; 8],
+    vars: &mut [i16; 64],
+    events: u32,
+    position: u32,
+    cycles: u32,
+) -> Progress
+    requires { ⌜ Known (now s) shape (now rows) (now ends) (now first) (now next) × Ready (shape .charts) (runIn (now states) (now ages) (now vars) events position cycles) ⌝ }
+    ensures { λ r. ⌜ ranTo r (runIn (now (states .exit)) (now (ages .exit)) (now (vars .exit)) 0 1 (cycles + 1)) ≡ after (machine (readCharts (now (s .entry)))) (shape .charts + 2 - position) (runIn (now (states .entry)) (now (ages .entry)) (now (vars .entry)) events position cycles) ⌝ }
+{
+    let mut chosen: u16 = 65535;
+    let from = (position - 1) as u16;
+    let after = turns_in_place(
+        s,
+        shape,
+        rows,
+        ends,
+        first,
+        next,
+        from,
+        shape.charts,
+        states,
+        ages,
+        vars,
+        events,
+        &mut chosen,
+    );
+    time_after(shape.charts, ages, after)
+}
+
+// A cycle of a run at position 1 that passed the checks: all its turns, or none.
+fn cycle_again(
+    s: &[u8],
+    shape: Shape,
+    rows: &[[u16; 16]; 128],
+    ends: &[u8; 128],
+    first: &[u16; 512],
+    next: &[u16; 512],
+    states: &mut [u16; 8],
+    ages: &mut [u32; 8],
+    vars: &mut [i16; 64],
+    events: u32,
+    cycles: u32,
+) -> Progress
+    requires { ⌜ Known (now s) shape (now rows) (now ends) (now first) (now next) × (checked (machine (readCharts (now s))) events (runIn (now states) (now ages) (now vars) 0 1 cycles) ≡ val tt) ⌝ }
+    ensures { λ r. ⌜ finish (ranTo r (runIn (now (states .exit)) (now (ages .exit)) (now (vars .exit)) 0 1 (cycles + 1))) ≡ model-cycle (machine (readCharts (now (s .entry)))) events (runIn (now (states .entry)) (now (ages .entry)) (now (vars .entry)) 0 1 cycles) ⌝ }
+    ensures { λ r. ⌜ ((w : Reason) → r ≡ Progress.Fault w → (now (states .exit) ≡ now (states .entry)) × (now (ages .exit) ≡ now (ages .entry)) × (now (vars .exit) ≡ now (vars .entry))) ⌝ }
+{
+    let states_before = *states;
+    let ages_before = *ages;
+    let vars_before = *vars;
+    match cycle_in_place(
+        s,
+        shape,
+        rows,
+        ends,
+        first,
+        next,
+        states,
+        ages,
+        vars,
+        events,
+        1,
+        cycles,
+    ) {
+        Progress::Fault(w) => {
+            *states = states_before;
+            *ages = ages_before;
+            *vars = vars_before;
+            Progress::Fault(w)
+        }
+        Progress::Done => Progress::Done,
     }
 }
 
@@ -61,7 +150,7 @@ fn cycles_on(
     cycles: u32,
     masks: &[u32],
 ) -> u32
-    requires { ⌜ Known (now s) shape (now rows) (now first) (now next) × HasEnds (now rows) (now ends) × T (possible (machine (readCharts (now s))) (runIn (now states) (now ages) (now vars) 0 1 cycles)) ⌝ }
+    requires { ⌜ Known (now s) shape (now rows) (now ends) (now first) (now next) × T (possible (machine (readCharts (now s))) (runIn (now states) (now ages) (now vars) 0 1 cycles)) ⌝ }
     ensures { λ r. ⌜ (played (machine (readCharts (now (s .entry)))) (now (masks .entry)) (runIn (now (states .entry)) (now (ages .entry)) (now (vars .entry)) 0 1 cycles) .count ≡ r)
         × (played (machine (readCharts (now (s .entry)))) (now (masks .entry)) (runIn (now (states .entry)) (now (ages .entry)) (now (vars .entry)) 0 1 cycles) .run ≡ runIn (now (states .exit)) (now (ages .exit)) (now (vars .exit)) 0 1 (cycles + r)) ⌝ }
 {
@@ -84,8 +173,8 @@ fn cycles_on(
             masks[k],
             done,
         ) {
-            Done::Fault(_) => return done - cycles,
-            Done::Events(_) => {
+            Progress::Fault(_) => return done - cycles,
+            Progress::Done => {
                 done += 1;
             }
         }
@@ -105,7 +194,7 @@ fn played_on(
     run: Run,
     masks: &[u32],
 ) -> Played
-    requires { ⌜ Known (now s) shape (now rows) (now first) (now next) × HasEnds (now rows) (now ends) × T (possible (machine (readCharts (now s))) (runOf run)) × (run .position ≡ 1) ⌝ }
+    requires { ⌜ Known (now s) shape (now rows) (now ends) (now first) (now next) × T (possible (machine (readCharts (now s))) (runOf run)) × (run .position ≡ 1) ⌝ }
     ensures { λ r. ⌜ (r .answer ≡ Cycles.Done (1 + played (machine (readCharts (now (s .entry)))) (now (masks .entry)) (runOf run) .count))
         × (runOf (r .run) ≡ played (machine (readCharts (now (s .entry)))) (now (masks .entry)) (runOf run) .run) ⌝ }
 {
@@ -132,7 +221,50 @@ fn played_on(
     }
 }
 
-// Cycles of an accepted set, one for each mask, until one is refused or faults: that is told only of the first.
+// The first cycle, of a run that passed the checks and has its events, and then the others.
+fn first_played(
+    s: &[u8],
+    shape: Shape,
+    rows: &[[u16; 16]; 128],
+    ends: &[u8; 128],
+    first: &[u16; 512],
+    next: &[u16; 512],
+    run: Run,
+    masks: &[u32],
+) -> Played
+    requires { ⌜ Known (now s) shape (now rows) (now ends) (now first) (now next) × (0 < length (now masks)) × (checked (machine (readCharts (now s))) (getD (now masks) 0 0) (runOf run) ≡ val tt) ⌝ }
+    ensures { λ r. ⌜ playedOf r ≡ settled (runOf run) (playing (machine (readCharts (now (s .entry)))) (now (masks .entry)) (runOf run)) ⌝ }
+{
+    let mut states = run.states;
+    let mut ages = run.ages;
+    let mut variables = run.variables;
+    let events = events_given(masks[0], run.position, run.events);
+    match cycle_in_place(
+        s,
+        shape,
+        rows,
+        ends,
+        first,
+        next,
+        &mut states,
+        &mut ages,
+        &mut variables,
+        events,
+        run.position,
+        run.cycles,
+    ) {
+        Progress::Fault(w) => Played {
+            answer: Cycles::Fault(w),
+            run,
+        },
+        Progress::Done => {
+            let after = between(states, ages, variables, run.cycles + 1);
+            played_on(s, shape, rows, ends, first, next, after, &masks[1..])
+        }
+    }
+}
+
+// Cycles, one for each mask, until one is refused or faults: that is told only of the first.
 fn cycles_played(
     s: &[u8],
     shape: Shape,
@@ -143,7 +275,7 @@ fn cycles_played(
     run: Run,
     masks: &[u32],
 ) -> Played
-    requires { ⌜ Known (now s) shape (now rows) (now first) (now next) × HasEnds (now rows) (now ends) ⌝ }
+    requires { ⌜ Known (now s) shape (now rows) (now ends) (now first) (now next) ⌝ }
     ensures { λ r. ⌜ playedOf r ≡ settled (runOf run) (playing (machine (readCharts (now (s .entry)))) (now (masks .entry)) (runOf run)) ⌝ }
 {
     if masks.len() == 0 {
@@ -152,39 +284,26 @@ fn cycles_played(
             run,
         };
     }
-    let called = cycle(s, shape, rows, first, next, run, masks[0]);
-    let answer = called.answer;
-    match answer {
-        Ending::Done => {
-            let after = called.run;
-            played_on(s, shape, rows, ends, first, next, after, &masks[1..])
-        }
-        Ending::Fault(w) => Played {
-            answer: Cycles::Fault(w),
-            run,
-        },
-        Ending::Refused(w) => Played {
+    match before_turn(s, shape, run, masks[0]) {
+        Before::Refused(w) => Played {
             answer: Cycles::Refused(w),
             run,
         },
+        Before::Fine => first_played(s, shape, rows, ends, first, next, run, masks),
     }
 }
 
-// The file checked once, then many cycles.
-pub fn play(s: &[u8], run: Run, masks: &[u32]) -> Played
-    ensures { λ r. ⌜ playedOf r ≡ playCall chartSets (now (s .entry)) (now (masks .entry)) (runOf run) ⌝ }
+// The tables are made once for all cycles.
+pub fn play_in_place(s: &[u8], shape: Shape, run: Run, masks: &[u32]) -> Played
+    requires { ⌜ Accepted (now s) shape ⌝ }
+    ensures { λ r. ⌜ playedOf r ≡ settled (runOf run) (playing (machine (readCharts (now (s .entry)))) (now (masks .entry)) (runOf run)) ⌝ }
 {
-    match check(s) {
-        Checked::Refused(refusal) => unplayed(run, Refusal::File(refusal)),
-        Checked::Accepted(shape) => {
-            let empty = [256u16; 16];
-            let mut rows = [empty; 128];
-            let mut ends = [0u8; 128];
-            let mut first = [65535u16; 512];
-            let mut next = [65535u16; 512];
-            fill_rows(s, shape, &mut rows, &mut ends);
-            fill_actions(s, shape, &mut first, &mut next);
-            cycles_played(s, shape, &rows, &ends, &first, &next, run, masks)
-        }
-    }
+    let empty = [256u16; 16];
+    let mut rows = [empty; 128];
+    let mut ends = [0u8; 128];
+    let mut first = [65535u16; 512];
+    let mut next = [65535u16; 512];
+    fill_rows(s, shape, &mut rows, &mut ends);
+    fill_actions(s, shape, &mut first, &mut next);
+    cycles_played(s, shape, &rows, &ends, &first, &next, run, masks)
 }

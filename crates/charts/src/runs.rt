@@ -4,7 +4,7 @@ ghost use Prim.Native.Nat.{ℕ, _≤_, _<_};
 ghost use lib.Dec.{leb};
 ghost use lib.ListN.{length, getD};
 ghost use Rattle.records.specs.Lists.{all, upto, mapFrom};
-ghost use Rattle.model.specs.Runs.{start as started, possible, checked, give as given, moved as movedOn, timePassed};
+ghost use Rattle.model.specs.Runs.{start as started, possible, checked, give as given, timePassed};
 ghost use Rattle.model.specs.ChartSet.{ChartSet, readCharts};
 ghost use Rattle.model.specs.Charts.{charts as machine};
 ghost use Rattle.chart_files.specs.Shape.{IsShape};
@@ -14,6 +14,7 @@ use super::values::values_of;
 use chart_files::Shape;
 use machines::checks::Before;
 use machines::checks::decide;
+use machines::checks::events_given;
 use machines::checks::initial_places;
 use machines::checks::shared_possible;
 use machines::values::start_values;
@@ -113,17 +114,7 @@ pub fn before_turn(s: &[u8], shape: Shape, run: Run, events: u32) -> Before
 pub fn give(mut run: Run, events: u32) -> Run
     ensures { λ r. ⌜ runOf r ≡ given events (runOf run) ⌝ }
 {
-    if run.position == 1 {
-        run.events = events;
-    }
-    run
-}
-
-pub fn moved(mut run: Run) -> Run
-    requires { ⌜ run .position < 4294967295 ⌝ }
-    ensures { λ r. ⌜ runOf r ≡ movedOn (runOf run) ⌝ }
-{
-    run.position += 1;
+    run.events = events_given(events, run.position, run.events);
     run
 }
 

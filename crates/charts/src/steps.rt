@@ -1,7 +1,6 @@
 // A chart's turn.
 ghost use mathlib.Core.Path.{_≡_};
 ghost use Prim.Native.Nat.{ℕ, _+_, _-_, _≤_, _<_};
-ghost use Rattle.records.specs.Refusal.{val};
 ghost use Rattle.expressions.specs.Answers.{truthOf};
 ghost use Rattle.model.specs.Runs.{taken};
 ghost use Rattle.model.specs.ChartSet.{readCharts};
@@ -9,56 +8,18 @@ ghost use Rattle.model.specs.Charts.{row, firstThat, transitionHolds, acted, fo
 ghost use mathlib.Core.Option.{some};
 ghost use Rattle.charts.specs.Accepted.{Accepted};
 ghost use Rattle.charts.specs.Tables.{HasRows, HasEnds, HasActions};
-ghost use Rattle.charts.specs.RunOf.{runOf, runIn};
+ghost use Rattle.charts.specs.RunOf.{runIn};
 ghost use Rattle.machines.specs.Worlds.{worldIn, worldBy, bareWorld};
-ghost use Rattle.charts.specs.StepOf.{choiceBy, ChoiceOf, slotHolds, replyOf, stepOf, answerBy, movedBy, chartTurns};
+ghost use Rattle.charts.specs.StepOf.{choiceBy, ChoiceOf, slotHolds, answerBy, movedBy, chartTurns};
 ghost use Rattle.charts.specs.TurnOf.{Known};
 use super::deeds::do_deeds;
-use super::runs::Run;
 use super::tables::slot_of;
 use super::transitions::holds;
 use super::transitions::source_of;
 use super::transitions::target_of;
 use chart_files::Shape;
 use expressions::arithmetic::Truth;
-use machines::deeds::Reason;
 use machines::deeds::fault_code;
-use machines::deeds::reason_by;
-
-pub enum Reply {
-    Taken(u16),
-    Idle,
-    Fault(Reason),
-}
-
-pub struct Step {
-    pub reply: Reply,
-    pub run: Run,
-}
-
-fn reply_by(chosen: u16) -> Reply
-    ensures { λ r. ⌜ replyOf r ≡ val (answerBy chosen) ⌝ }
-{
-    if chosen == 65535 {
-        Reply::Idle
-    } else {
-        Reply::Taken(chosen)
-    }
-}
-
-// The run with these places and events.
-fn placed(run: Run, states: [u16; 8], ages: [u32; 8], variables: [i16; 64], events: u32) -> Run
-    ensures { λ r. ⌜ runOf r ≡ runIn states ages variables events (run .position) (run .cycles) ⌝ }
-{
-    Run {
-        states,
-        ages,
-        variables,
-        events,
-        position: run.position,
-        cycles: run.cycles,
-    }
-}
 
 // A place of a row that names none does not hold.
 fn slot_holds(s: &[u8], shape: Shape, vars: &[i16; 64], events: u32, age: u32, t: u16) -> Truth
@@ -76,14 +37,14 @@ fn slot_holds(s: &[u8], shape: Shape, vars: &[i16; 64], events: u32, age: u32, t
 fn first_that(
     s: &[u8],
     shape: Shape,
-    rows: &[[u16; 16]],
+    rows: &[[u16; 16]; 128],
     ends: &[u8; 128],
     vars: &[i16; 64],
     events: u32,
     age: u32,
     state: u16,
 ) -> u64
-    requires { ⌜ Accepted (now s) shape × HasRows (readCharts (now s)) (now rows) × HasEnds (now rows) (now ends) ⌝ }
+    requires { ⌜ Accepted (now s) shape × HasRows (readCharts (now s)) (now rows) × HasEnds (readCharts (now s)) (now rows) (now ends) ⌝ }
     ensures { λ r. ⌜ (choiceBy r ≡ firstThat (transitionHolds (readCharts (now (s .entry))) (bareWorld (now (vars .entry)) events) age) (row (readCharts (now (s .entry))) state)) × ChoiceOf (shape .transitions) r ⌝ }
 {
     if shape.states <= state {
@@ -166,7 +127,7 @@ fn follow(
 fn step_in_place(
     s: &[u8],
     shape: Shape,
-    rows: &[[u16; 16]],
+    rows: &[[u16; 16]; 128],
     ends: &[u8; 128],
     first: &[u16; 512],
     next: &[u16; 512],
@@ -177,7 +138,7 @@ fn step_in_place(
     events: u32,
     chosen: &mut u16,
 ) -> u64
-    requires { ⌜ Known (now s) shape (now rows) (now first) (now next) × HasEnds (now rows) (now ends) × (chart < shape .charts) ⌝ }
+    requires { ⌜ Known (now s) shape (now rows) (now ends) (now first) (now next) × (chart < shape .charts) ⌝ }
     ensures { λ r. ⌜ ((p c : ℕ) → movedBy r (answerBy (now (chosen .exit))) (now (states .exit)) (now (ages .exit)) (now (vars .exit)) p c ≡ chartStep (readCharts (now (s .entry))) chart (runIn (now (states .entry)) (now (ages .entry)) (now (vars .entry)) events p c)) ⌝ }
 {
     let i = chart as usize;
@@ -209,7 +170,7 @@ fn step_in_place(
 pub fn turns_in_place(
     s: &[u8],
     shape: Shape,
-    rows: &[[u16; 16]],
+    rows: &[[u16; 16]; 128],
     ends: &[u8; 128],
     first: &[u16; 512],
     next: &[u16; 512],
@@ -221,7 +182,7 @@ pub fn turns_in_place(
     events: u32,
     chosen: &mut u16,
 ) -> u64
-    requires { ⌜ Known (now s) shape (now rows) (now first) (now next) × HasEnds (now rows) (now ends) × (from ≤ to) × (to ≤ shape .charts) ⌝ }
+    requires { ⌜ Known (now s) shape (now rows) (now ends) (now first) (now next) × (from ≤ to) × (to ≤ shape .charts) ⌝ }
     ensures { λ r. ⌜ ((p c : ℕ) → movedBy r (answerBy (now (chosen .exit))) (now (states .exit)) (now (ages .exit)) (now (vars .exit)) (p + (to - from)) c
         ≡ chartTurns (readCharts (now (s .entry))) from (to - from) (answerBy (now (chosen .entry)), runIn (now (states .entry)) (now (ages .entry)) (now (vars .entry)) events p c)) ⌝ }
 {
@@ -249,53 +210,4 @@ pub fn turns_in_place(
         chart += 1;
     }
     present as u64
-}
-
-// The run after a fault is the run given.
-pub fn chart_step(
-    s: &[u8],
-    shape: Shape,
-    rows: &[[u16; 16]; 128],
-    first: &[u16; 512],
-    next: &[u16; 512],
-    chart: u16,
-    run: Run,
-) -> Step
-    requires { ⌜ Accepted (now s) shape ⌝ }
-    requires { ⌜ HasRows (readCharts (now s)) (now rows) ⌝ }
-    requires { ⌜ HasActions (now s) shape (now first) (now next) ⌝ }
-    requires { ⌜ chart < shape .charts ⌝ }
-    ensures { λ r. ⌜ stepOf r ≡ chartStep (readCharts (now (s .entry))) chart (runOf run) ⌝ }
-    ensures { λ r. ⌜ ((w : Reason) → r .reply ≡ Reply.Fault w → r .run ≡ run) ⌝ }
-{
-    let ends = [16u8; 128];
-    let mut states = run.states;
-    let mut ages = run.ages;
-    let mut variables = run.variables;
-    let mut chosen: u16 = 65535;
-    let after = turns_in_place(
-        s,
-        shape,
-        rows,
-        &ends,
-        first,
-        next,
-        chart,
-        chart + 1,
-        &mut states,
-        &mut ages,
-        &mut variables,
-        run.events,
-        &mut chosen,
-    );
-    if 4294967295 < after {
-        return Step {
-            reply: Reply::Fault(reason_by(after)),
-            run,
-        };
-    }
-    Step {
-        reply: reply_by(chosen),
-        run: placed(run, states, ages, variables, after as u32),
-    }
 }

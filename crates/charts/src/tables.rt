@@ -1,31 +1,25 @@
 // The tables that turns read, made once for a set.
 ghost use mathlib.Core.Path.{_≡_};
-ghost use Prim.Native.Nat.{ℕ, _+_, _≤_, _<_};
+ghost use Prim.Native.Nat.{_+_, _<_, max};
 ghost use lib.ListN.{replicate};
 ghost use Rattle.model.specs.ChartSet.{readCharts};
 ghost use Rattle.charts.specs.Accepted.{Accepted};
-ghost use Rattle.charts.specs.Tables.{EmptyRows, HasRows, HasEnds, HasActions, slotAt};
+ghost use Rattle.charts.specs.Tables.{HasRows, HasEnds, HasActions, slotAt};
 use super::actions::key_of;
 use super::transitions::source_of;
 use chart_files::Shape;
 use chart_files::fields::priority_of;
 
-// Of each key its first action, and of each action the next of its key; 65535 is none.
-pub struct Actions {
-    pub first: [u16; 512],
-    pub next: [u16; 512],
-}
-
 fn higher(a: u8, b: u8) -> u8
-    ensures { λ r. ⌜ (a ≤ r) × (b ≤ r) × ((m : ℕ) → a ≤ m → b ≤ m → r ≤ m) ⌝ }
+    ensures { λ r. ⌜ r ≡ max a b ⌝ }
 {
     if a < b { b } else { a }
 }
 
 // Of each state its leaving transitions, by priority, in rows of none, which is 256: a number of two unlike bytes is put by plain stores, and one of two like bytes by one instruction repeated for each byte. And the highest priority of each.
-pub fn fill_rows(s: &[u8], shape: Shape, rows: &mut [[u16; 16]], ends: &mut [u8; 128])
-    requires { ⌜ Accepted (now s) shape × EmptyRows (shape .states) (now rows) × (now ends ≡ replicate 128 0) ⌝ }
-    ensures { λ _. ⌜ HasRows (readCharts (now (s .entry))) (now (rows .exit)) × HasEnds (now (rows .exit)) (now (ends .exit)) ⌝ }
+pub fn fill_rows(s: &[u8], shape: Shape, rows: &mut [[u16; 16]; 128], ends: &mut [u8; 128])
+    requires { ⌜ Accepted (now s) shape × (now rows ≡ replicate 128 (replicate 16 256)) × (now ends ≡ replicate 128 0) ⌝ }
+    ensures { λ _. ⌜ HasRows (readCharts (now (s .entry))) (now (rows .exit)) × HasEnds (readCharts (now (s .entry))) (now (rows .exit)) (now (ends .exit)) ⌝ }
 {
     let mut t = shape.transitions;
     while 0 < t {
@@ -38,19 +32,8 @@ pub fn fill_rows(s: &[u8], shape: Shape, rows: &mut [[u16; 16]], ends: &mut [u8;
     }
 }
 
-pub fn rows_of(s: &[u8], shape: Shape) -> [[u16; 16]; 128]
-    requires { ⌜ Accepted (now s) shape ⌝ }
-    ensures { λ r. ⌜ HasRows (readCharts (now (s .entry))) r ⌝ }
-{
-    let empty = [256u16; 16];
-    let mut rows = [empty; 128];
-    let mut ends = [0u8; 128];
-    fill_rows(s, shape, &mut rows, &mut ends);
-    rows
-}
-
 // The transition at a place of a state's row; 65535 is none.
-pub fn slot_of(s: &[u8], shape: Shape, rows: &[[u16; 16]], state: u16, place: usize) -> u16
+pub fn slot_of(s: &[u8], shape: Shape, rows: &[[u16; 16]; 128], state: u16, place: usize) -> u16
     requires { ⌜ Accepted (now s) shape × HasRows (readCharts (now s)) (now rows) × (state < shape .states) × (place < 16) ⌝ }
     ensures { λ r. ⌜ r ≡ slotAt (readCharts (now (s .entry))) state (place + 1) ⌝ }
 {
@@ -72,14 +55,4 @@ pub fn fill_actions(s: &[u8], shape: Shape, first: &mut [u16; 512], next: &mut [
         next[i] = first[key];
         first[key] = a;
     }
-}
-
-pub fn actions_of(s: &[u8], shape: Shape) -> Actions
-    requires { ⌜ Accepted (now s) shape ⌝ }
-    ensures { λ r. ⌜ HasActions (now (s .entry)) shape (r .first) (r .next) ⌝ }
-{
-    let mut first = [65535u16; 512];
-    let mut next = [65535u16; 512];
-    fill_actions(s, shape, &mut first, &mut next);
-    Actions { first, next }
 }

@@ -1,58 +1,31 @@
-// Turns and cycles of chart sets.
+// A turn by value: a run goes in, the answer and the run after it come back.
 ghost use mathlib.Core.Path.{_≡_};
-ghost use Prim.Native.Nat.{_+_, _-_, _≤_, _<_};
+ghost use Prim.Native.Nat.{_+_, _≤_, _<_};
 ghost use Rattle.records.specs.Refusal.{val};
 ghost use Rattle.model.specs.Outcome.{settled};
-ghost use Rattle.model.specs.Runs.{stepped, turn as model-turn, cycle as model-cycle};
+ghost use Rattle.model.specs.Runs.{stepped, turn as model-turn};
 ghost use Rattle.model.specs.ChartSet.{readCharts};
 ghost use Rattle.model.specs.Charts.{charts as machine};
-ghost use Rattle.charts.specs.RunOf.{runOf, runIn};
-ghost use Rattle.charts.specs.StepOf.{answerBy, movedBy, ranTo};
-ghost use Rattle.charts.specs.TurnOf.{answerOf, turnOf, calledOf, after, finish, Known, Ready};
-use super::cycles::cycle_in_place;
+ghost use Rattle.machines.specs.Answers.{answerOf};
+ghost use Rattle.charts.specs.Accepted.{Accepted};
+ghost use Rattle.charts.specs.RunOf.{runOf};
+ghost use Rattle.charts.specs.StepOf.{answerBy, movedBy};
+ghost use Rattle.charts.specs.TurnOf.{turnOf, Known, Ready};
 use super::runs::Run;
 use super::runs::before_turn;
-use super::runs::between;
 use super::runs::give;
 use super::runs::time_passed;
 use super::steps::turns_in_place;
+use super::tables::fill_actions;
+use super::tables::fill_rows;
 use chart_files::Shape;
+use machines::answers::Answer;
 use machines::checks::Before;
-use machines::deeds::Done;
-use machines::deeds::Reason;
 use machines::deeds::reason_by;
-
-// Why no turn was taken: the file is refused, or the run or its events are.
-pub enum Refusal {
-    File(chart_files::Refusal),
-    Impossible,
-    Misplaced,
-    Finished,
-}
-
-pub enum Answer {
-    Taken(u16),
-    Idle,
-    Time,
-    Fault(Reason),
-    Refused(Refusal),
-}
 
 // A turn's answer, and the run after it.
 pub struct Turned {
     pub answer: Answer,
-    pub run: Run,
-}
-
-pub enum Ending {
-    Done,
-    Fault(Reason),
-    Refused(Refusal),
-}
-
-// The answer of a call that is done or not, and the run after it.
-pub struct Called {
-    pub answer: Ending,
     pub run: Run,
 }
 
@@ -66,8 +39,8 @@ fn answer_by(chosen: u16) -> Answer
     }
 }
 
-// A chart's turn from the places after it, and the next position. Where it faults the run is the one that was lent.
-pub fn chart_turned(
+// A chart's turn from the places after it, and the next position. Where it faults the run is the one that was given.
+fn chart_turned(
     lent: Run,
     states: [u16; 8],
     ages: [u32; 8],
@@ -99,22 +72,22 @@ pub fn chart_turned(
     }
 }
 
-// A chart's turn, with whole rows.
+// A chart's turn: in place, on a copy of the run's places.
 fn chart_turn(
     s: &[u8],
     shape: Shape,
     rows: &[[u16; 16]; 128],
+    ends: &[u8; 128],
     first: &[u16; 512],
     next: &[u16; 512],
     lent: Run,
     run: Run,
 ) -> Turned
-    requires { ⌜ Known (now s) shape (now rows) (now first) (now next) ⌝ }
+    requires { ⌜ Known (now s) shape (now rows) (now ends) (now first) (now next) ⌝ }
     requires { ⌜ Ready (shape .charts) (runOf run) ⌝ }
     requires { ⌜ run .position ≤ shape .charts ⌝ }
     ensures { λ r. ⌜ turnOf r ≡ settled (runOf lent) (stepped (machine (readCharts (now (s .entry)))) (runOf run)) ⌝ }
 {
-    let ends = [16u8; 128];
     let mut states = run.states;
     let mut ages = run.ages;
     let mut variables = run.variables;
@@ -124,7 +97,7 @@ fn chart_turn(
         s,
         shape,
         rows,
-        &ends,
+        ends,
         first,
         next,
         chart,
@@ -152,17 +125,18 @@ fn turn_taken(
     s: &[u8],
     shape: Shape,
     rows: &[[u16; 16]; 128],
+    ends: &[u8; 128],
     first: &[u16; 512],
     next: &[u16; 512],
     lent: Run,
     run: Run,
 ) -> Turned
-    requires { ⌜ Known (now s) shape (now rows) (now first) (now next) ⌝ }
+    requires { ⌜ Known (now s) shape (now rows) (now ends) (now first) (now next) ⌝ }
     requires { ⌜ Ready (shape .charts) (runOf run) ⌝ }
     ensures { λ r. ⌜ turnOf r ≡ settled (runOf lent) (stepped (machine (readCharts (now (s .entry)))) (runOf run)) ⌝ }
 {
     if run.position <= (shape.charts as u32) {
-        chart_turn(s, shape, rows, first, next, lent, run)
+        chart_turn(s, shape, rows, ends, first, next, lent, run)
     } else {
         let run = time_passed(shape.charts, run);
         Turned {
@@ -172,128 +146,43 @@ fn turn_taken(
     }
 }
 
-// A refusal before a turn: nothing that was lent has changed.
-pub fn unready(run: Run, refusal: Refusal) -> Turned
-    ensures { λ r. ⌜ (r .answer ≡ Answer.Refused refusal) × (r .run ≡ run) ⌝ }
-{
-    Turned {
-        answer: Answer::Refused(refusal),
-        run,
-    }
-}
-
-// A turn of an accepted set.
+// A turn of an accepted set: what is checked before it, then the turn. Where it is refused or faults the run is the one that was given.
 pub fn turn(
     s: &[u8],
     shape: Shape,
     rows: &[[u16; 16]; 128],
+    ends: &[u8; 128],
     first: &[u16; 512],
     next: &[u16; 512],
     run: Run,
     events: u32,
 ) -> Turned
-    requires { ⌜ Known (now s) shape (now rows) (now first) (now next) ⌝ }
+    requires { ⌜ Known (now s) shape (now rows) (now ends) (now first) (now next) ⌝ }
     ensures { λ r. ⌜ turnOf r ≡ settled (runOf run) (model-turn (machine (readCharts (now (s .entry)))) events (runOf run)) ⌝ }
 {
     match before_turn(s, shape, run, events) {
-        Before::Impossible => unready(run, Refusal::Impossible),
-        Before::Misplaced => unready(run, Refusal::Misplaced),
-        Before::Finished => unready(run, Refusal::Finished),
+        Before::Refused(w) => Turned {
+            answer: Answer::Refused(w),
+            run,
+        },
         Before::Fine => {
             let given = give(run, events);
-            turn_taken(s, shape, rows, first, next, run, given)
+            turn_taken(s, shape, rows, ends, first, next, run, given)
         }
     }
 }
 
-// A cycle from the places after it. Where it faults the run is the one that was lent.
-pub fn cycle_ended(
-    lent: Run,
-    states: [u16; 8],
-    ages: [u32; 8],
-    variables: [i16; 64],
-    cycles: u32,
-    done: Done,
-) -> Called
-    requires { ⌜ cycles ≤ 999_999 ⌝ }
-    ensures { λ r. ⌜ calledOf r ≡ settled (runOf lent) (finish (ranTo done (runIn states ages variables 0 1 (cycles + 1)))) ⌝ }
+// One turn, with the tables made for it.
+pub fn one_turn(s: &[u8], shape: Shape, run: Run, events: u32) -> Turned
+    requires { ⌜ Accepted (now s) shape ⌝ }
+    ensures { λ r. ⌜ turnOf r ≡ settled (runOf run) (model-turn (machine (readCharts (now (s .entry)))) events (runOf run)) ⌝ }
 {
-    match done {
-        Done::Fault(w) => Called {
-            answer: Ending::Fault(w),
-            run: lent,
-        },
-        Done::Events(_) => Called {
-            answer: Ending::Done,
-            run: between(states, ages, variables, cycles + 1),
-        },
-    }
-}
-
-// The turns from the present position up to time's. Where one faults the run is the one that was lent.
-fn cycle_taken(
-    s: &[u8],
-    shape: Shape,
-    rows: &[[u16; 16]; 128],
-    first: &[u16; 512],
-    next: &[u16; 512],
-    lent: Run,
-    run: Run,
-) -> Called
-    requires { ⌜ Known (now s) shape (now rows) (now first) (now next) ⌝ }
-    requires { ⌜ Ready (shape .charts) (runOf run) ⌝ }
-    ensures { λ r. ⌜ calledOf r ≡ settled (runOf lent) (finish (after (machine (readCharts (now (s .entry)))) (shape .charts + 2 - run .position) (runOf run))) ⌝ }
-{
-    let ends = [16u8; 128];
-    let mut states = run.states;
-    let mut ages = run.ages;
-    let mut variables = run.variables;
-    let done = cycle_in_place(
-        s,
-        shape,
-        rows,
-        &ends,
-        first,
-        next,
-        &mut states,
-        &mut ages,
-        &mut variables,
-        run.events,
-        run.position,
-        run.cycles,
-    );
-    cycle_ended(lent, states, ages, variables, run.cycles, done)
-}
-
-pub fn undone(run: Run, refusal: Refusal) -> Called
-    ensures { λ r. ⌜ (r .answer ≡ Ending.Refused refusal) × (r .run ≡ run) ⌝ }
-{
-    Called {
-        answer: Ending::Refused(refusal),
-        run,
-    }
-}
-
-// A cycle of an accepted set: all its turns, or none.
-pub fn cycle(
-    s: &[u8],
-    shape: Shape,
-    rows: &[[u16; 16]; 128],
-    first: &[u16; 512],
-    next: &[u16; 512],
-    run: Run,
-    events: u32,
-) -> Called
-    requires { ⌜ Known (now s) shape (now rows) (now first) (now next) ⌝ }
-    ensures { λ r. ⌜ calledOf r ≡ settled (runOf run) (model-cycle (machine (readCharts (now (s .entry)))) events (runOf run)) ⌝ }
-{
-    match before_turn(s, shape, run, events) {
-        Before::Impossible => undone(run, Refusal::Impossible),
-        Before::Misplaced => undone(run, Refusal::Misplaced),
-        Before::Finished => undone(run, Refusal::Finished),
-        Before::Fine => {
-            let given = give(run, events);
-            cycle_taken(s, shape, rows, first, next, run, given)
-        }
-    }
+    let empty = [256u16; 16];
+    let mut rows = [empty; 128];
+    let mut ends = [0u8; 128];
+    let mut first = [65535u16; 512];
+    let mut next = [65535u16; 512];
+    fill_rows(s, shape, &mut rows, &mut ends);
+    fill_actions(s, shape, &mut first, &mut next);
+    turn(s, shape, &rows, &ends, &first, &next, run, events)
 }

@@ -7,5 +7,6 @@ pub mod Fields
 pub mod Arms
 pub mod Loops
 pub mod Uses
+pub mod Verdicts
 pub mod ExampleNodes
 mod ValueExamples

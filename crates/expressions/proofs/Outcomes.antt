@@ -1,27 +1,26 @@
 -- Which number stands for which outcome, and what one comparison tells of it. Assumes nothing.
-use mathlib.Core.Path.{_≡_, refl, sym, ap, _∙_}
+use mathlib.Core.Path.{_≡_, refl, sym, ap, _∙_, subst}
 use mathlib.Core.Bool.{Bool, true, false, cond, not}
-use Prim.Native.Nat.{ℕ, zero, suc, _≤_, _<_, _^_}
+use Prim.Native.Nat.{ℕ, _-_, _≤_, _<_, _^_}
 use native.Mathlib.Omega.{arith}
-use borrow.Author.Tests.{lt-ltb, le-ltb, ltb-false, le-leb}
-use lib.Dec.{eqb}
+use borrow.Author.Tests.{le-ltb}
+use lib.Dec.{T, eqb, ltb}
 use lib.IntN.{ℤ, pos, negsuc}
 use lib.Signed.{ltZ, leZ, mag}
 use mir.Facts.{toZ-ofZ}
 use mir.Syntax.{w64}
 use mir.Val.{toZ, ofZ}
-use Rattle.records.specs.Refusal.{Out, val, fault, out-of-range, zero-divisor, _>>=_}
+use Rattle.records.specs.Refusal.{Out, val, fault, out-of-range, zero-divisor, _>>=_, choose}
 use Rattle.expressions.specs.Values.{decide}
-use Rattle.expressions.specs.Outcomes.{faultIf, numberOutcome, truthOutcome, StandsFor}
-use Rattle.expressions.proofs.Signed.{between}
+use Rattle.expressions.specs.Outcomes.{faultIf, numberCode, truthCode, Reached, value, range, divisor, StandsFor, TruthStandsFor}
 
 -- ---- numbers
 
 pub stands-same : {z : ℤ} {o p : Out ℤ} → StandsFor z o → o ≡ p → StandsFor z p
-stands-same s e = record { outcome = s .outcome ∙ e; lowest = s .lowest }
+stands-same {z} s e = subst (StandsFor z) e s
 
 pub stands-at : {y z : ℤ} {o : Out ℤ} → y ≡ z → StandsFor z o → StandsFor y o
-stands-at e s = record { outcome = ap numberOutcome e ∙ s .outcome; lowest = ap (leZ (negsuc 2147483647)) e ∙ s .lowest }
+stands-at e s = record { code = e ∙ s .code; reached = s .reached }
 
 -- what a call hands back, in 64 bits
 pub held : {z : ℤ} {o : Out ℤ} → mag z < 2 ^ 63 → StandsFor z o → StandsFor (toZ w64 (ofZ w64 z)) o
@@ -31,32 +30,42 @@ pub handed : {z : ℤ} {o p : Out ℤ} → mag z < 2 ^ 63 → StandsFor z o → 
 handed f s e = stands-same (held f s) e
 
 pub of-number : (z : ℤ) → mag z < 2 ^ 31 → StandsFor z (val z)
-of-number (pos n) l = record { outcome = rw (le-ltb 2147483647 n (omega arith)); lowest = refl }
-of-number (negsuc n) l = record { outcome = refl; lowest = le-leb n 2147483647 (omega arith) }
+of-number z l = record { code = refl; reached = value l }
 
 pub of-zero : StandsFor (pos 0) (val (pos 0))
 of-zero = of-number (pos 0) (omega arith)
 
 pub of-range : StandsFor (pos 4294967296) (fault out-of-range)
-of-range = record { outcome = refl; lowest = refl }
+of-range = record { code = refl; reached = range }
 
 pub of-divisor : StandsFor (pos 4294967297) (fault zero-divisor)
-of-divisor = record { outcome = refl; lowest = refl }
+of-divisor = record { code = refl; reached = divisor }
 
-at-most-highest : (z : ℤ) → ltZ (pos 2147483647) z ≡ false → leZ z (pos 2147483647) ≡ true
-at-most-highest (pos n) h = le-leb n 2147483647 (ltb-false 2147483647 n h)
-at-most-highest (negsuc n) h = refl
+-- a number of 32 bits is none of the faults'
+narrow-low : (z : ℤ) → mag z < 2 ^ 31 → ltZ (pos 2147483647) z ≡ false
+narrow-low (pos n) l = le-ltb 2147483647 n (omega arith)
+narrow-low (negsuc n) l = refl
+
+low-in : {z : ℤ} {o : Out ℤ} → z ≡ numberCode o → Reached (λ a. mag a < 2 ^ 31) o → ltZ (pos 2147483647) z ≡ false → (mag z < 2 ^ 31) × (val z ≡ o)
+low-in e (value l) h = (subst (λ x. mag x < 2 ^ 31) (sym e) l, ap val e)
+low-in e range h = absurd (subst T (sym (ap (ltZ (pos 2147483647)) e) ∙ h) tt)
+low-in e divisor h = absurd (subst T (sym (ap (ltZ (pos 2147483647)) e) ∙ h) tt)
+
+high-in : {z : ℤ} {o : Out ℤ} → z ≡ numberCode o → Reached (λ a. mag a < 2 ^ 31) o → ltZ (pos 2147483647) z ≡ true → fault (faultIf (leZ z (pos 4294967296))) ≡ o
+high-in e (value {a = a} l) h = absurd (subst T (sym h ∙ ap (ltZ (pos 2147483647)) e ∙ narrow-low a l) tt)
+high-in e range h = ap (λ x. fault (faultIf (leZ x (pos 4294967296)))) e
+high-in e divisor h = ap (λ x. fault (faultIf (leZ x (pos 4294967296)))) e
 
 -- a number that is none of the faults', and one that is
 module _ {z : ℤ} {o : Out ℤ} (s : StandsFor z o) where
   pub number-small : ltZ (pos 2147483647) z ≡ false → mag z < 2 ^ 31
-  number-small h = between z (s .lowest) (at-most-highest z h)
+  number-small h = low-in (s .code) (s .reached) h .0
 
   pub number-in : ltZ (pos 2147483647) z ≡ false → val z ≡ o
-  number-in h = sym (ap (λ t. cond t (fault (faultIf (leZ z (pos 4294967296)))) (val z)) h) ∙ s .outcome
+  number-in h = low-in (s .code) (s .reached) h .1
 
   pub fault-in : ltZ (pos 2147483647) z ≡ true → fault (faultIf (leZ z (pos 4294967296))) ≡ o
-  fault-in h = sym (ap (λ t. cond t (fault (faultIf (leZ z (pos 4294967296)))) (val z)) h) ∙ s .outcome
+  fault-in h = high-in (s .code) (s .reached) h
 
   pub fault-stands : ltZ (pos 2147483647) z ≡ true → StandsFor z (fault (faultIf (leZ z (pos 4294967296))))
   fault-stands h = stands-same s (sym (fault-in h))
@@ -74,26 +83,59 @@ both-in f e g i = e i >>= λ u. (g i >>= λ w. f u w)
 
 -- ---- truths
 
-module _ {t : ℕ} {o : Out Bool} (e : truthOutcome t ≡ o) where
+pub truth-same : {t : ℕ} {o p : Out Bool} → TruthStandsFor t o → o ≡ p → TruthStandsFor t p
+truth-same {t} s e = subst (TruthStandsFor t) e s
+
+pub of-truth : {t : ℕ} (b : Bool) → t ≡ cond b 1 0 → TruthStandsFor t (val b)
+of-truth b e = record { code = e; reached = value tt }
+
+pub of-fault : {t : ℕ} (b : Bool) → t ≡ cond b 2 3 → TruthStandsFor t (fault (faultIf b))
+of-fault true e = record { code = e; reached = range }
+of-fault false e = record { code = e; reached = divisor }
+
+module _ {t : ℕ} {o : Out Bool} (s : TruthStandsFor t o) where
   pub truth-in : t ≤ 1 → val (eqb t 1) ≡ o
-  truth-in l = sym (ap (λ b. cond b (fault (faultIf (eqb t 2))) (val (eqb t 1))) (le-ltb 1 t l)) ∙ e
+  truth-in l = go (s .code) (s .reached)
+    where
+      go : {p : Out Bool} → t ≡ truthCode p → Reached (λ a. Unit {0}) p → val (eqb t 1) ≡ p
+      go e (value {a = true} _) = ap (λ x. val (eqb x 1)) e
+      go e (value {a = false} _) = ap (λ x. val (eqb x 1)) e
+      go e range = absurd (omega arith)
+      go e divisor = absurd (omega arith)
 
   pub truth-fault-in : 1 < t → fault (faultIf (eqb t 2)) ≡ o
-  truth-fault-in l = sym (ap (λ b. cond b (fault (faultIf (eqb t 2))) (val (eqb t 1))) (lt-ltb 1 t l)) ∙ e
+  truth-fault-in l = go (s .code) (s .reached)
+    where
+      go : {p : Out Bool} → t ≡ truthCode p → Reached (λ a. Unit {0}) p → fault (faultIf (eqb t 2)) ≡ p
+      go e (value {a = true} _) = absurd (omega arith)
+      go e (value {a = false} _) = absurd (omega arith)
+      go e range = ap (λ x. fault (faultIf (eqb x 2))) e
+      go e divisor = ap (λ x. fault (faultIf (eqb x 2))) e
 
-pub of-truth : (b : Bool) → truthOutcome (cond b 1 0) ≡ val b
-of-truth true = refl
-of-truth false = refl
+  -- a truth is turned, and a fault passes
+  pub turned : TruthStandsFor (cond (ltb t 2) (1 - t) t) (choose o (val false) (val true))
+  turned = go (s .code) (s .reached)
+    where
+      go : {p : Out Bool} → t ≡ truthCode p → Reached (λ a. Unit {0}) p → TruthStandsFor (cond (ltb t 2) (1 - t) t) (choose p (val false) (val true))
+      go e (value {a = true} _) = of-truth false (ap (λ x. cond (ltb x 2) (1 - x) x) e)
+      go e (value {a = false} _) = of-truth true (ap (λ x. cond (ltb x 2) (1 - x) x) e)
+      go e range = of-fault true (ap (λ x. cond (ltb x 2) (1 - x) x) e)
+      go e divisor = of-fault false (ap (λ x. cond (ltb x 2) (1 - x) x) e)
 
--- the truth that does not decide leaves it to the second operand, and any other outcome stays
-pub undecided : (d : Bool) (y : Out Bool) → y ≡ decide d (truthOutcome (cond (not d) 1 0)) y
-undecided true y = refl
-undecided false y = refl
+  -- the truth that does not decide leaves it to the second operand, and any other outcome stays
+  pub undecided : (d : Bool) (y : Out Bool) → t ≡ cond (not d) 1 0 → y ≡ decide d o y
+  undecided true y e = ap (λ u. decide true u y) (sym (ap (λ x. val (eqb x 1)) e) ∙ truth-in (omega arith))
+  undecided false y e = ap (λ u. decide false u y) (sym (ap (λ x. val (eqb x 1)) e) ∙ truth-in (omega arith))
 
-pub stays : (d : Bool) (t : ℕ) (y : Out Bool) → (t ≡ cond (not d) 1 0 → ⊥) → truthOutcome t ≡ decide d (truthOutcome t) y
-stays true zero y n = absurd (n refl)
-stays true (suc zero) y n = refl
-stays true (suc (suc t)) y n = rw (lt-ltb 1 (suc (suc t)) (omega arith))
-stays false zero y n = refl
-stays false (suc zero) y n = absurd (n refl)
-stays false (suc (suc t)) y n = rw (lt-ltb 1 (suc (suc t)) (omega arith))
+  pub stays : (d : Bool) (y : Out Bool) → (t ≡ cond (not d) 1 0 → ⊥) → TruthStandsFor t (decide d o y)
+  stays d y n = go d n (s .code) (s .reached)
+    where
+      go : (d : Bool) {p : Out Bool} → (t ≡ cond (not d) 1 0 → ⊥) → t ≡ truthCode p → Reached (λ a. Unit {0}) p → TruthStandsFor t (decide d p y)
+      go true n e (value {a = true} _) = of-truth true e
+      go true n e (value {a = false} _) = absurd (n e)
+      go false n e (value {a = true} _) = absurd (n e)
+      go false n e (value {a = false} _) = of-truth false e
+      go true n e range = of-fault true e
+      go false n e range = of-fault true e
+      go true n e divisor = of-fault false e
+      go false n e divisor = of-fault false e

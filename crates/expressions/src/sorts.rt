@@ -1,13 +1,12 @@
 // Sorts, order and use of nodes, which the checks of a file ask of.
 ghost use mathlib.Core.Path.{_≡_};
-ghost use mathlib.Core.Bool.{Bool};
 ghost use mathlib.Core.List.{map};
 ghost use Prim.Native.Nat.{_+_, min};
 ghost use lib.Dec.{ltb};
 ghost use lib.IntN.{ℤ};
 ghost use Rattle.records.specs.Lists.{all};
 ghost use Rattle.expressions.specs.Nodes.{nodeAt};
-ghost use Rattle.expressions.specs.Sorts.{sortOf, isNumber, isTruth, sameSort, operands, variablesOf, nodesNamed, operandFits, operandsFit, verdict, verdictOf};
+ghost use Rattle.expressions.specs.Sorts.{sortOf, isNumber, isTruth, sameSort, operands, variablesOf, nodesNamed, operandFits, operandsFit, verdict, verdictOf, saysNamed, saysFit};
 ghost use Rattle.expressions.specs.Uses.{allOperands, addUse, addUses};
 ghost use Rattle.expressions.specs.Answers.{sortFor, operandsFor};
 ghost use Rattle.expressions.specs.Coded.{codedNode};
@@ -166,13 +165,13 @@ fn verdict(named: bool, fit: bool) -> u8
 }
 
 pub fn says_named(found: u8) -> bool
-    ensures { λ r. ⌜ ((named fit : Bool) → found ≡ verdict named fit → r ≡ named) ⌝ }
+    ensures { λ r. ⌜ r ≡ saysNamed found ⌝ }
 {
     (found == 1) | (found == 3)
 }
 
 pub fn says_fit(found: u8) -> bool
-    ensures { λ r. ⌜ ((named fit : Bool) → found ≡ verdict named fit → r ≡ fit) ⌝ }
+    ensures { λ r. ⌜ r ≡ saysFit found ⌝ }
 {
     2 <= found
 }

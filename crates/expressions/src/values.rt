@@ -1,8 +1,9 @@
 // What a node comes to, as a number and as a truth. Operands are lower than their node, so the node's number bounds the calls. Outcomes are plain numbers
 // until the end: what a call hands back then stays in a register.
 ghost use mathlib.Core.Path.{_≡_};
-ghost use mathlib.Core.Bool.{true, false, cond};
-ghost use lib.Dec.{eqb};
+ghost use mathlib.Core.Bool.{cond};
+ghost use Prim.Native.Nat.{_-_};
+ghost use lib.Dec.{ltb, eqb};
 ghost use lib.ListN.{getD};
 ghost use lib.IntN.{pos};
 ghost use lib.Signed.{leZ};
@@ -10,7 +11,7 @@ ghost use Rattle.records.specs.Refusal.{val, fault, choose};
 ghost use Rattle.expressions.specs.Nodes.{nodeAt};
 ghost use Rattle.expressions.specs.Values.{number, truth, decide, operandNumber, operandTruth, computeOperands, compareOperands};
 ghost use Rattle.expressions.specs.Answers.{reasonOf, numberOf, truthOf};
-ghost use Rattle.expressions.specs.Outcomes.{faultIf, truthOutcome, StandsFor};
+ghost use Rattle.expressions.specs.Outcomes.{faultIf, StandsFor, TruthStandsFor};
 ghost use Rattle.expressions.specs.Coded.{arithmeticOf, comparisonOf};
 use super::arithmetic::HIGHEST;
 use super::arithmetic::Number;
@@ -47,13 +48,13 @@ fn number_fault(t: u8) -> i64
 }
 
 fn truth_fault(z: i64) -> u8
-    ensures { λ r. ⌜ truthOutcome r ≡ fault (faultIf (leZ z (pos 4294967296))) ⌝ }
+    ensures { λ r. ⌜ TruthStandsFor r (fault (faultIf (leZ z (pos 4294967296)))) ⌝ }
 {
     if z <= OUT_OF_RANGE { 2 } else { 3 }
 }
 
 fn negated(t: u8) -> u8
-    ensures { λ r. ⌜ truthOutcome r ≡ choose (truthOutcome t) (val false) (val true) ⌝ }
+    ensures { λ r. ⌜ r ≡ cond (ltb t 2) (1 - t) t ⌝ }
 {
     if t < 2 { 1 - t } else { t }
 }
@@ -85,7 +86,7 @@ fn operand_number(nodes: &[u8], vars: &[i16; 64], n: u16, a: u16) -> i64
 }
 
 fn operand_truth(nodes: &[u8], vars: &[i16; 64], n: u16, a: u16) -> u8
-    ensures { λ r. ⌜ truthOutcome r ≡ operandTruth (nodeAt (now (nodes .entry))) (now (vars .entry)) n a ⌝ }
+    ensures { λ r. ⌜ TruthStandsFor r (operandTruth (nodeAt (now (nodes .entry))) (now (vars .entry)) n a) ⌝ }
 {
     if a < n {
         truth_outcome(nodes, vars, a)
@@ -110,7 +111,7 @@ fn computed(nodes: &[u8], vars: &[i16; 64], n: u16, code: u8, a: u16, b: u16) ->
 }
 
 fn compared(nodes: &[u8], vars: &[i16; 64], n: u16, code: u8, a: u16, b: u16) -> u8
-    ensures { λ r. ⌜ truthOutcome r ≡ compareOperands (nodeAt (now (nodes .entry))) (now (vars .entry)) (comparisonOf code) n a b ⌝ }
+    ensures { λ r. ⌜ TruthStandsFor r (compareOperands (nodeAt (now (nodes .entry))) (now (vars .entry)) (comparisonOf code) n a b) ⌝ }
 {
     let x = operand_number(nodes, vars, n, a);
     if HIGHEST < x {
@@ -136,7 +137,7 @@ fn chosen(nodes: &[u8], vars: &[i16; 64], n: u16, t: u16, a: u16, b: u16) -> i64
 
 // Operand a of node n where it is a fault or the truth that decides, else operand b.
 fn decided(nodes: &[u8], vars: &[i16; 64], n: u16, a: u16, b: u16, decides: bool) -> u8
-    ensures { λ r. ⌜ truthOutcome r ≡ decide decides (operandTruth (nodeAt (now (nodes .entry))) (now (vars .entry)) n a) (operandTruth (nodeAt (now (nodes .entry))) (now (vars .entry)) n b) ⌝ }
+    ensures { λ r. ⌜ TruthStandsFor r (decide decides (operandTruth (nodeAt (now (nodes .entry))) (now (vars .entry)) n a) (operandTruth (nodeAt (now (nodes .entry))) (now (vars .entry)) n b)) ⌝ }
 {
     let t = operand_truth(nodes, vars, n, a);
     if t == truth_value(!decides) {
@@ -172,7 +173,7 @@ fn number_outcome(nodes: &[u8], vars: &[i16; 64], n: u16) -> i64
 
 // By the code: 16 to 18 two numbers compared, 19 not, 20 and, 21 or.
 fn truth_outcome(nodes: &[u8], vars: &[i16; 64], n: u16) -> u8
-    ensures { λ r. ⌜ truthOutcome r ≡ truth (nodeAt (now (nodes .entry))) (now (vars .entry)) n ⌝ }
+    ensures { λ r. ⌜ TruthStandsFor r (truth (nodeAt (now (nodes .entry))) (now (vars .entry)) n) ⌝ }
 {
     let f = fields_at(nodes, n);
     let code = f.code;

@@ -1,6 +1,12 @@
 // Lists a file that is accepted, a line for each record in file order: an automata table where its first record is of a table's kind, else a chart set. A
 // refusal is told as `check_file` tells it, and nothing is listed.
-ghost use Prim.Native.Nat.{_≤_};
+ghost use mathlib.Core.Path.{_≡_};
+ghost use Prim.Native.Nat.{_*_, _/_, _≤_, _<_};
+ghost use lib.ListN.{length};
+ghost use Rattle.records.specs.Bytes.{byte};
+ghost use Rattle.records.specs.Wrote.{Begins};
+ghost use Rattle.list.specs.Parts.{WroteNear};
+ghost use Rattle.list.specs.Listing.{recordText, lineText, numberOf, listed};
 
 mod fields;
 mod sets;
@@ -33,7 +39,7 @@ use texts::put_word;
 
 // By the record's kind.
 fn put_fields(out: &mut [u8], i: u32, r: &[u8]) -> usize
-    ensures { λ n. ⌜ n ≤ 256 ⌝ }
+    ensures { λ n. ⌜ WroteNear 256 (now (out .entry)) 0 (recordText i (now (r .entry))) (now (out .exit)) n ⌝ }
 {
     match byte_at(r, 0) {
         1 => put_chart(out, i, r),
@@ -52,44 +58,46 @@ fn put_fields(out: &mut [u8], i: u32, r: &[u8]) -> usize
     }
 }
 
+// The line of a record, the i-th of its kind, at the start; answers its length.
 fn put_line(out: &mut [u8], i: u32, r: &[u8]) -> usize
-    ensures { λ n. ⌜ n ≤ 276 ⌝ }
+    ensures { λ n. ⌜ Begins (now (out .entry)) (lineText i (now (r .entry))) (now (out .exit)) n × (n ≤ 276) ⌝ }
 {
     let end = put_fields(out, i, r);
     put_word(out, end, b"\n")
 }
 
-// Whether the line of record i of its kind went to standard output.
-fn print_record(i: u32, r: &[u8]) -> bool {
+// The line of record n of a file, before which there are i of its kind.
+fn line_into(out: &mut [u8], s: &[u8], n: usize, i: u32) -> usize
+    requires { ⌜ (n < length (now s) / 16) × (i ≡ numberOf (now s) (byte (now s) (16 * n)) n) ⌝ }
+    ensures { λ r. ⌜ Begins (now (out .entry)) (listed (now (s .entry)) n) (now (out .exit)) r × (r ≤ 276) ⌝ }
+{
+    let at = 16 * n;
+    let end = at + 16;
+    put_line(out, i, &s[at..end])
+}
+
+// Whether that line went to standard output.
+fn print_record(s: &[u8], n: usize, i: u32) -> bool
+    requires { ⌜ (n < length (now s) / 16) × (i ≡ numberOf (now s) (byte (now s) (16 * n)) n) ⌝ }
+{
     let mut text = io::buffer();
-    let size = put_line(&mut text, i, r);
+    let size = line_into(&mut text, s, n, i);
     print(&text[..size])
 }
 
-// The first record of the kind of record n, by that of the record before.
-fn first_of(kind: u8, before: u8, first: u32, n: u32) -> u32
-    requires { ⌜ first ≤ n ⌝ }
-    ensures { λ r. ⌜ r ≤ n ⌝ }
-{
-    if kind == before { first } else { n }
-}
-
-// What is read at once are 16,384 records, more than any set or table has.
+// How many records of each kind are behind is counted. What is read at once are 16,384 records, more than any set or table has.
 fn list(s: &[u8]) {
-    let mut kind: u8 = 0;
-    let mut first: u32 = 0;
-    let mut n: u32 = 0;
+    let mut counts = [0u32; 256];
+    let mut n: usize = 0;
     while n < 16384 {
-        let at = 16 * (n as usize);
-        let end = at + 16;
-        if s.len() < end {
+        if s.len() / 16 <= n {
             return;
         }
-        first = first_of(s[at], kind, first, n);
-        kind = s[at];
-        if !print_record(n - first, &s[at..end]) {
+        let kind = s[16 * n] as usize;
+        if !print_record(s, n, counts[kind]) {
             return;
         }
+        counts[kind] += 1;
         n += 1;
     }
 }

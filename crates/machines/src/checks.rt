@@ -167,6 +167,13 @@ pub fn decide(possible: bool, events: u32, position: u32, cycles: u32) -> Before
     Before::Fine
 }
 
+// Input events are given at position 1.
+pub fn events_given(events: u32, position: u32, present: u32) -> u32
+    ensures { λ r. ⌜ r ≡ cond (eqb position 1) events present ⌝ }
+{
+    if position == 1 { events } else { present }
+}
+
 // Of each part its initial place.
 pub fn initial_places(s: &[u8], parts: u16) -> [u16; 8]
     requires { ⌜ parts ≤ 8 ⌝ }

@@ -1,1 +1,2 @@
+pub mod LongFiles
 pub mod Texts

@@ -5,6 +5,8 @@ ghost use lib.Dec.{leb};
 ghost use lib.ListN.{length};
 ghost use Rattle.io.specs.Counts.{Counts};
 ghost use Rattle.records.specs.Bytes.{byte};
+ghost use Rattle.chart_files.specs.Shape.{refusalFor};
+ghost use Rattle.messages.specs.LongFiles.{lastKindIn, longRefusal};
 use crate::numbers::table_number;
 use crate::words::tell_file;
 use crate::words::tell_number;
@@ -103,16 +105,18 @@ pub fn is_table(s: &[u8]) -> bool
 // ---- files that are longer than any set or table
 
 // The last kind of the whole records, which never descend from the kind given; 255 where they do or one is unknown.
-fn last_kind(s: &[u8], kind: u8) -> u8 {
+fn last_kind(s: &[u8], kind: u8) -> u8
+    ensures { λ r. ⌜ r ≡ lastKindIn (now (s .entry)) kind ⌝ }
+{
     let mut last = kind;
-    let mut at: usize = 0;
-    while 16 <= s.len() - at {
-        let k = s[at];
+    let mut i: usize = 0;
+    while i < s.len() / 16 {
+        let k = s[16 * i];
         if (k < last) | (6 < k) {
             return 255;
         }
         last = k;
-        at += 16;
+        i += 1;
     }
     last
 }
@@ -128,7 +132,9 @@ fn next_part(fd: i32, buf: &mut [u8], kind: u8) -> Part {
 }
 
 // Its parts are full but for the last; what they are full of is whole records.
-fn long_refusal(size: usize, kind: u8) -> chart_files::Refusal {
+fn long_refusal(size: usize, kind: u8) -> chart_files::Refusal
+    ensures { λ r. ⌜ refusalFor r ≡ longRefusal size kind ⌝ }
+{
     if size % 16 != 0 {
         return chart_files::Refusal::OddLength;
     }

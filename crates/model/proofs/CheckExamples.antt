@@ -10,21 +10,13 @@ use Rattle.model.specs.Translation.{twinBytes, Translation}
 use Rattle.model.specs.AutomataFile.{AutomataFile}
 use Rattle.model.specs.Calls.{Format, chartSets, automataTables, turnCall, numbered, answerCode}
 use Rattle.records.proofs.Tables.{Agree}
-use Rattle.model.proofs.ExampleSets.{timing, waiting}
-
--- a run of `timing`: its first two states and ages, its first variables, the rest zero
-abbrev run : (at timers : List ℕ) (vars : List ℤ) (events position cycles : ℕ) → Run
-run at timers vars events position cycles = record {
-  at = at ++ replicate 6 0;
-  timers = timers ++ replicate 6 0;
-  world = record { vars = vars ++ replicate 62 (pos 0); events = events; position = position; cycles = cycles };
-}
+use Rattle.model.proofs.ExampleSets.{timing, waiting, run}
 
 abbrev turn : (given : ℕ) → Run → ℤ
 turn given r = numbered answerCode (turnCall chartSets timing given r .answer)
 
 abbrev one : ℤ → List ℤ
-one v = v ∷ pos 0 ∷ []
+one v = v ∷ []
 
 abbrev checks : List (ℤ × ℤ)
 checks =

@@ -4,9 +4,9 @@ use mathlib.Core.Path.{_≡_, refl, sym, ap, _∙_, subst}
 use mathlib.Core.Option.{none}
 use mathlib.Core.Bool.{Bool, true, false, not, cond, _&&_}
 use mathlib.Core.List.{List}
-use Prim.Native.Nat.{ℕ, zero, suc, _+_, _-_, _≤_, _<_}
+use Prim.Native.Nat.{ℕ, suc, _+_, _-_, _≤_, _<_}
 use native.Mathlib.Omega.{arith}
-use lib.Dec.{T, leb, eqb, le→leb, leb→le, nleb→lt}
+use lib.Dec.{T, leb, eqb, leb→le, nleb→lt}
 use Rattle.records.specs.Refusal.{impossible-run, misplaced-events, cycles-done, Out, val, fault, _>>=_, _>>_, fault-if}
 use Rattle.model.specs.Runs.{Run, Answer, taken, idle, time, Machine, parts, possible, checked, setEvents, give, moved, timePassed, stepped, turn, unless-stopped, onto, turns, ended, cycle}
 use Rattle.model.specs.ChartSet.{readCharts}
@@ -15,9 +15,9 @@ use Rattle.model.specs.ChartFile.{chartsRefusal}
 use Rattle.model.specs.AutomataTable.{readAutomata}
 use Rattle.model.specs.Automata.{automata}
 use Rattle.model.specs.AutomataFile.{automataRefusal}
-use Rattle.model.proofs.BoolLaws.{is-true, of-true, to-left, not-false, ne→eqb}
+use Rattle.model.proofs.BoolLaws.{of-true, not-false, ne→eqb}
 use Rattle.model.proofs.Accepted.{sound}
-use Rattle.model.proofs.PossibleRuns.{Fits, Resting, possible-of, possible-fits, possible-rests, gate, checked-is, gate-count}
+use Rattle.model.proofs.PossibleRuns.{possible-of, possible-fits, possible-rests, part-rests, gate, checked-is, gate-count}
 use Rattle.model.proofs.StaysPossible.{NotTime, same-fits, Keeps, Steady}
 use Rattle.model.proofs.Steady.{steady-charts, steady-automata, sound-table}
 
@@ -71,16 +71,9 @@ module _ (m : Machine) (ok : Steady m) (given : ℕ) (r : Run) where
       past-one : eqb (x .1 .world .position + 1) 1 ≡ false
       past-one = ne→eqb {a = x .1 .world .position + 1} {b = 1} (λ z. omega (arith, low, kept .2))
 
-      few : x .1 .world .cycles ≤ 999_999
-      few = subst (λ n. n ≤ 999_999) (sym (kept .1)) (passed .1)
-
       possible-again : T (possible m (moved (x .1)))
-      possible-again = possible-of m (moved (x .1)) (same-fits m (x .1) (moved (x .1)) refl refl refl refl (kept .0)) (record {
-        low = omega arith;
-        high = omega (arith, kept .2);
-        count = subst (λ b. T (leb (x .1 .world .cycles) (cond b 1_000_000 999_999))) (sym past-one) (le→leb (x .1 .world .cycles) 999_999 few);
-        events = to-left (not (eqb (x .1 .world .position + 1) 1)) (eqb (x .1 .world .events) 0) (not-false past-one);
-      })
+      possible-again = possible-of m (moved (x .1)) (same-fits m (x .1) (moved (x .1)) refl refl refl refl (kept .0))
+          (part-rests m (r .world) (moved (x .1) .world) (passed .1) low l (ap (λ n. n + 1) (kept .2)) (kept .1))
 
   -- the turns after a part's turn are those of a cycle called with no events
   cycle-onward : (x : Answer × Run) → Onward x → cycle m 0 (moved (x .1)) ≡ (ended (moved (x .1)) (turns m (parts m + 1 - r .world .position) (moved (x .1))) >>= λ r₁. val (tt {0}, r₁))

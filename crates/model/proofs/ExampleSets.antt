@@ -5,7 +5,7 @@ use Prim.Native.Char.{code}
 use Prim.Native.String.{String, len, charAt}
 use lib.IntN.{ℤ, pos}
 use Rattle.model.specs.Runs.{Run}
-use Rattle.records.specs.Lists.{gather, upto}
+use Rattle.records.specs.Lists.{gather, upto, padded}
 use Rattle.records.specs.Bytes.{bytes2, bytes4}
 use Rattle.expressions.proofs.ExampleNodes.{rec16, node, constant, read, binary}
 
@@ -116,6 +116,32 @@ overstepping =
     chart 0 ++ chart 2 ++ state 0 ++ state 0 ++ state 1 ++ state 1 ++ freely 1 0 1 ++ freely 1 2 3
     ++ variable 65535 5 0 ++ constant 5 ++ constant 6 ++ action 3 0 1 0 0 ++ action 3 1 1 0 1
 
+-- two charts whose states alternate, clocks that leave both, and two variables, the second negative throughout
+abbrev pub alternating : List ℕ
+alternating =
+    chart 0 ++ chart 1 ++ state 0 ++ state 1 ++ state 0 ++ state 1
+    ++ freely 1 0 2 ++ freely 1 1 3 ++ timed 2 3 3 500 ++ timed 3 2 2 3_600_000
+    ++ variable 0 9 1 ++ variable 65526 65535 65533
+
+-- Two variables, the second negative throughout, and two assignments in each group of actions, whose order matters: leaving 1 adds 1 to it and doubles it,
+-- transition 1 takes 1 away and triples it, entering 2 adds 5 and doubles it.
+abbrev pub paired : (lowest highest lowestOfSecond : ℕ) → List ℕ
+paired lo hi lo₂ =
+    chart 0 ++ state 0 ++ state 0 ++ state 0 ++ freely 1 0 1 ++ freely 1 1 2
+    ++ variable lo hi 1 ++ variable lo₂ 65535 65533
+    ++ (read 1 ++ constant 1 ++ binary 3 0 1) ++ (read 1 ++ constant 2 ++ binary 5 3 4)
+    ++ (read 1 ++ constant 1 ++ binary 4 6 7) ++ (read 1 ++ constant 3 ++ binary 5 9 10)
+    ++ (read 1 ++ constant 5 ++ binary 3 12 13) ++ (read 1 ++ constant 2 ++ binary 5 15 16)
+    ++ action 1 2 1 1 14 ++ action 1 2 1 1 17 ++ action 2 1 1 1 2 ++ action 2 1 1 1 5 ++ action 3 1 1 1 8 ++ action 3 1 1 1 11
+
 -- a run that is lent to be started
 abbrev pub blank : Run
 blank = record { at = []; timers = []; world = record { vars = []; events = 0; position = 0; cycles = 0 } }
+
+-- a lent run of charts: its first states, ages and variables, the rest zero
+abbrev pub run : (at timers : List ℕ) (vars : List ℤ) (events position cycles : ℕ) → Run
+run at timers vars events position cycles = record {
+  at = padded 8 0 at;
+  timers = padded 8 0 timers;
+  world = record { vars = padded 64 (pos 0) vars; events = events; position = position; cycles = cycles };
+}

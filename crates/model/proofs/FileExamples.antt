@@ -1,31 +1,18 @@
 -- Examples of the refusals of files: 1 to 9 on the zero-watch set with bytes put in, and 11 on twins. Assumes nothing.
 use mathlib.Core.Path.{_≡_, refl}
-use mathlib.Core.Option.{Option, some, none}
 use mathlib.Core.List.{List, [], _∷_, _++_, map}
 use Prim.Native.Nat.{ℕ}
-use lib.ListN.{replicate, set, take, drop}
+use lib.ListN.{replicate, take, drop}
 use Rattle.records.specs.Lists.{gather}
-use Rattle.records.specs.Refusal.{Refusal, refusalNumber}
-use Rattle.model.specs.ChartFile.{chartsRefusal, ChartFile}
-use Rattle.model.specs.AutomataFile.{automataRefusal, AutomataFile}
-use Rattle.model.specs.Translation.{twinBytes, Translation}
+use Rattle.model.specs.ChartFile.{ChartFile}
+use Rattle.model.specs.AutomataFile.{AutomataFile}
+use Rattle.model.specs.Translation.{Translation}
 use Rattle.records.proofs.Tables.{Agree}
 use Rattle.expressions.proofs.ExampleNodes.{constant, binary}
-use Rattle.model.proofs.ExampleSets.{chart, state, transition, freely, timed, variable, action, zeroWatch, waiting, raising}
-
--- bytes put in at places
-abbrev edited : List ℕ → List (ℕ × ℕ) → List ℕ
-edited s [] = s
-edited s (x ∷ xs) = edited (set s (x .0) (x .1)) xs
-
-abbrev numberOf : Option Refusal → ℕ
-numberOf none = 0
-numberOf (some w) = refusalNumber w
+use Rattle.model.proofs.ExampleSets.{chart, state, freely, action, zeroWatch, waiting}
+use Rattle.model.proofs.ExampleFiles.{edited, refused, assigningNode, guardedBy, everyFew, refusedTable, zeroTwin, clockTwin, editedTwin, editedClocks, editedPair}
 
 -- ---- chart files
-
-abbrev refused : List ℕ → ℕ
-refused s = numberOf (chartsRefusal s)
 
 abbrev nineCharts : List ℕ
 nineCharts = gather (λ i. chart i) (replicate 9 0)
@@ -44,16 +31,6 @@ elsewhere = chart 2 ++ chart 2 ++ state 0 ++ state 0 ++ state 1 ++ state 1 ++ fr
 
 abbrev unusedNode : List ℕ
 unusedNode = chart 0 ++ state 0 ++ state 0 ++ freely 1 0 1 ++ constant 1
-
--- a set whose first transition assigns node n of these nodes, and one whose second has node 0 as its guard
-abbrev assigningNode : (n : ℕ) → List ℕ → List ℕ
-assigningNode n nodes = chart 0 ++ state 0 ++ state 0 ++ freely 1 0 1 ++ variable 0 9 0 ++ nodes ++ action 3 0 1 0 n
-
-abbrev guardedBy : List ℕ → List ℕ
-guardedBy nodes = chart 0 ++ state 0 ++ state 0 ++ freely 1 0 1 ++ transition 1 1 1 0 0 0 0 ++ nodes
-
-abbrev everyFew : (ms : ℕ) → List ℕ
-everyFew ms = chart 0 ++ state 0 ++ state 0 ++ freely 1 0 1 ++ timed 3 1 1 ms
 
 abbrev files : List (ℕ × ℕ)
 files =
@@ -150,7 +127,7 @@ files =
     -- every node used once: an operand not lower, a truth for a number, a number as a guard, a truth assigned
     ∷ (refused (assigningNode 0 (binary 3 1 2 ++ constant 1 ++ constant 2)), 8)
     ∷ (refused (assigningNode 4 (constant 1 ++ constant 2 ++ binary 17 0 1 ++ constant 1 ++ binary 3 2 3)), 8)
-    ∷ (refused (guardedBy (constant 1)), 8)
+    ∷ (refused (guardedBy 0 (constant 1)), 8)
     ∷ (refused (assigningNode 2 (constant 1 ++ constant 2 ++ binary 17 0 1)), 8)
     ∷ (refused (assigningNode 2 (constant 1 ++ constant 2 ++ binary 3 0 1)), 0)
     -- 9: timing triggers of 0 ticks, after and every; 50 ms are one tick
@@ -173,25 +150,6 @@ file-examples =
     (refl, (refl, (refl, (refl, (refl, (refl, (refl, (refl, (refl, (refl, (refl, (refl, (refl, (refl, (refl, (refl, (refl, (refl, (refl, (refl, (refl, (refl, (refl, (refl, (refl, (refl, (refl, (refl, (refl, (refl, (refl, (refl, (refl, (refl, (refl, (refl, (refl, (refl, (refl, (refl, (refl, (refl, (refl, (refl, (refl, (refl, (refl, (refl, (refl, (refl, (refl, (refl, (refl, (refl, (refl, (refl, (refl, (refl, (refl, (refl, (refl, (refl, (refl, (refl, (refl, (refl, (refl, (refl, (refl, (refl, (refl, (refl, (refl, (refl, (refl, (refl, (refl, (refl, (refl, (refl, (refl, (refl, (refl, (refl, (refl, (refl, (refl, (refl, (refl, (refl, (refl, (refl, (refl, (refl, tt))))))))))))))))))))))))))))))))))))))))))))))))))))))))))))))))))))))))))))))))))))))))))))))
 
 -- ---- automata files
-
-abbrev refusedTable : List ℕ → ℕ
-refusedTable t = numberOf (automataRefusal t)
-
--- the twins of the zero-watch set, of `waiting`, which has a clock and a reset, and of `raising`, which has two automata
-abbrev zeroTwin : List ℕ
-zeroTwin = twinBytes zeroWatch
-
-abbrev clockTwin : List ℕ
-clockTwin = twinBytes (waiting 300)
-
-abbrev editedTwin : List (ℕ × ℕ) → List ℕ
-editedTwin = edited zeroTwin
-
-abbrev editedClocks : List (ℕ × ℕ) → List ℕ
-editedClocks = edited clockTwin
-
-abbrev editedPair : List (ℕ × ℕ) → List ℕ
-editedPair = edited (twinBytes raising)
 
 abbrev tables : List (ℕ × ℕ)
 tables =

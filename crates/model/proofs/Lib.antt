@@ -32,9 +32,14 @@ pub mod PathTaken
 pub mod Demand3
 pub mod TwinPath
 pub mod ExampleSets
+pub mod ExampleFiles
 mod MarkedExamples
 mod ChartExamples
 mod CheckExamples
 mod PathExamples
 mod FileExamples
 mod TwinExamples
+mod BoundaryLimitExamples
+mod BoundaryFileExamples
+mod BoundaryTableExamples
+mod BoundaryRunExamples

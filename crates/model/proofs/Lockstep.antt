@@ -1,9 +1,7 @@
 -- A call on a set's run and on its twin's goes turn for turn, and leaves runs at rest again. Assumes nothing.
 use mathlib.Core.Path.{_≡_, refl, sym, ap, _∙_, subst}
-use mathlib.Core.Bool.{false, not, cond, _||_}
 use Prim.Native.Nat.{ℕ, zero, suc, _+_, _-_, _≤_, _<_}
 use native.Mathlib.Omega.{arith}
-use lib.Dec.{T, leb, eqb, le→leb}
 use lib.ListN.{length}
 use Rattle.records.specs.Refusal.{refusalNumber, Out, val, fault}
 use Rattle.model.specs.Runs.{Run, Answer, taken, idle, time, Machine, stepped, give, Call, one-turn, whole-cycle, given, Trace, done, stopped, turned, onto, unless-stopped, turns, turnsOf, trace, ended}
@@ -12,12 +10,11 @@ use Rattle.model.specs.Charts.{charts}
 use Rattle.model.specs.Automata.{automata}
 use Rattle.model.specs.Translation.{twin}
 use Rattle.model.specs.Correspondence.{AnswersMatch, TracesMatch}
-use Rattle.model.proofs.BoolLaws.{of-true, to-right, eq→eqb, ne→eqb}
 use Rattle.model.proofs.Traces.{left}
 use Rattle.model.proofs.Alike.{Sound, Alike}
 use Rattle.model.proofs.TwinTurns.{Went, TurnsMatch, given-alike, stepped-match}
 use Rattle.model.proofs.Corresponding.{alike-corresponds}
-use Rattle.model.proofs.PossibleRuns.{Resting, AtRest, charts-possible, twin-possible, gate, checked-is, gate-count}
+use Rattle.model.proofs.PossibleRuns.{Resting, part-rests, time-rests, AtRest, charts-possible, twin-possible, gate, checked-is, gate-count}
 
 -- Two traces turn for turn, the next turn being taken in r.
 unfoldable pub Lockstep : ChartSet → Run → Trace → Trace → Type 0
@@ -35,30 +32,11 @@ Lockstep cs r (turned r₀ a r₁ t) (stopped v) = ⊥
 -- ---- what a turn leaves
 
 module _ (cs : ChartSet) (r r₁ : Run) where
-  -- past a chart's turn the position is not 1
-  onward : r .world .position ≤ length (cs .initial) → r .world .cycles ≤ 999_999 → 1 ≤ r .world .position → r₁ .world .position ≡ r .world .position + 1 → r₁ .world .cycles ≡ r .world .cycles → Resting (charts cs) (r₁ .world)
-  onward l few low p c =
-      let no : eqb (r₁ .world .position) 1 ≡ false = ne→eqb {a = r₁ .world .position} {b = 1} (λ e. omega arith) in
-      record {
-        low = omega arith;
-        high = omega arith;
-        count = subst (λ x. T (leb (r₁ .world .cycles) (cond x 1_000_000 999_999))) (sym no) (le→leb (r₁ .world .cycles) 999_999 (omega arith));
-        events = subst (λ x. T (not x || eqb (r₁ .world .events) 0)) (sym no) tt;
-      }
-
   -- the world is at rest after a turn
   pub rests : 1 ≤ r .world .position → r .world .position ≤ length (cs .initial) + 1 → r .world .cycles ≤ 999_999 → (a b : Answer) → Went cs r a b r₁ → Resting (charts cs) (r₁ .world)
-  rests low high few (taken t) b w = onward (w .1) few low (w .2) (w .3)
-  rests low high few idle b w = onward (w .1) few low (w .2) (w .3)
-  rests low high few time time w =
-      let p : r₁ .world .position ≡ 1 = w .2 in
-      let c : r₁ .world .cycles ≡ r .world .cycles + 1 = w .3 in
-      record {
-        low = omega arith;
-        high = omega arith;
-        count = subst (λ x. T (leb (r₁ .world .cycles) (cond x 1_000_000 999_999))) (sym (eq→eqb p)) (le→leb (r₁ .world .cycles) 1_000_000 (omega arith));
-        events = to-right (not (eqb (r₁ .world .position) 1)) (eqb (r₁ .world .events) 0) (of-true (eq→eqb (w .4)));
-      }
+  rests low high few (taken t) b w = part-rests (charts cs) (r .world) (r₁ .world) few low (w .1) (w .2) (w .3)
+  rests low high few idle b w = part-rests (charts cs) (r .world) (r₁ .world) few low (w .1) (w .2) (w .3)
+  rests low high few time time w = time-rests (charts cs) (r .world) (r₁ .world) few (w .2) (w .3) (w .4)
   rests low high few time (taken e) w = absurd w
   rests low high few time idle w = absurd w
 

@@ -15,7 +15,7 @@ use Rattle.model.specs.AutomataFile.{automataRefusal}
 use Rattle.model.specs.Translation.{twin}
 use Rattle.model.specs.Calls.{Format, chartSets, automataTables, callTrace}
 use Rattle.model.specs.Correspondence.{Corresponds, TracesMatch, lentAfter, MoveAlike}
-use Rattle.model.proofs.Traces.{left, lent-left}
+use Rattle.model.proofs.Traces.{left, lent-left, call-matches}
 use Rattle.model.proofs.Accepted.{sound}
 use Rattle.model.proofs.Corresponding.{alike-corresponds}
 use Rattle.model.proofs.PossibleRuns.{AtRest, charts-possible, twin-possible, start-rest}
@@ -51,8 +51,8 @@ module _ (s : List ℕ) (ok : chartsRefusal s ≡ none) (t : List ℕ) (back : r
       on-both : {r₁ r₂ q₁ q₂ : Run} → r₁ ≡ r₂ → q₁ ≡ q₂ → AtRest (readCharts s) r₁ q₁ → AtRest (readCharts s) r₂ q₂
       on-both {r₁} {r₂} {q₁} {q₂} e d h = subst (λ z. AtRest (readCharts s) r₂ z) d (subst (λ z. AtRest (readCharts s) z q₁) e h)
 
-  call-match : (c : Call) (r q : Run) → AtRest (readCharts s) r q → TracesMatch (readCharts s) (readAutomata t) (callTrace chartSets s c r) (callTrace automataTables t c q)
-  call-match c r q h =
+  traces : (c : Call) (r q : Run) → AtRest (readCharts s) r q → TracesMatch (readCharts s) (readAutomata t) (callTrace chartSets s c r) (callTrace automataTables t c q)
+  traces c r q h =
       subst (λ x. TracesMatch (readCharts s) (readAutomata t) x (callTrace automataTables t c q)) (sym (accepted-trace chartSets s ok c r))
       (subst (λ y. TracesMatch (readCharts s) (readAutomata t) (trace (charts (readCharts s)) c r) y) (sym (twin-trace c q))
       (subst (λ au. TracesMatch (readCharts s) au (trace (charts (readCharts s)) c r) (trace (automata (twin (readCharts s))) c q)) (sym back)
@@ -63,7 +63,7 @@ module _ (s : List ℕ) (ok : chartsRefusal s ≡ none) (t : List ℕ) (back : r
   moves [] r q h = subst (λ au. Corresponds (readCharts s) au r q) (sym back) (alike-corresponds (readCharts s) r q (h .alike))
   moves (c ∷ calls) r q h = (
     subst (λ au. Corresponds (readCharts s) au r q) (sym back) (alike-corresponds (readCharts s) r q (h .alike)),
-    call-match c r q h,
+    call-matches s t c r q (traces c r q h),
     moves calls (lentAfter chartSets s c r) (lentAfter automataTables t c q) (after-call c r q h),
   )
 

@@ -1,6 +1,6 @@
 -- Check 12 holds of runs that are alike between calls, on both sides, and so 12 to 14 come to the same. Assumes nothing.
 use mathlib.Core.Path.{_≡_, refl, sym, ap, _∙_, subst}
-use mathlib.Core.Bool.{Bool, true, false, not, cond, _&&_}
+use mathlib.Core.Bool.{Bool, true, false, not, cond, _&&_, _||_}
 use mathlib.Core.List.{List, [], _∷_, _++_, map}
 use Prim.Native.Nat.{ℕ, zero, suc, _+_, _-_, _≤_, _<_, zero-le}
 use native.Mathlib.Omega.{arith}
@@ -18,7 +18,7 @@ use Rattle.model.specs.AutomataTable.{clockAt}
 use Rattle.model.specs.Automata.{top, automata}
 use Rattle.model.specs.Translation.{states, chartOf, clockOf, twin}
 use Rattle.model.specs.Correspondence.{clockFor}
-use Rattle.model.proofs.BoolLaws.{and-left, and-right, is-true, of-true, not-false, both-of, eq→eqb, eqb-ne}
+use Rattle.model.proofs.BoolLaws.{and-left, and-right, to-right, is-true, of-true, not-false, both-of, eq→eqb, ne→eqb, eqb-ne}
 use Rattle.model.proofs.ListLaws.{all-upto, upto-all, all-rest}
 use Rattle.model.proofs.TwinTime.{fresh-same}
 use Rattle.model.proofs.AcceptedSet.{three-of, five-of}
@@ -169,6 +169,28 @@ module _ (m : Machine) (r : Run) where
       count = and-right (allPlaces m r && placesPossible m r && variablesPossible m r && timersPossible m r && positionPossible m (r .world)) (countPossible m (r .world)) to-count;
       events = and-right (allPlaces m r && placesPossible m r && variablesPossible m r && timersPossible m r && positionPossible m (r .world) && countPossible m (r .world)) (eventsPossible m (r .world)) to-events;
     }
+
+-- ---- what a turn leaves is at rest again
+
+module _ (m : Machine) (w w₁ : World) (few : w .cycles ≤ 999_999) where
+  -- past a part's turn the position is not 1
+  pub part-rests : 1 ≤ w .position → w .position ≤ parts m → w₁ .position ≡ w .position + 1 → w₁ .cycles ≡ w .cycles → Resting m w₁
+  part-rests low l p c =
+      let no : eqb (w₁ .position) 1 ≡ false = ne→eqb {a = w₁ .position} {b = 1} (λ e. omega arith) in
+      record {
+        low = omega arith;
+        high = omega arith;
+        count = subst (λ x. T (leb (w₁ .cycles) (cond x 1_000_000 999_999))) (sym no) (le→leb (w₁ .cycles) 999_999 (omega arith));
+        events = subst (λ x. T (not x || eqb (w₁ .events) 0)) (sym no) tt;
+      }
+
+  pub time-rests : w₁ .position ≡ 1 → w₁ .cycles ≡ w .cycles + 1 → w₁ .events ≡ 0 → Resting m w₁
+  time-rests p c e = record {
+    low = omega arith;
+    high = omega arith;
+    count = subst (λ x. T (leb (w₁ .cycles) (cond x 1_000_000 999_999))) (sym (eq→eqb p)) (le→leb (w₁ .cycles) 1_000_000 (omega arith));
+    events = to-right (not (eqb (w₁ .position) 1)) (eqb (w₁ .events) 0) (of-true (eq→eqb e));
+  }
 
 -- ---- alike and at rest: the state of two runs between calls
 

@@ -1,17 +1,15 @@
 -- A done cycle of a possible run leaves a possible run at position 1, for chart sets and for automata tables that are not refused; so a long run is
 -- checked by 12 once. Assumes nothing.
 use mathlib.Core.Path.{_≡_, refl, sym, ap, _∙_, subst}
-use mathlib.Core.Bool.{Bool, true, false, not, cond}
+use mathlib.Core.Bool.{Bool, true, false, cond}
 use Prim.Native.Nat.{ℕ, zero, suc, _+_, _-_, _≤_, _<_}
 use native.Mathlib.Omega.{arith}
-use lib.Dec.{T, leb, eqb, le→leb, leb→le, nleb→lt}
+use lib.Dec.{T, leb, leb→le, nleb→lt}
 use lib.ListN.{length, getD}
-use Rattle.records.specs.Lists.{any}
 use Rattle.records.specs.Refusal.{Out, val, fault, _>>=_}
-use Rattle.model.specs.Owned.{of}
 use Rattle.model.specs.Runs.{Run, Answer, taken, idle, time, Machine, parts, possible, checked, give, moved, timePassed, stepped, unless-stopped, onto, turns, ended, cycle}
-use Rattle.model.proofs.BoolLaws.{of-true, to-right, not-false, eq→eqb}
-use Rattle.model.proofs.PossibleRuns.{Fits, Resting, possible-of, possible-fits, possible-rests, checked-is, gate-count}
+use Rattle.model.proofs.BoolLaws.{of-true, not-false}
+use Rattle.model.proofs.PossibleRuns.{Fits, Resting, possible-of, possible-fits, possible-rests, time-rests, checked-is, gate-count}
 
 -- time's answer is no part's
 abbrev pub NotTime : Answer → Type 0
@@ -111,12 +109,7 @@ module _ (m : Machine) where
             (sym (ended-turns (parts m + 2 - r .world .position) r (give given r) (omega arith)) ∙ turned (ended r (turns m (parts m + 2 - r .world .position) (give given r))) refl e) in
             let p : r₁ .world .position ≡ 1 = d .1 in
             let c : r₁ .world .cycles ≡ r .world .cycles + 1 = d .2 in (
-              possible-of m r₁ (d .0) (record {
-                low = omega arith;
-                high = omega arith;
-                count = subst (λ x. T (leb (r₁ .world .cycles) (cond x 1_000_000 999_999))) (sym (eq→eqb p)) (le→leb (r₁ .world .cycles) 1_000_000 (omega arith));
-                events = to-right (not (eqb (r₁ .world .position) 1)) (eqb (r₁ .world .events) 0) (of-true (eq→eqb (d .3)));
-              }),
+              possible-of m r₁ (d .0) (time-rests m (r .world) (r₁ .world) few p c (d .3)),
               p,
               c,
             )

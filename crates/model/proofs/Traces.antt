@@ -1,13 +1,15 @@
--- The trace of a call, and the closed calls: what a call answers and leaves is what its trace says. Assumes nothing.
-use mathlib.Core.Path.{_≡_, refl}
+-- The trace of a call, and the closed calls: what a call answers and leaves is what its trace says, and so calls match whose traces do. Assumes nothing.
+use mathlib.Core.Path.{_≡_, refl, sym, ap, _∙_, subst}
 use mathlib.Core.List.{List}
 use Prim.Native.Nat.{ℕ}
 use mathlib.Core.Option.{Option, some, none}
 use Rattle.records.specs.Refusal.{Refusal, Out, val, fault, _>>=_, _>>_, unless-refused}
-use Rattle.model.specs.Outcome.{Outcome, settled}
-use Rattle.model.specs.Runs.{Run, Answer, Machine, checked, stepped, turn, cycle, give, Call, one-turn, whole-cycle, Trace, done, stopped, onto, unless-stopped, turns, trace, ended, Runs}
-use Rattle.model.specs.Calls.{Format, check, turnCall, cycleCall, callTrace}
-use Rattle.model.specs.Correspondence.{lentAfter}
+use Rattle.model.specs.Outcome.{settled}
+use Rattle.model.specs.Runs.{Run, Answer, Machine, checked, stepped, turn, give, Call, one-turn, whole-cycle, Trace, done, stopped, turned, onto, unless-stopped, turns, trace, ended}
+use Rattle.model.specs.ChartSet.{ChartSet, readCharts}
+use Rattle.model.specs.AutomataTable.{Automata, readAutomata}
+use Rattle.model.specs.Calls.{Format, chartSets, automataTables, cycleCall, callTrace}
+use Rattle.model.specs.Correspondence.{AnswersMatch, TracesMatch, OutsMatch, CallMatches, lentAfter}
 
 -- the run that a trace leaves to the caller, who lent r
 abbrev pub left : Run → Out Run → Run
@@ -23,24 +25,73 @@ one-turn-trace m events r = go (checked m events r) (stepped m (give events r))
     go (val u) o = refl
     go (fault w) o = refl
 
+module _ (f : Format) (s : List ℕ) (events : ℕ) (r : Run) where
+  -- what a turn comes to, the file's refusal first
+  abbrev pub outcome : Out (Answer × Run)
+  outcome = unless-refused (f .refusal s) (turn (f .machine s) events r)
+
+  pub turn-trace : callTrace f s (one-turn events) r ≡ onto (give events r) outcome (λ _. done)
+  turn-trace = go (f .refusal s)
+    where
+      go : (w : Option Refusal) → unless-stopped (unless-refused w (val (tt {0}))) (trace (f .machine s) (one-turn events) r) ≡ onto (give events r) (unless-refused w (turn (f .machine s) events r)) (λ _. done)
+      go (some w) = refl
+      go none = one-turn-trace (f .machine s) events r
+
+  pub cycle-trace : cycleCall f s events r ≡ settled r (ended r (callTrace f s (whole-cycle events) r) >>= λ r₁. val (tt {0}, r₁))
+  unfolding ended
+  cycle-trace = go (f .refusal s) (trace (f .machine s) (whole-cycle events) r)
+    where
+      go : (w : Option Refusal) (t : Trace) →
+          settled {A = Unit {0}} r (unless-refused w (ended r t >>= λ r₁. val (tt {0}, r₁))) ≡ settled r (ended r (unless-stopped (unless-refused w (val (tt {0}))) t) >>= λ r₁. val (tt {0}, r₁))
+      go (some w) t = refl
+      go none t = refl
+
 -- each call gets the run that the last one left: what is lent after a call is what its trace leaves
 pub lent-left : (f : Format) (s : List ℕ) (c : Call) (r : Run) → lentAfter f s c r ≡ left r (ended r (callTrace f s c r))
-unfolding Runs
-lent-left f s (one-turn events) r = go (f .refusal s) (checked (f .machine s) events r) (stepped (f .machine s) (give events r))
+unfolding ended
+lent-left f s (one-turn events) r = by (outcome f s events r) ∙ ap (λ t. left r (ended r t)) (sym (turn-trace f s events r))
   where
-    go : (w : Option Refusal) (c : Out (Unit {0})) (o : Out (Answer × Run)) →
-        settled r (unless-refused w (c >> o)) .lent ≡ left r (ended r (unless-stopped (unless-refused w (val (tt {0}))) (unless-stopped c (onto (give events r) o (λ _. done)))))
-    go (some w) c o = refl
-    go none (fault w) o = refl
-    go none (val u) (fault w) = refl
-    go none (val u) (val x) = refl
-lent-left f s (whole-cycle events) r = go (f .refusal s) (trace (f .machine s) (whole-cycle events) r)
+    by : (o : Out (Answer × Run)) → settled r o .lent ≡ left r (ended r (onto (give events r) o (λ _. done)))
+    by (val x) = refl
+    by (fault w) = refl
+lent-left f s (whole-cycle events) r = ap (λ x. x .lent) (cycle-trace f s events r) ∙ by (ended r (callTrace f s (whole-cycle events) r))
   where
-    go : (w : Option Refusal) (t : Trace) →
-        settled r (unless-refused w (ended r t >>= λ r₁. val (tt {0}, r₁))) .lent ≡ left r (ended r (unless-stopped (unless-refused w (val (tt {0}))) t))
-    go (some w) t = refl
-    go none t = by (ended r t)
-      where
-        by : (o : Out Run) → settled {A = Unit {0}} r (o >>= λ r₁. val (tt {0}, r₁)) .lent ≡ left r o
-        by (val r₁) = refl
-        by (fault w) = refl
+    by : (o : Out Run) → settled {A = Unit {0}} r (o >>= λ r₁. val (tt {0}, r₁)) .lent ≡ left r o
+    by (val r₁) = refl
+    by (fault w) = refl
+
+-- ---- answers that match, from traces that do
+
+module _ (cs : ChartSet) (au : Automata) where
+  -- of a turn taken in r and q; the runs that were lent do not matter
+  turn-answers : (l m r q : Run) (o u : Out (Answer × Run)) → TracesMatch cs au (onto r o (λ _. done)) (onto q u (λ _. done)) → OutsMatch (AnswersMatch au r q) (settled l o .answer) (settled m u .answer)
+  unfolding TracesMatch
+  turn-answers l m r q (val x) (val y) h = h .0
+  turn-answers l m r q (fault w) (fault v) h = h
+  turn-answers l m r q (val x) (fault v) h = h
+  turn-answers l m r q (fault w) (val y) h = h
+
+  -- of a cycle whose turns go on from r and q
+  cycle-answers : (l m r q : Run) (t u : Trace) → TracesMatch cs au t u → OutsMatch (λ _ _. Unit) (settled l (ended r t >>= λ r₁. val (tt {0}, r₁)) .answer) (settled m (ended q u >>= λ q₁. val (tt {0}, q₁)) .answer)
+  unfolding TracesMatch ended
+  cycle-answers l m r q done done h = tt
+  cycle-answers l m r q (stopped w) (stopped v) h = h
+  cycle-answers l m r q (turned r₀ a r₁ t) (turned q₀ b q₁ u) h = cycle-answers l m r₁ q₁ t u (h .2)
+  cycle-answers l m r q done (stopped v) h = absurd h
+  cycle-answers l m r q done (turned q₀ b q₁ u) h = absurd h
+  cycle-answers l m r q (stopped w) done h = absurd h
+  cycle-answers l m r q (stopped w) (turned q₀ b q₁ u) h = absurd h
+  cycle-answers l m r q (turned r₀ a r₁ t) done h = absurd h
+  cycle-answers l m r q (turned r₀ a r₁ t) (stopped v) h = absurd h
+
+pub call-matches : (s t : List ℕ) (c : Call) (r q : Run) → TracesMatch (readCharts s) (readAutomata t) (callTrace chartSets s c r) (callTrace automataTables t c q) → CallMatches s t c r q
+call-matches s t (one-turn events) r q h =
+    turn-answers (readCharts s) (readAutomata t) r q (give events r) (give events q) (outcome chartSets s events r) (outcome automataTables t events q)
+    (subst (λ u. TracesMatch (readCharts s) (readAutomata t) (onto (give events r) (outcome chartSets s events r) (λ _. done)) u) (turn-trace automataTables t events q)
+    (subst (λ u. TracesMatch (readCharts s) (readAutomata t) u (callTrace automataTables t (one-turn events) q)) (turn-trace chartSets s events r) h))
+call-matches s t (whole-cycle events) r q h = (
+  subst (λ x. OutsMatch (λ _ _. Unit) x (cycleCall automataTables t events q .answer)) (sym (ap (λ x. x .answer) (cycle-trace chartSets s events r)))
+      (subst (λ y. OutsMatch (λ _ _. Unit) (settled r (ended r (callTrace chartSets s (whole-cycle events) r) >>= λ r₁. val (tt {0}, r₁)) .answer) y) (sym (ap (λ x. x .answer) (cycle-trace automataTables t events q)))
+      (cycle-answers (readCharts s) (readAutomata t) r q r q (callTrace chartSets s (whole-cycle events) r) (callTrace automataTables t (whole-cycle events) q) h)),
+  h,
+)

@@ -9,7 +9,7 @@ use Rattle.records.specs.Lists.{all, gather, mem}
 use Rattle.records.specs.Refusal.{Out, val, fault, refusalNumber}
 use Rattle.model.specs.Owned.{of}
 use Rattle.model.specs.Outcome.{Outcome}
-use Rattle.model.specs.Runs.{World, Run, Answer, taken, idle, time, Call, one-turn, whole-cycle, Trace, done, stopped, turned}
+use Rattle.model.specs.Runs.{World, Run, give, Answer, taken, idle, time, Call, one-turn, whole-cycle, Trace, done, stopped, turned}
 use Rattle.model.specs.ChartSet.{ChartSet, readCharts}
 use Rattle.model.specs.AutomataTable.{Automata, Timing, after, every, Cause, always, event, clock, Literal, clockAt, edge, readAutomata}
 use Rattle.model.specs.Automata.{top, leaving, openEdges}
@@ -61,7 +61,7 @@ AnswersMatch au r q idle idle = ⊥
 AnswersMatch au r q idle time = ⊥
 AnswersMatch au r q time idle = ⊥
 
--- A call: turn for turn, runs correspond after each; "done with done, a refusal or fault with the same number".
+-- The turns of a cycle, one by one: their answers match, and the runs correspond after each.
 unfoldable pub TracesMatch : ChartSet → Automata → Trace → Trace → Type 0
 TracesMatch cs au done done = Unit
 TracesMatch cs au (stopped w) (stopped v) = refusalNumber w ≡ refusalNumber v
@@ -73,18 +73,33 @@ TracesMatch cs au (stopped w) (turned q₀ b q₁ u) = ⊥
 TracesMatch cs au (turned r₀ a r₁ t) done = ⊥
 TracesMatch cs au (turned r₀ a r₁ t) (stopped v) = ⊥
 
+-- What two calls came to: both answered, and the answers match; or "a refusal or fault with the same number".
+abbrev pub OutsMatch : {A : Type 0} → (A → A → Type 0) → Out A → Out A → Type 0
+OutsMatch match (val a) (val b) = match a b
+OutsMatch match (fault w) (fault v) = refusalNumber w ≡ refusalNumber v
+OutsMatch match (val a) (fault v) = ⊥
+OutsMatch match (fault w) (val b) = ⊥
+
+-- One call on a set s and on a table t, lent the runs r and q.
+abbrev pub CallMatches : List ℕ → List ℕ → Call → Run → Run → Type 0
+-- A turn: its answers match in the runs in which it was taken, the events given.
+CallMatches s t (one-turn given) r q =
+    OutsMatch (AnswersMatch (readAutomata t) (give given r) (give given q)) (turnCall chartSets s given r .answer) (turnCall automataTables t given q .answer)
+-- A cycle: "done with done", and its turns match one by one, up to a fault too.
+CallMatches s t (whole-cycle given) r q =
+    OutsMatch (λ _ _. Unit) (cycleCall chartSets s given r .answer) (cycleCall automataTables t given q .answer)
+    × TracesMatch (readCharts s) (readAutomata t) (callTrace chartSets s (whole-cycle given) r) (callTrace automataTables t (whole-cycle given) q)
+
 -- the run that a call leaves
 abbrev pub lentAfter : Format → List ℕ → Call → Run → Run
 lentAfter f s (one-turn given) r = turnCall f s given r .lent
 lentAfter f s (whole-cycle given) r = cycleCall f s given r .lent
 
--- A list of calls on a set s and on a table t: the runs correspond at the start and after every call, and "each call gets the run that the last one left".
+-- A list of calls: the runs correspond at the start and after every call, the calls' answers match, and "each call gets the run that the last one left".
 unfoldable pub MoveAlike : List ℕ → List ℕ → List Call → Run → Run → Type 0
 MoveAlike s t [] r q = Corresponds (readCharts s) (readAutomata t) r q
 MoveAlike s t (c ∷ calls) r q =
-    Corresponds (readCharts s) (readAutomata t) r q
-    × TracesMatch (readCharts s) (readAutomata t) (callTrace chartSets s c r) (callTrace automataTables t c q)
-    × MoveAlike s t calls (lentAfter chartSets s c r) (lentAfter automataTables t c q)
+    Corresponds (readCharts s) (readAutomata t) r q × CallMatches s t c r q × MoveAlike s t calls (lentAfter chartSets s c r) (lentAfter automataTables t c q)
 
 -- ---- demand 3
 

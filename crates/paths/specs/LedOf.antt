@@ -5,14 +5,14 @@ use mathlib.Core.List.{List, [], _∷_}
 use Prim.Native.Nat.{ℕ, _+_, _-_, _*_, _≤_, _<_}
 use lib.Dec.{ltb, eqb}
 use lib.ListN.{length, getD, take}
-use Rattle.records.specs.Refusal.{broken-path, short-rows, Out, val, fault, _>>=_}
+use Rattle.records.specs.Refusal.{broken-path, Out, val, fault, _>>=_}
+use Rattle.records.specs.RefusalOf.{refusalOf}
 use Rattle.model.specs.Outcome.{Outcome, settled}
 use Rattle.model.specs.ChartSet.{ChartSet, readCharts}
 use Rattle.model.specs.AutomataTable.{edge}
 use Rattle.model.specs.Translation.{twin}
 use Rattle.model.specs.PathBack as M
 use Rattle.chart_files.specs.declared.Shape.{Shape}
-use Rattle.chart_files.specs.Shape.{refusalFor}
 use Rattle.paths.specs.declared.Edge.{Edge}
 use Rattle.paths.specs.declared.Count as declared-count
 use Rattle.paths.specs.declared.Led as declared-led
@@ -60,9 +60,7 @@ pub record Writable (s path lent : List ℕ) : Type 0 where
 
 abbrev pub answerOf : declared-led.Led → Out ℕ
 answerOf (declared-led.the-variants.Rows n) = val n
-answerOf (declared-led.the-variants.Refused w) = fault (refusalFor w)
-answerOf declared-led.the-variants.Broken = fault broken-path
-answerOf declared-led.the-variants.Short = fault short-rows
+answerOf (declared-led.the-variants.Refused w) = fault (refusalOf w)
 
 abbrev pub ledOf : declared-led.Led → List ℕ → Outcome ℕ (List ℕ)
 ledOf r lent = record { answer = answerOf r; lent = lent }

@@ -7,16 +7,15 @@ ghost use lib.Dec.{ltb};
 ghost use lib.ListN.{length};
 ghost use lib.Seq.{sets};
 ghost use Rattle.model.specs.ChartSet.{readCharts};
-ghost use Rattle.model.specs.PathBack.{walkStart, edgeFits, stepFits, walked as walkedOn, ledBack, rowWords, pathBack};
+ghost use Rattle.model.specs.PathBack.{walkStart, edgeFits, stepFits, walked as walkedOn, ledBack, rowWords};
 ghost use Rattle.charts.specs.Accepted.{Accepted};
 ghost use Rattle.paths.specs.Along.{rowsAlong};
 ghost use Rattle.paths.specs.LedOf.{walkIn, IsEdge, HasEdges, nextPosition, nextCycles, countOf, counted, Writable, stepWords, ledOf, led};
-use chart_files::Checked;
 use chart_files::Shape;
-use chart_files::check;
 use chart_files::fields::home_of;
 use chart_files::fields::source_of;
 use chart_files::fields::target_of;
+use records::refusals::Refusal;
 
 // An edge of the twin: one of a transition, or a state's idle edge.
 pub struct Edge {
@@ -38,11 +37,10 @@ pub enum Count {
     Broken,
 }
 
+// How many rows were written, or why none were.
 pub enum Led {
     Rows(usize),
-    Refused(chart_files::Refusal),
-    Broken,
-    Short,
+    Refused(Refusal),
 }
 
 // Edges are numbered as the transitions, then the idle edges as the states.
@@ -291,7 +289,7 @@ fn put_rows(s: &[u8], shape: Shape, path: &[u16], rows: &mut [u32])
 }
 
 // A path of an accepted set: nothing is written unless all its steps fit and its rows have room.
-fn led_back(s: &[u8], shape: Shape, path: &[u16], rows: &mut [u32]) -> Led
+pub fn path_back(s: &[u8], shape: Shape, path: &[u16], rows: &mut [u32]) -> Led
     requires { ⌜ Accepted (now s) shape ⌝ }
     ensures { λ r. ⌜ ledOf r (now (rows .exit)) ≡ led (readCharts (now (s .entry))) (now (path .entry)) (now (rows .entry)) ⌝ }
 {
@@ -300,23 +298,13 @@ fn led_back(s: &[u8], shape: Shape, path: &[u16], rows: &mut [u32]) -> Led
     let sources = edges.sources;
     let targets = edges.targets;
     match count_rows(s, shape, &automata, &sources, &targets, path) {
-        Count::Broken => Led::Broken,
+        Count::Broken => Led::Refused(Refusal::BrokenPath),
         Count::Rows(n) => {
             if rows.len() / 3 < n {
-                return Led::Short;
+                return Led::Refused(Refusal::ShortRows);
             }
             put_rows(s, shape, path, rows);
             Led::Rows(n)
         }
-    }
-}
-
-// A path of any set: how many rows were written, from the first word on, or why none were.
-pub fn path_back(s: &[u8], path: &[u16], rows: &mut [u32]) -> Led
-    ensures { λ r. ⌜ ledOf r (now (rows .exit)) ≡ pathBack (now (s .entry)) (now (path .entry)) (now (rows .entry)) ⌝ }
-{
-    match check(s) {
-        Checked::Refused(refusal) => Led::Refused(refusal),
-        Checked::Accepted(shape) => led_back(s, shape, path, rows),
     }
 }

@@ -1,7 +1,7 @@
--- The code's refusals as those of the table. Assumes nothing: these are definitions.
+-- The code's refusals as those of the table, which are all but the faults in a turn. Assumes nothing: these are definitions.
 use Rattle.records.specs.Refusal as R
 use Rattle.records.specs.declared.refusals.Refusal.{Refusal}
-use Rattle.records.specs.declared.refusals.Refusal.the-variants.{OddLength, UnorderedKinds, WrongAmounts, StrayByte, BrokenCode, DanglingNumber, BrokenStructure, BrokenNode, ZeroTicks, ShortBuffer, BadTable, ImpossibleRun, MisplacedEvents, CyclesDone, OutOfRange, ZeroDivisor, OutOfBounds, NoneOpen, ManyOpen, BrokenPath, ShortRows}
+use Rattle.records.specs.declared.refusals.Refusal.the-variants.{OddLength, UnorderedKinds, WrongAmounts, StrayByte, BrokenCode, DanglingNumber, BrokenStructure, BrokenNode, ZeroTicks, ShortBuffer, BadTable, ImpossibleRun, MisplacedEvents, CyclesDone, BrokenPath, ShortRows}
 
 abbrev pub refusalOf : Refusal → R.Refusal
 refusalOf OddLength = R.odd-length
@@ -18,10 +18,5 @@ refusalOf BadTable = R.bad-table
 refusalOf ImpossibleRun = R.impossible-run
 refusalOf MisplacedEvents = R.misplaced-events
 refusalOf CyclesDone = R.cycles-done
-refusalOf OutOfRange = R.out-of-range
-refusalOf ZeroDivisor = R.zero-divisor
-refusalOf OutOfBounds = R.out-of-bounds
-refusalOf NoneOpen = R.none-open
-refusalOf ManyOpen = R.many-open
 refusalOf BrokenPath = R.broken-path
 refusalOf ShortRows = R.short-rows

@@ -1,4 +1,4 @@
-// The refusal table: a case for each of its numbers. Whatever is refused or faults anywhere answers one of these, or an enum that one of these stands for.
+// The refusal table but for the faults in a turn, which have an enum of their own (`machines::answers::Reason`): a case for each number.
 ghost use mathlib.Core.Path.{_≡_};
 ghost use Rattle.records.specs.Refusal.{refusalNumber};
 ghost use Rattle.records.specs.RefusalOf.{refusalOf};
@@ -18,11 +18,6 @@ pub enum Refusal {
     ImpossibleRun,
     MisplacedEvents,
     CyclesDone,
-    OutOfRange,
-    ZeroDivisor,
-    OutOfBounds,
-    NoneOpen,
-    ManyOpen,
     BrokenPath,
     ShortRows,
 }
@@ -46,11 +41,6 @@ pub fn refusal_number(w: Refusal) -> u8
         Refusal::ImpossibleRun => 12,
         Refusal::MisplacedEvents => 13,
         Refusal::CyclesDone => 14,
-        Refusal::OutOfRange => 15,
-        Refusal::ZeroDivisor => 16,
-        Refusal::OutOfBounds => 17,
-        Refusal::NoneOpen => 18,
-        Refusal::ManyOpen => 19,
         Refusal::BrokenPath => 20,
         Refusal::ShortRows => 21,
     }

@@ -1,15 +1,19 @@
 -- Clock numbers: how many clocks stand before a transition's own. Assumes nothing.
 use mathlib.Core.Path.{_≡_, ap, _∙_}
-use mathlib.Core.List.{List, [], _∷_}
+use mathlib.Core.List.{List, [], _∷_, map}
 use Prim.Native.Nat.{ℕ, _+_, _<_}
+use native.Mathlib.Omega.{arith}
 use native.Mathlib.Numerals.{add-one}
-use lib.ListN.{length, take, length-append}
+use lib.ListN.{length, getD, take, length-append, List·getD-append}
 use lib.Seq.{take-suc}
-use Rattle.records.specs.Lists.{gather}
+use Rattle.records.specs.Lists.{gather, upto}
+use Rattle.records.proofs.FramingLaws.{getD-upto}
 use Rattle.model.specs.ChartSet.{ChartSet, Transition, noTransition, transition}
 use Rattle.model.specs.AutomataTable.{Clock}
 use Rattle.model.specs.Translation.{size, clocksOf, clockOf}
 use Rattle.model.proofs.ListLaws.{gather-append}
+use Rattle.machines.proofs.Filled.{length-from}
+use Rattle.translation.specs.Tables.{HasClocks}
 use Rattle.translation.proofs.Gathered.{gather-none, gather-one}
 
 module _ (cs : ChartSet) where
@@ -25,3 +29,10 @@ module _ (cs : ChartSet) where
       ∙ ap length (gather-append clocksIn (take t (cs .transitions)) (transition cs t ∷ []))
       ∙ length-append (gather clocksIn (take t (cs .transitions))) (gather clocksIn (transition cs t ∷ []))
       ∙ ap (λ l. clockOf cs t + length l) (gather-one clocksIn (transition cs t))
+
+  -- a place of the table
+  pub clock-at : (clocks : List ℕ) → HasClocks cs clocks → (t : ℕ) → t < size cs → getD clocks t 0 ≡ clockOf cs t
+  clock-at clocks e t h =
+      ap (λ l. getD l t 0) e
+      ∙ List·getD-append (map (clockOf cs) (upto (size cs))) _ 0 t (omega (arith, length-from (clockOf cs) 0 (size cs)))
+      ∙ getD-upto (clockOf cs) 0 (size cs) t h

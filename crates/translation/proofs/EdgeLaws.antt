@@ -21,7 +21,7 @@ use Rattle.model.specs.AutomataTable.{writeUpdate}
 use Rattle.model.specs.Translation.{updatesOf}
 use Rattle.chart_files.specs.declared.Shape.{Shape}
 use Rattle.chart_files.specs.Places.{transitionAt, actionAt}
-use Rattle.chart_files.proofs.Readings.{transition-is, length-homes, length-transitions, most-states, most-transitions}
+use Rattle.chart_files.proofs.Readings.{transition-is, length-transitions, most-states, most-transitions}
 use Rattle.charts.specs.Accepted.{Accepted}
 use Rattle.charts.specs.Tables.{leaves, named, HasRows, keyed}
 use Rattle.machines.specs.Chains.{headOr, earliest, withKey, Chained}
@@ -97,7 +97,7 @@ module _ (s : List ℕ) (sh : Shape) (ok : Accepted s sh) where
     behind q a b =
         place-of s sh ok st q h
         ∙ ap (λ p. named (earliest (leaves (readCharts s) st p) 0 (length (readCharts s .transitions)))) (let e : q ≡ q - 1 + 1 = omega arith in e)
-        ∙ ap named (unnamed s sh ok st (q - 1 + 1) (sym (has .places st (q - 1) (omega (arith, has .enough, length-homes s sh (ok .shape))) (omega arith)) ∙ none (q - 1) (omega arith) (omega arith)))
+        ∙ ap named (unnamed s sh ok st (q - 1 + 1) (sym (has st (q - 1) (omega (arith, most-states s sh (ok .shape))) (omega arith)) ∙ none (q - 1) (omega arith) (omega arith)))
         ∙ ap (λ x. cond x [] (65535 ∷ [])) (eq-eqb 65535 65535 refl)
 
     pub above-end : above (readCharts s) st (end + 1) ≡ above (readCharts s) st 17

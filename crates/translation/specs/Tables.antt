@@ -1,9 +1,9 @@
 -- Tables that the translator makes once for a set: of each transition its clock's number, of each state its leaving transitions in order; of each owner how many actions it has, of each state how many clocks. Assumes nothing: these are definitions.
 use mathlib.Core.Path.{_≡_}
-use mathlib.Core.List.{List}
+use mathlib.Core.List.{List, map}
 use Prim.Native.Nat.{ℕ, _<_}
 use lib.ListN.{length, getD}
-use Rattle.records.specs.Lists.{count, upto}
+use Rattle.records.specs.Lists.{count, upto, padded}
 use Rattle.model.specs.ChartSet.{ChartSet, transition}
 use Rattle.model.specs.Translation.{clockOf, clocksLeaving}
 use Rattle.machines.specs.Chains.{Chained}
@@ -11,7 +11,7 @@ use Rattle.chart_files.specs.declared.Shape.{Shape}
 use Rattle.charts.specs.Tables.{keyed}
 
 abbrev pub HasClocks : ChartSet → List ℕ → Type 0
-HasClocks cs clocks = (t : ℕ) → t < length (cs .transitions) → getD clocks t 0 ≡ clockOf cs t
+HasClocks cs clocks = clocks ≡ padded 256 0 (map (clockOf cs) (upto (length (cs .transitions))))
 
 abbrev pub sourceOf : ChartSet → ℕ → ℕ
 sourceOf cs t = transition cs t .source

@@ -54,10 +54,11 @@ fn count_effects(s: &[u8], shape: Shape, actions: &[u16; 512], resets: &[u16; 12
     let mut n: usize = 0;
     let mut t: u16 = 0;
     while t < shape.transitions {
-        let leaving = 128 + (source_of(s, shape, t) as usize);
+        let source = source_of(s, shape, t) as usize;
+        let target = target_of(s, shape, t) as usize;
+        let leaving = 128 + source;
         let crossing = 256 + (t as usize);
-        let entering = target_of(s, shape, t) as usize;
-        n += (actions[leaving] + actions[crossing] + actions[entering] + resets[entering]) as usize;
+        n += (actions[leaving] + actions[crossing] + actions[target] + resets[target]) as usize;
         t += 1;
     }
     n

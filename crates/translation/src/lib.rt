@@ -3,10 +3,10 @@ ghost use mathlib.Core.Path.{_≡_};
 ghost use Prim.Native.Nat.{_<_, _^_};
 ghost use lib.Dec.{leb};
 ghost use lib.ListN.{length};
+ghost use Rattle.model.specs.Outcome.{settled};
 ghost use Rattle.model.specs.ChartSet.{readCharts};
-ghost use Rattle.model.specs.Translation.{twin, twinBytes, translate as translation};
+ghost use Rattle.model.specs.Translation.{twin, twinBytes, written};
 ghost use Rattle.charts.specs.Accepted.{Accepted};
-ghost use Rattle.charts.specs.Tables.{EmptyRows};
 ghost use Rattle.translation.specs.Tables.{HasClocks};
 ghost use Rattle.translation.specs.Texts.{placesText, testsText, effectsText, Puts};
 ghost use Rattle.translation.specs.Answer.{translatedOf};
@@ -21,10 +21,7 @@ pub mod sections;
 pub mod updates;
 pub mod writing;
 
-use chart_files::Checked;
-use chart_files::Refusal;
 use chart_files::Shape;
-use chart_files::check;
 use charts::tables::fill_actions;
 use charts::tables::fill_rows;
 use clocks::fill_clocks;
@@ -34,6 +31,7 @@ use edges::put_idles;
 use lengths::twin_length;
 use literals::put_idle_literals;
 use literals::put_literals;
+use records::refusals::Refusal;
 use resets::fill_leaving;
 use resets::put_resets;
 use sections::put_homes;
@@ -42,10 +40,9 @@ use sections::put_nodes;
 use sections::put_variables;
 use updates::put_updates;
 
-// The length of the twin's file; refusal 10; refusals 1 to 9.
+// The length of the twin's file, or why there is none.
 pub enum Translated {
     Written(usize),
-    Short,
     Refused(Refusal),
 }
 
@@ -60,40 +57,20 @@ fn put_places(s: &[u8], shape: Shape, out: &mut [u8], at: usize) -> usize
     put_idles(s, shape, out, idles_at)
 }
 
-// Kinds 36 to 39, with the rows made in what is lent, rows that name none.
-fn put_tests_by(
-    s: &[u8],
-    shape: Shape,
-    clocks: &[u16; 256],
-    rows: &mut [[u16; 16]],
-    out: &mut [u8],
-    at: usize,
-) -> usize
-    requires { ⌜ Accepted (now s) shape × HasClocks (readCharts (now s)) (now clocks) × EmptyRows (shape .states) (now rows) × (at < 2 ^ 51) ⌝ }
-    ensures { λ r. ⌜ Puts (now (out .entry)) at (testsText (twin (readCharts (now (s .entry))))) (now (out .exit)) r (2 ^ 43) ⌝ }
-{
-    let mut ends = [0u8; 128];
-    fill_rows(s, shape, rows, &mut ends);
-    let idles_at = put_literals(s, shape, clocks, rows, out, at);
-    let clocks_at = put_idle_literals(s, shape, clocks, rows, &ends, out, idles_at);
-    let variables_at = put_clocks(s, shape, out, clocks_at);
-    let nodes_at = put_variables(s, shape, out, variables_at);
-    put_nodes(s, shape, out, nodes_at)
-}
-
-// Few states have few rows, which are sooner cleared.
+// Kinds 36 to 39. The rows are made once, of 256, which names none.
 fn put_tests(s: &[u8], shape: Shape, clocks: &[u16; 256], out: &mut [u8], at: usize) -> usize
     requires { ⌜ Accepted (now s) shape × HasClocks (readCharts (now s)) (now clocks) × (at < 2 ^ 51) ⌝ }
     ensures { λ r. ⌜ Puts (now (out .entry)) at (testsText (twin (readCharts (now (s .entry))))) (now (out .exit)) r (2 ^ 43) ⌝ }
 {
     let empty = [256u16; 16];
-    if shape.states <= 16 {
-        let mut rows = [empty; 16];
-        put_tests_by(s, shape, clocks, &mut rows, out, at)
-    } else {
-        let mut rows = [empty; 128];
-        put_tests_by(s, shape, clocks, &mut rows, out, at)
-    }
+    let mut rows = [empty; 128];
+    let mut ends = [0u8; 128];
+    fill_rows(s, shape, &mut rows, &mut ends);
+    let idles_at = put_literals(s, shape, clocks, &rows, out, at);
+    let clocks_at = put_idle_literals(s, shape, clocks, &rows, &ends, out, idles_at);
+    let variables_at = put_clocks(s, shape, out, clocks_at);
+    let nodes_at = put_variables(s, shape, out, variables_at);
+    put_nodes(s, shape, out, nodes_at)
 }
 
 // Kinds 40 and 41.
@@ -134,17 +111,13 @@ fn has_room(s: &[u8], shape: Shape, room: usize) -> bool
     twin_length(s, shape) <= room
 }
 
-// A set translated into a lent buffer: what is refused keeps its contents, and bytes beyond the result are kept.
-pub fn translate(s: &[u8], out: &mut [u8]) -> Translated
-    ensures { λ r. ⌜ translatedOf r (now (out .exit)) ≡ translation (now (s .entry)) (now (out .entry)) ⌝ }
+// An accepted set translated into a lent buffer: a buffer that is too short keeps its contents, and bytes beyond the result are kept.
+pub fn translate(s: &[u8], shape: Shape, out: &mut [u8]) -> Translated
+    requires { ⌜ Accepted (now s) shape ⌝ }
+    ensures { λ r. ⌜ translatedOf r (now (out .exit)) ≡ settled (now (out .entry)) (written (twinBytes (now (s .entry))) (now (out .entry))) ⌝ }
 {
-    match check(s) {
-        Checked::Refused(refusal) => Translated::Refused(refusal),
-        Checked::Accepted(shape) => {
-            if !has_room(s, shape, out.len()) {
-                return Translated::Short;
-            }
-            Translated::Written(put_twin(s, shape, out))
-        }
+    if !has_room(s, shape, out.len()) {
+        return Translated::Refused(Refusal::ShortBuffer);
     }
+    Translated::Written(put_twin(s, shape, out))
 }

@@ -81,7 +81,7 @@ fn put_negations(
     s: &[u8],
     shape: Shape,
     clocks: &[u16; 256],
-    rows: &[[u16; 16]],
+    rows: &[[u16; 16]; 128],
     out: &mut [u8],
     at: usize,
     edge: u16,
@@ -106,7 +106,7 @@ fn put_literals_of(
     s: &[u8],
     shape: Shape,
     clocks: &[u16; 256],
-    rows: &[[u16; 16]],
+    rows: &[[u16; 16]; 128],
     out: &mut [u8],
     at: usize,
     t: u16,
@@ -125,7 +125,7 @@ pub fn put_literals(
     s: &[u8],
     shape: Shape,
     clocks: &[u16; 256],
-    rows: &[[u16; 16]],
+    rows: &[[u16; 16]; 128],
     out: &mut [u8],
     at: usize,
 ) -> usize
@@ -146,12 +146,12 @@ pub fn put_idle_literals(
     s: &[u8],
     shape: Shape,
     clocks: &[u16; 256],
-    rows: &[[u16; 16]],
+    rows: &[[u16; 16]; 128],
     ends: &[u8; 128],
     out: &mut [u8],
     at: usize,
 ) -> usize
-    requires { ⌜ Accepted (now s) shape × HasClocks (readCharts (now s)) (now clocks) × HasRows (readCharts (now s)) (now rows) × HasEnds (now rows) (now ends) × (at < 2 ^ 60) ⌝ }
+    requires { ⌜ Accepted (now s) shape × HasClocks (readCharts (now s)) (now clocks) × HasRows (readCharts (now s)) (now rows) × HasEnds (readCharts (now s)) (now rows) (now ends) × (at < 2 ^ 60) ⌝ }
     ensures { λ r. ⌜ Puts (now (out .entry)) at (gather (λ st. literalTexts (size (readCharts (now (s .entry))) + st) (idleLiterals (readCharts (now (s .entry))) st)) (upto (states (readCharts (now (s .entry)))))) (now (out .exit)) r (2 ^ 40) ⌝ }
 {
     let mut next = at;

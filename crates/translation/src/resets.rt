@@ -2,7 +2,7 @@
 ghost use mathlib.Core.Path.{_≡_};
 ghost use mathlib.Core.List.{map};
 ghost use Prim.Native.Nat.{_<_, _^_};
-ghost use lib.ListN.{replicate};
+ghost use lib.ListN.{drop, replicate};
 ghost use Rattle.records.specs.Lists.{gather, upto};
 ghost use Rattle.model.specs.ChartSet.{readCharts};
 ghost use Rattle.model.specs.Translation.{size, clocksOf, clocksLeaving, resetsOf};
@@ -19,10 +19,10 @@ use charts::transitions::source_of;
 use charts::transitions::target_of;
 
 // Of each state its first leaving transition, and of each transition the next that leaves the same state; 65535 is none. From the last transition down,
-// so that each finds the one behind it.
+// so that each finds the one behind it; places past the transitions are kept.
 pub fn fill_leaving(s: &[u8], shape: Shape, first: &mut [u16; 128], next: &mut [u16; 256])
     requires { ⌜ Accepted (now s) shape × (now first ≡ replicate 128 65535) × (now next ≡ replicate 256 65535) ⌝ }
-    ensures { λ _. ⌜ HasLeaving (readCharts (now (s .entry))) (now (first .exit)) (now (next .exit)) ⌝ }
+    ensures { λ _. ⌜ HasLeaving (readCharts (now (s .entry))) (now (first .exit)) (now (next .exit)) × (drop (size (readCharts (now (s .entry)))) (now (next .exit)) ≡ drop (size (readCharts (now (s .entry)))) (now (next .entry))) ⌝ }
 {
     let mut t = shape.transitions;
     while 0 < t {

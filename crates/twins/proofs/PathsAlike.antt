@@ -1,14 +1,14 @@
 -- The path that the automata's own answers make, led back by `path_back`, gives the rows that the charts' own answers make. Assumes nothing.
 use mathlib.Core.Path.{_≡_, refl, sym, ap, _∙_, subst}
 use mathlib.Core.Option.{none}
-use mathlib.Core.List.{List, [], _∷_, _++_, map}
+use mathlib.Core.List.{List, [], _∷_, _++_, map, append-nil}
 use Prim.Native.Nat.{ℕ}
 use lib.Dec.{T, ltb}
 use lib.ListN.{take}
 use Rattle.records.specs.Lists.{all}
-use Rattle.records.specs.Refusal.{val, unless-refused}
+use Rattle.records.specs.Refusal.{Out, val, fault, unless-refused}
 use Rattle.model.specs.Outcome.{Outcome, settled}
-use Rattle.model.specs.Runs.{Run, Answer, taken, idle, time, start, give, Call, one-turn, onto, done}
+use Rattle.model.specs.Runs.{Run, Answer, taken, idle, time, start, give, Call, one-turn, onto, done, ended}
 use Rattle.model.specs.ChartSet.{readCharts}
 use Rattle.model.specs.Charts.{charts}
 use Rattle.model.specs.ChartFile.{chartsRefusal}
@@ -18,7 +18,8 @@ use Rattle.model.specs.AutomataFile.{automataRefusal}
 use Rattle.model.specs.Translation.{translate, twinBytes}
 use Rattle.model.specs.PathBack.{rowsWritten, pathBack}
 use Rattle.model.specs.Calls.{Format, chartSets, automataTables, startCall, turnCall, callTrace}
-use Rattle.model.specs.TakenPath.{markOf, rowOf, ofTrace, ofCalls, takenPath, takenRows}
+use Rattle.model.specs.TakenPath.{markOf, rowOf, ofTurns, ofTrace, ofCalls, takenPath, takenRows}
+use Rattle.model.proofs.Traces.{outcome, turn-trace}
 use Rattle.model.proofs.Demand3.{translated}
 use Rattle.model.proofs.TwinAccepted.{twin-accepted}
 use Rattle.model.proofs.TwinPath.{twin-path-back}
@@ -37,9 +38,14 @@ use Rattle.paths.specs.declared.Led.{Led}
 use Rattle.paths.specs.LedOf.{ledOf}
 use Rattle.twins.specs.Played.{Played}
 use Rattle.twins.specs.TurnsPlayed.{TurnPlay, playOf, Step, chartsStep, automataStep, adds, added, pathOf, rowsOf}
-use Rattle.twins.proofs.Outcomes.{outcome, turn-trace, turn-adds}
 
 -- ---- one side
+
+-- what a turn's trace adds is what its answer adds, where the events given are not looked at
+turn-adds : {A : Type 0} (f : Run → Answer → List A) (l r : Run) (o : Out (Answer × Run)) (e : ℕ) → ((a : Answer) → f (give e l) a ≡ f l a) → ofTrace f r (onto (give e l) o (λ _. done)) ≡ adds f l (settled r o .answer)
+unfolding ofTurns ended
+turn-adds f l r (val x) e same = append-nil (f (give e l) (x .0)) ∙ same (x .0)
+turn-adds f l r (fault w) e same = refl
 
 unfoldable callsOf : List Step → List Call
 callsOf [] = []

@@ -5,14 +5,12 @@ use Prim.Native.Nat.{ℕ}
 use lib.Dec.{T, ltb}
 use lib.ListN.{take}
 use Rattle.records.specs.Lists.{all}
-use Rattle.records.specs.Refusal.{val, _>>=_}
-use Rattle.model.specs.Outcome.{settled}
-use Rattle.model.specs.Runs.{Run, give, onto, done, one-turn, whole-cycle, Call, ended}
-use Rattle.model.specs.ChartSet.{readCharts}
+use Rattle.records.specs.Refusal.{val}
+use Rattle.model.specs.Runs.{Run, give, Call}
 use Rattle.model.specs.AutomataTable.{readAutomata}
 use Rattle.model.specs.Translation.{translate}
-use Rattle.model.specs.Calls.{chartSets, automataTables, startCall, callTrace}
-use Rattle.model.specs.Correspondence.{TracesMatch, MoveAlike}
+use Rattle.model.specs.Calls.{chartSets, automataTables, startCall, turnCall, cycleCall}
+use Rattle.model.specs.Correspondence.{AnswersMatch, OutsMatch, MoveAlike}
 use Rattle.model.proofs.Demand3.{demand-3}
 use Rattle.charts.specs.declared.runs.Run as charts-run
 use Rattle.charts.specs.declared.turns.Called as charts-called
@@ -25,8 +23,7 @@ use Rattle.automata.specs.TurnOf as A
 use Rattle.translation.specs.declared.Translated.{Translated}
 use Rattle.translation.specs.declared.Translated.the-variants.{Written}
 use Rattle.translation.specs.Answer.{translatedOf}
-use Rattle.twins.specs.Played.{Play, turn-play, cycle-play, callOf, chartsLeft, automataLeft, Meets, Played, TurnsMatch, EndsMatch, RunAlike}
-use Rattle.twins.proofs.Outcomes.{outcome, turn-trace, cycle-answer, turns-match, ends-match}
+use Rattle.twins.specs.Played.{Play, turn-play, cycle-play, callOf, chartsLeft, automataLeft, Meets, Played, RunAlike}
 
 -- the runs that a list of calls begins with may be told by what they are equal to
 pub moved-to : (s t : List ℕ) (calls : List Call) {r r′ q q′ : Run} → r ≡ r′ → q ≡ q′ → MoveAlike s t calls r q → MoveAlike s t calls r′ q′
@@ -38,28 +35,21 @@ module _ (s t : List ℕ) where
   alike [] r q p h = h
   alike (turn-play events x y ∷ ps) r q p h =
       let R = C-run.runOf r in
-      let Q = A-run.runOf q in
-      let m : TracesMatch (readCharts s) (readAutomata t) (onto (give events R) (outcome chartSets s events R) (λ _. done)) (onto (give events Q) (outcome automataTables t events Q) (λ _. done)) =
-      subst (λ u. TracesMatch (readCharts s) (readAutomata t) (onto (give events R) (outcome chartSets s events R) (λ _. done)) u) (turn-trace automataTables t events Q)
-      (subst (λ u. TracesMatch (readCharts s) (readAutomata t) u (callTrace automataTables t (one-turn events) Q)) (turn-trace chartSets s events R) (h .1)) in (
-        h .0,
-        subst (λ b. TurnsMatch (readAutomata t) (give events R) (give events Q) (C.answerOf (x .answer)) b) (sym (ap (λ z. z .answer) (p .0 .1)))
-            (subst (λ a. TurnsMatch (readAutomata t) (give events R) (give events Q) a (settled Q (outcome automataTables t events Q) .answer)) (sym (ap (λ z. z .answer) (p .0 .0)))
-            (turns-match (readCharts s) (readAutomata t) R Q (give events R) (give events Q) (outcome chartSets s events R) (outcome automataTables t events Q) m)),
-        alike ps (x .run) (y .run) (p .1) (moved-to s t (map callOf ps) (sym (ap (λ z. z .lent) (p .0 .0))) (sym (ap (λ z. z .lent) (p .0 .1))) (h .2)),
-      )
-  alike (cycle-play events x y ∷ ps) r q p h =
-      let R = C-run.runOf r in
       let Q = A-run.runOf q in (
         h .0,
-        (
-          subst (λ b. EndsMatch (C.endingOf (x .answer)) b) (sym (ap (λ z. z .answer) (p .0 .1) ∙ cycle-answer automataTables t events Q))
-              (subst (λ a. EndsMatch a (ended Q (callTrace automataTables t (whole-cycle events) Q) >>= λ _. val (tt {0}))) (sym (ap (λ z. z .answer) (p .0 .0) ∙ cycle-answer chartSets s events R))
-              (ends-match (readCharts s) (readAutomata t) (callTrace chartSets s (whole-cycle events) R) (callTrace automataTables t (whole-cycle events) Q) R Q (h .1))),
-          h .1,
-        ),
+        subst (λ b. OutsMatch (AnswersMatch (readAutomata t) (give events R) (give events Q)) (C.answerOf (x .answer)) b) (sym (ap (λ z. z .answer) (p .0 .1)))
+            (subst (λ a. OutsMatch (AnswersMatch (readAutomata t) (give events R) (give events Q)) a (turnCall automataTables t events Q .answer)) (sym (ap (λ z. z .answer) (p .0 .0))) (h .1)),
         alike ps (x .run) (y .run) (p .1) (moved-to s t (map callOf ps) (sym (ap (λ z. z .lent) (p .0 .0))) (sym (ap (λ z. z .lent) (p .0 .1))) (h .2)),
       )
+  alike (cycle-play events x y ∷ ps) r q p h = (
+    h .0,
+    (
+      subst (λ b. OutsMatch (λ _ _. Unit) (C.endingOf (x .answer)) b) (sym (ap (λ z. z .answer) (p .0 .1)))
+          (subst (λ a. OutsMatch (λ _ _. Unit) a (cycleCall automataTables t events (A-run.runOf q) .answer)) (sym (ap (λ z. z .answer) (p .0 .0))) (h .1 .0)),
+      h .1 .1,
+    ),
+    alike ps (x .run) (y .run) (p .1) (moved-to s t (map callOf ps) (sym (ap (λ z. z .lent) (p .0 .0))) (sym (ap (λ z. z .lent) (p .0 .1))) (h .2)),
+  )
 
 -- Let `translate` have answered that it wrote n bytes, and both `call_start`s have begun a run, of the set and of what was written. Then both starts are done,
 -- and whatever calls were taken from there on, the two sides ran alike.

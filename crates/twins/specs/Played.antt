@@ -3,12 +3,11 @@
 use mathlib.Core.Path.{_≡_}
 use mathlib.Core.List.{List, [], _∷_}
 use Prim.Native.Nat.{ℕ}
-use Rattle.records.specs.Refusal.{Out, val, fault, refusalNumber}
-use Rattle.model.specs.Runs.{Run, give, Answer, Call, one-turn, whole-cycle}
+use Rattle.model.specs.Runs.{give, Call, one-turn, whole-cycle}
 use Rattle.model.specs.ChartSet.{readCharts}
-use Rattle.model.specs.AutomataTable.{Automata, readAutomata}
+use Rattle.model.specs.AutomataTable.{readAutomata}
 use Rattle.model.specs.Calls.{chartSets, automataTables, turnCall, cycleCall, callTrace}
-use Rattle.model.specs.Correspondence.{Corresponds, AnswersMatch, TracesMatch}
+use Rattle.model.specs.Correspondence.{Corresponds, AnswersMatch, TracesMatch, OutsMatch}
 use Rattle.charts.specs.declared.runs.Run as charts-run
 use Rattle.charts.specs.declared.turns.Turned as charts-turned
 use Rattle.charts.specs.declared.turns.Called as charts-called
@@ -52,27 +51,12 @@ Played s t (p ∷ ps) r q = Meets s t p r q × Played s t ps (chartsLeft p) (aut
 
 -- ---- what is claimed of it
 
--- the answers of a turn taken in r and q: both of the transition's edge, both time's, an idle edge where the chart idles; or both refused, or faulting, with
--- the same number
-abbrev pub TurnsMatch : Automata → Run → Run → Out Answer → Out Answer → Type 0
-TurnsMatch au r q (val a) (val b) = AnswersMatch au r q a b
-TurnsMatch au r q (fault w) (fault v) = refusalNumber w ≡ refusalNumber v
-TurnsMatch au r q (val a) (fault v) = ⊥
-TurnsMatch au r q (fault w) (val b) = ⊥
-
--- of a cycle: done with done, or the same number
-abbrev pub EndsMatch : Out (Unit {0}) → Out (Unit {0}) → Type 0
-EndsMatch (val a) (val b) = Unit
-EndsMatch (fault w) (fault v) = refusalNumber w ≡ refusalNumber v
-EndsMatch (val a) (fault v) = ⊥
-EndsMatch (fault w) (val b) = ⊥
-
 -- the functions' answers; of a cycle its inner turns as well
 abbrev pub RepliesMatch : List ℕ → List ℕ → Play → charts-run.Run → automata-run.Run → Type 0
 RepliesMatch s t (turn-play events x y) r q =
-    TurnsMatch (readAutomata t) (give events (C-run.runOf r)) (give events (A-run.runOf q)) (C.answerOf (x .answer)) (A.answerOf (y .answer))
+    OutsMatch (AnswersMatch (readAutomata t) (give events (C-run.runOf r)) (give events (A-run.runOf q))) (C.answerOf (x .answer)) (A.answerOf (y .answer))
 RepliesMatch s t (cycle-play events x y) r q =
-    EndsMatch (C.endingOf (x .answer)) (A.endingOf (y .answer))
+    OutsMatch (λ _ _. Unit) (C.endingOf (x .answer)) (A.endingOf (y .answer))
     × TracesMatch (readCharts s) (readAutomata t) (callTrace chartSets s (whole-cycle events) (C-run.runOf r)) (callTrace automataTables t (whole-cycle events) (A-run.runOf q))
 
 -- the runs correspond at the start and after every call, and the answers match

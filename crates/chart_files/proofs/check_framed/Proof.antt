@@ -30,7 +30,7 @@ shaped-hold : (c : tie.Else4) → structured (readCharts (c .before .before .bef
 shaped-hold c = sym (c .before .structured .ensures) ∙ not-false _ (c .if4 .left)
 
 nodes-hold : (c : tie.Else5) → nodesFit (readCharts (c .before .before .before .before .before .before .before .before .before .before .before .before .before .before .before .before .before .before .args .s .now)) ≡ true
-nodes-hold c = sym (c .before .before .nodes-fit .ensures) ∙ not-false _ (c .if5 .left)
+nodes-hold c = sym (c .before .before .nodes-fit .ensures .0) ∙ not-false _ (c .if5 .left)
 
 ticks-hold : (c : tie.Else6) → all (λ t. ticking (t .trigger)) (readCharts (c .before .before .before .before .before .before .before .before .before .before .before .before .before .before .before .before .before .before .before .before .args .s .now) .transitions) ≡ true
 ticks-hold c = sym (c .before .all-ticking .ensures) ∙ not-false _ (c .if6 .left)
@@ -133,7 +133,7 @@ returns-5 c =
     (codes-hold (c .before .before .before .before .before .before .before .before .before .before .before .before))
     (names-hold (c .before .before .before .before .before .before))
     (shaped-hold (c .before .before .before .before))
-    (sym (c .before .before .nodes-fit .ensures) ∙ not-true _ (c .if5 .taken))
+    (sym (c .before .before .nodes-fit .ensures .0) ∙ not-true _ (c .if5 .taken))
     refl)
 
 all-ticking-requires : tie.Need-all-ticking-requires

@@ -1,56 +1,65 @@
--- `list::list` is safe: the first record of a kind is not after the present one. Assumes nothing.
-use Prim.Native.Nat.{_-_, _≤_}
+-- `list::list` is safe, and gives each record its number: the counts are those of the records behind. Assumes nothing.
+use Prim.Native.Nat.{_*_, _-_, _≤_, _<_}
+use native.Mathlib.Omega.{arith}
 use borrow.Author.Needs.{needs}
+use Rattle.records.specs.Bytes.{byte}
+use Rattle.list.proofs.Counting.{Counted, counted-none, counted-more, number-le}
 use Rattle.list.proofs.list.Statement.{statement}
 use Rattle.list.proofs.list.Tie as tie
 
 abbrev Inv-loop : tie.InvT-loop
-Inv-loop s kind₀ first₀ n₀ kind first n = (n ≤ 16384) × (first ≤ n)
+Inv-loop s counts₀ n₀ counts n = (n ≤ 16384) × Counted s n counts
 
 abbrev μ-loop : tie.MeasureT-loop
-μ-loop s kind₀ first₀ n₀ kind first n = 16384 - n
+μ-loop s counts₀ n₀ counts n = 16384 - n
+
+-- a byte is below 256
+low : (c : tie.After-shared-slice-known2 Inv-loop μ-loop) → byte (c .before .before .before .before .before .args .s .now) (16 * c .before .before .before .loop .n) < 256
+low c = omega (arith, c .shared-slice-known2 .given (16 * c .before .before .before .loop .n))
 
 loop-holds : tie.Need-loop-holds Inv-loop μ-loop
-loop-holds c = search needs
-
-cast-at : tie.Need-cast-at Inv-loop μ-loop
-cast-at c = search needs
-
-mul-at : tie.Need-mul-at Inv-loop μ-loop
-mul-at c = search needs
-
-add-end : tie.Need-add-end Inv-loop μ-loop
-add-end c = search needs
+loop-holds c = (omega arith, counted-none _)
 
 returns : tie.Need-returns Inv-loop μ-loop
 returns c = search needs
 
-shared-slice-read-first-of : tie.Need-shared-slice-read-first-of Inv-loop μ-loop
-shared-slice-read-first-of c = search needs
-
-first-of-requires : tie.Need-first-of-requires Inv-loop μ-loop
-first-of-requires c κs = search needs
+mul-kind : tie.Need-mul-kind Inv-loop μ-loop
+mul-kind c = search needs
 
 shared-slice-read-kind : tie.Need-shared-slice-read-kind Inv-loop μ-loop
 shared-slice-read-kind c = search needs
 
-sub-print-record : tie.Need-sub-print-record Inv-loop μ-loop
-sub-print-record c = search needs
+cast-kind : tie.Need-cast-kind Inv-loop μ-loop
+cast-kind c = omega (arith, low c)
 
-sub-print-record-2 : tie.Need-sub-print-record-2 Inv-loop μ-loop
-sub-print-record-2 c = search needs
+mul-print-record : tie.Need-mul-print-record Inv-loop μ-loop
+mul-print-record c = omega (arith, low c)
 
-part-print-record-start : tie.Need-part-print-record-start Inv-loop μ-loop
-part-print-record-start c = search needs
-
-part-print-record-end : tie.Need-part-print-record-end Inv-loop μ-loop
-part-print-record-end c = search needs
+array-read-print-record : tie.Need-array-read-print-record Inv-loop μ-loop
+array-read-print-record c = low c
 
 print-record-requires : tie.Need-print-record-requires Inv-loop μ-loop
-print-record-requires c κs = search needs
+print-record-requires c κs =
+    let l = c .before .before .before .loop in
+    (omega arith, l .inv .1 .number (byte (c .before .before .before .before .before .args .s .now) (16 * l .n)) (low c))
 
 returns-2 : tie.Need-returns-2 Inv-loop μ-loop
 returns-2 c = search needs
+
+mul-counts : tie.Need-mul-counts Inv-loop μ-loop
+mul-counts c = omega (arith, low (c .before .before))
+
+array-read-counts : tie.Need-array-read-counts Inv-loop μ-loop
+array-read-counts c = low (c .before .before)
+
+add-counts : tie.Need-add-counts Inv-loop μ-loop
+add-counts c =
+    let l = c .before .before .before .before .before .loop in
+    let s = c .before .before .before .before .before .before .before .args .s .now in
+    omega (arith, l .inv .1 .number (byte s (16 * l .n)) (low (c .before .before)), number-le s (byte s (16 * l .n)) (l .n))
+
+array-write-counts : tie.Need-array-write-counts Inv-loop μ-loop
+array-write-counts c = low (c .before .before)
 
 add-n : tie.Need-add-n Inv-loop μ-loop
 add-n c = search needs
@@ -59,7 +68,9 @@ loop-less : tie.Need-loop-less Inv-loop μ-loop
 loop-less c = search needs
 
 loop-again : tie.Need-loop-again Inv-loop μ-loop
-loop-again c = search needs
+loop-again c =
+    let l = c .before .before .before .before .before .loop in
+    (omega arith, counted-more (c .before .before .before .before .before .before .before .args .s .now) (l .n) (l .counts) (omega arith) (low (c .before .before)) (l .inv .1))
 
 returns-3 : tie.Need-returns-3 Inv-loop μ-loop
 returns-3 c = search needs
@@ -71,19 +82,18 @@ list-spec =
     Inv-loop
     μ-loop
     loop-holds
-    cast-at
-    mul-at
-    add-end
     returns
-    shared-slice-read-first-of
-    first-of-requires
+    mul-kind
     shared-slice-read-kind
-    sub-print-record
-    sub-print-record-2
-    part-print-record-start
-    part-print-record-end
+    cast-kind
+    mul-print-record
+    array-read-print-record
     print-record-requires
     returns-2
+    mul-counts
+    array-read-counts
+    add-counts
+    array-write-counts
     add-n
     loop-less
     loop-again

@@ -1,24 +1,24 @@
 -- `list::print_record` is safe: the line fits the buffer. Assumes nothing.
 use mathlib.Core.Path.{sym}
-use lib.Seq.{length-take-le}
 use borrow.Author.Needs.{needs}
+use lib.Seq.{length-take-le}
 use Rattle.list.proofs.print_record.Statement.{statement}
 use Rattle.list.proofs.print_record.Tie as tie
 
 buffer-requires : tie.Need-buffer-requires
 buffer-requires c κs = search needs
 
-slice-aggregate-put-line : tie.Need-slice-aggregate-put-line
-slice-aggregate-put-line c = search needs
+slice-aggregate-line-into : tie.Need-slice-aggregate-line-into
+slice-aggregate-line-into c = search needs
 
-put-line-requires : tie.Need-put-line-requires
-put-line-requires c κs = search needs
+line-into-requires : tie.Need-line-into-requires
+line-into-requires c κs = search needs
 
 array-share-prefix-text : tie.Need-array-share-prefix-text
 array-share-prefix-text c = search needs
 
 slice-aggregate-print : tie.Need-slice-aggregate-print
-slice-aggregate-print c = sym (length-take-le (c .before .before .put-line .result) _ (array-share-prefix-text (c .before)))
+slice-aggregate-print c = sym (length-take-le (c .before .before .line-into .result) _ (array-share-prefix-text (c .before)))
 
 print-requires : tie.Need-print-requires
 print-requires c κs = search needs
@@ -31,8 +31,8 @@ print-record-spec =
     tie.close
     (tie.spec
     buffer-requires
-    slice-aggregate-put-line
-    put-line-requires
+    slice-aggregate-line-into
+    line-into-requires
     array-share-prefix-text
     slice-aggregate-print
     print-requires

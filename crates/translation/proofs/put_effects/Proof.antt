@@ -27,7 +27,7 @@ fill-leaving-requires c κs = (c .before .before .before .before .before .before
 put-resets-requires : tie.Need-put-resets-requires
 put-resets-requires c κs =
     let entry = c .before .before .before .before .before .before .before .before .before .before .before .before .before .before .before .before .before in
-    (entry .pre .0, entry .pre .1, c .before .before .before .fill-leaving .ensures, omega (arith, entry .pre .2, c .before .before .before .before .before .before .before .before .put-updates .ensures .near))
+    (entry .pre .0, entry .pre .1, c .before .before .before .fill-leaving .ensures .0, omega (arith, entry .pre .2, c .before .before .before .before .before .before .before .before .put-updates .ensures .near))
 
 same-length : tie.Need-same-length
 same-length c = search needs

@@ -1,48 +1,66 @@
--- `put_tests` meets its contract: there is a row for each state. Assumes nothing.
+-- `put_tests` meets its contract: the sections, one after the other, the literals by the transitions and then the states. Assumes nothing.
+use mathlib.Core.Path.{refl, sym, ap}
+use mathlib.Core.List.{_++_, map}
+use Prim.Native.Nat.{_*_, _^_}
+use native.Mathlib.Omega.{arith}
 use borrow.Author.Needs.{needs}
 use denote.Ref.{now}
-use Rattle.chart_files.proofs.Readings.{most-states}
-use Rattle.charts.proofs.TableLaws.{empty-rows}
+use Rattle.records.specs.Lists.{gather}
+use Rattle.expressions.specs.Nodes.{writeNode}
+use Rattle.model.specs.ChartSet.{readCharts}
+use Rattle.model.specs.AutomataTable.{writeLiteral, writeClock, writeVariable}
+use Rattle.model.specs.Translation.{clocksOf, literalsOf, idleLiterals}
+use Rattle.translation.specs.Texts.{section}
+use Rattle.translation.proofs.Written.{puts-as, puts-then}
+use Rattle.translation.proofs.FileLaws.{owned-text}
 use Rattle.translation.proofs.put_tests.Statement.{statement}
 use Rattle.translation.proofs.put_tests.Tie as tie
 
-slice-aggregate-put-tests-by : tie.Need-slice-aggregate-put-tests-by
-slice-aggregate-put-tests-by c = search needs
+fill-rows-requires : tie.Need-fill-rows-requires
+fill-rows-requires c κs = search needs
 
-put-tests-by-requires : tie.Need-put-tests-by-requires
-put-tests-by-requires c κs =
-    let entry = c .before .before .before .before .before .before in
-    (entry .pre .0, entry .pre .1, empty-rows (entry .args .shape .states) 16 (c .before .before .if1 .taken), entry .pre .2)
+put-literals-requires : tie.Need-put-literals-requires
+put-literals-requires c κs = search needs
 
-slice-aggregate-put-tests-by-2 : tie.Need-slice-aggregate-put-tests-by-2
-slice-aggregate-put-tests-by-2 c = search needs
+put-idle-literals-requires : tie.Need-put-idle-literals-requires
+put-idle-literals-requires c κs = search needs
 
-put-tests-by-requires-2 : tie.Need-put-tests-by-requires-2
-put-tests-by-requires-2 c κs =
-    let entry = c .before .before .before .before .before .before in
-    (entry .pre .0, entry .pre .1, empty-rows (entry .args .shape .states) 128 (most-states (now (entry .args .s)) (entry .args .shape) (entry .pre .0 .shape)), entry .pre .2)
+put-clocks-requires : tie.Need-put-clocks-requires
+put-clocks-requires c κs = search needs
+
+put-variables-requires : tie.Need-put-variables-requires
+put-variables-requires c κs = search needs
+
+put-nodes-requires : tie.Need-put-nodes-requires
+put-nodes-requires c κs =
+    let entry = c .before .before .before .before .before .before .before .before .before .before .before .before .before .before .before .before .before .before .before .before .before .before .before .before .before in
+    (entry .pre .0, omega (arith, entry .pre .2, c .before .before .before .before .before .before .before .before .before .before .before .before .before .before .before .before .before .put-literals .ensures .near, c .before .before .before .before .before .before .before .before .before .before .before .put-idle-literals .ensures .near, c .before .before .before .before .before .before .before .put-clocks .ensures .near, c .before .before .before .put-variables .ensures .near))
 
 same-length : tie.Need-same-length
 same-length c = search needs
 
 returns : tie.Need-returns
-returns c = c .before .before .before .put-tests-by .ensures
-
-same-length-2 : tie.Need-same-length-2
-same-length-2 c = search needs
-
-returns-2 : tie.Need-returns-2
-returns-2 c = c .before .before .before .put-tests-by2 .ensures
+returns c =
+    let entry = c .before .before .before .before .before .before .before .before .before .before .before .before .before .before .before .before .before .before .before .before .before .before .before .before .before .before .before .before in
+    let cs = readCharts (now (entry .args .s)) in
+    puts-as _
+    (ap (λ l. l ++ section 37 (map writeClock (gather (λ x. clocksOf (x .trigger)) (cs .transitions))) ++ section 38 (map writeVariable (cs .variables)) ++ section 39 (map writeNode (cs .nodes)))
+    (sym (owned-text cs 36 writeLiteral (literalsOf cs) (idleLiterals cs))))
+    (puts-then (2 ^ 43) (omega arith)
+    (puts-then (2 ^ 42) (omega arith)
+    (puts-then (3 * 2 ^ 40) (omega arith) (puts-then (2 ^ 41) (omega arith) (c .before .before .before .before .before .before .before .before .before .before .before .before .before .before .before .before .before .before .before .before .put-literals .ensures) (c .before .before .before .before .before .before .before .before .before .before .before .before .before .before .put-idle-literals .ensures)) (c .before .before .before .before .before .before .before .before .before .before .put-clocks .ensures))
+    (c .before .before .before .before .before .before .put-variables .ensures))
+    (c .before .before .put-nodes .ensures))
 
 pub put-tests-spec : {M : Type 1} → statement M
 put-tests-spec =
     tie.close
     (tie.spec
-    slice-aggregate-put-tests-by
-    put-tests-by-requires
-    slice-aggregate-put-tests-by-2
-    put-tests-by-requires-2
+    fill-rows-requires
+    put-literals-requires
+    put-idle-literals-requires
+    put-clocks-requires
+    put-variables-requires
+    put-nodes-requires
     same-length
-    returns
-    same-length-2
-    returns-2)
+    returns)

@@ -1,4 +1,4 @@
--- `lent::turn` meets its contract, by that of `turn_of`: the run is copied out, and the one that comes back is stored. Assumes nothing.
+-- `lent::turn` meets its contract, by that of `one_turn`: the run is copied out, and the one that comes back is stored. Assumes nothing.
 use contract.Running.{givenOf, tables, tablesOf}
 use denote.Triple.Spec.{tripleOf}
 use denote.Triple.Table.{entered, cited}
@@ -12,10 +12,10 @@ use Rattle.machines.proofs.LentEvents.{lent}
 use Rattle.automata.specs.Accepted.{Accepted}
 use Rattle.automata.specs.RunOf.{runOf}
 use Rattle.automata.proofs.Types.{run-type, shape-type, turned-type}
-use Rattle.automata.proofs.turns.turn_of as step
-use Rattle.automata.proofs.turns.turn_of.Symbol as step-def
-use Rattle.automata.proofs.turns.turn_of.Symbol.{name as #step}
-use Rattle.automata.proofs.turns.turn_of.Met as step-thm
+use Rattle.automata.proofs.turns.one_turn as step
+use Rattle.automata.proofs.turns.one_turn.Symbol as step-def
+use Rattle.automata.proofs.turns.one_turn.Symbol.{name as #step}
+use Rattle.automata.proofs.turns.one_turn.Met as step-thm
 use Rattle.automata.proofs.lent.turn.Key.{name as #this}
 use Rattle.automata.proofs.lent.turn as f
 use Rattle.automata.proofs.lent.turn.Statement as stated
@@ -27,4 +27,4 @@ turn-spec 𝓤 H 𝓜 𝓖 𝓡 =
     entered 𝓤 H (tripleOf 𝓤 H (𝓖 .A) f.signature (f.spec 𝓤 H (𝓖 .A) (𝓜 .mem) (𝓡 .run)))
     (tables 𝓤 H 𝓜 𝓡 code.env .C) (tables 𝓤 H 𝓜 𝓡 code.env .Λ) #this code.function (code.unfolded 𝓤 H 𝓜 𝓡)
     (lent run-type shape-type answer-type turned-type runOf answerOf Accepted (λ t n r. settled r (turn (automata (readAutomata t)) n r)) 𝓤 H (𝓖 .A) (givenOf 𝓤 H 𝓜 𝓖) #step (tablesOf 𝓤 H 𝓜 (tables 𝓤 H 𝓜 𝓡 code.env))
-    (cited 𝓤 H (tripleOf 𝓤 H (𝓖 .A) step.signature (step.spec 𝓤 H (𝓖 .A) (𝓜 .mem) (𝓡 .run))) 𝓜 𝓡 code.env #step step-def.routine code.calls-automata·turns·turn-of (step-thm.met 𝓤 H 𝓜 𝓖 𝓡)))
+    (cited 𝓤 H (tripleOf 𝓤 H (𝓖 .A) step.signature (step.spec 𝓤 H (𝓖 .A) (𝓜 .mem) (𝓡 .run))) 𝓜 𝓡 code.env #step step-def.routine code.calls-automata·turns·one-turn (step-thm.met 𝓤 H 𝓜 𝓖 𝓡)))

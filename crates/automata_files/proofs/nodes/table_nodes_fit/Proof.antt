@@ -6,9 +6,10 @@ use native.Mathlib.Omega.{arith}
 use denote.Ref.{now}
 use lib.ListN.{length, replicate, length-replicate}
 use Rattle.expressions.specs.Nodes.{nodeAt}
-use Rattle.expressions.specs.Sorts.{nodesNamed, operandsFit}
+use Rattle.expressions.specs.Sorts.{nodesNamed, operandsFit, saysFit}
 use Rattle.expressions.specs.Uses.{allOperands}
 use Rattle.expressions.proofs.Uses.{adds-length}
+use Rattle.expressions.proofs.Verdicts.{fit-said}
 use Rattle.automata_files.specs.Places.{nodePart}
 use Rattle.automata_files.proofs.Readings.{most-nodes}
 use Rattle.automata_files.proofs.TableLaws.{nodes-is, used-is}
@@ -38,7 +39,7 @@ returns c =
     let s = now (b .args .s) in
     let sh = b .args .shape in
     let node = nodeAt (nodePart s sh) in
-    let operands = c .before .before .before .says-fit .ensures (nodesNamed node (sh .nodes) (sh .variables)) (operandsFit node (sh .nodes)) (b .pre .1) in
+    let operands = c .before .before .before .says-fit .ensures ∙ ap saysFit (b .pre .1) ∙ fit-said (nodesNamed node (sh .nodes) (sh .variables)) (operandsFit node (sh .nodes)) in
     let used = c .none-twice .ensures ∙ used-is node (sh .nodes) (now (b .args .uses)) (most-nodes s sh (b .pre .0)) (b .pre .2) in
     (λ j. operands j && c .before .before .guards-fit .ensures j && c .before .assigned-fit .ensures j && used j) ∙ sym (nodes-is s sh (b .pre .0))
 

@@ -1,8 +1,9 @@
 -- `names::all_named` meets its contract: each part by the numbers of its things. Assumes nothing.
-use mathlib.Core.Path.{sym, _∙_}
+use mathlib.Core.Path.{sym, ap, _∙_}
 use mathlib.Core.Bool.{_&&_}
 use Rattle.expressions.specs.Nodes.{nodeAt}
-use Rattle.expressions.specs.Sorts.{nodesNamed, operandsFit}
+use Rattle.expressions.specs.Sorts.{nodesNamed, operandsFit, saysNamed}
+use Rattle.expressions.proofs.Verdicts.{named-said}
 use Rattle.chart_files.specs.Places.{nodePart}
 use Rattle.chart_files.proofs.NameLaws.{named-is}
 use borrow.Author.Needs.{needs}
@@ -29,7 +30,7 @@ returns c =
     let k = c .before .before .before .before .before .before in
     let s = k .args .s .now in
     let sh = k .args .shape in
-    let nodes = c .before .says-named .ensures (nodesNamed (nodeAt (nodePart s sh)) (sh .nodes) (sh .variables)) (operandsFit (nodeAt (nodePart s sh)) (sh .nodes)) (k .pre .1) in
+    let nodes = c .before .says-named .ensures ∙ ap saysNamed (k .pre .1) ∙ named-said (nodesNamed (nodeAt (nodePart s sh)) (sh .nodes) (sh .variables)) (operandsFit (nodeAt (nodePart s sh)) (sh .nodes)) in
     (λ i.
     c .before .before .before .before .initials-named .ensures i
     && c .before .before .before .homes-named .ensures i

@@ -6,7 +6,6 @@ use denote.Ref.{now}
 use lib.Dec.{ltb}
 use lib.ListN.{getD, List·getD-eq-default}
 use lib.Seq.{set-out}
-use Rattle.records.proofs.FramingLaws.{impossible}
 use Rattle.chart_files.proofs.structure.count_within.Statement.{statement}
 use Rattle.chart_files.proofs.structure.count_within.Tie as tie
 
@@ -14,7 +13,7 @@ returns : tie.Need-returns
 returns c =
     let a = c .before .args in (
       sym (ap (λ n. ltb n (a .most)) (List·getD-eq-default (now (a .counts)) 0 (c .if1 .taken)) ∙ lt-ltb 0 (a .most) (c .before .pre)),
-      λ e. sym (set-out (now (a .counts)) (a .k) _ (c .if1 .taken)),
+      sym (set-out (now (a .counts)) (a .k) _ (c .if1 .taken)),
     )
 
 slice-read-n : tie.Need-slice-read-n
@@ -30,10 +29,10 @@ same-length : tie.Need-same-length
 same-length c = search needs
 
 returns-2 : tie.Need-returns-2
-returns-2 c = let a = c .before .before .before .args in (sym (lt-ltb (getD (now (a .counts)) (a .k) 0) (a .most) (c .if2 .taken)), λ e. refl)
+returns-2 c = let a = c .before .before .before .args in (sym (lt-ltb (getD (now (a .counts)) (a .k) 0) (a .most) (c .if2 .taken)), refl)
 
 returns-3 : tie.Need-returns-3
-returns-3 c = let a = c .before .before .before .args in (sym (le-ltb (getD (now (a .counts)) (a .k) 0) (a .most) (c .if2 .left)), λ e. impossible (sym e))
+returns-3 c = let a = c .before .before .before .args in (sym (le-ltb (getD (now (a .counts)) (a .k) 0) (a .most) (c .if2 .left)), refl)
 
 pub count-within-spec : {M : Type 1} → statement M
 count-within-spec = tie.close (tie.spec returns slice-read-n add-counts slice-write-counts same-length returns-2 returns-3)

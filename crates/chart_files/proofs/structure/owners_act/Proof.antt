@@ -43,7 +43,7 @@ returns c =
     let b = c .before .before .before .before .before .before in
     let s = now (b .args .s) in
     let sh = b .args .shape in
-    c .before .owners-within .ensures
+    c .before .owners-within .ensures .0
     ∙ ap (λ l. within 8 l (map (ownerAt s sh) (upto (sh .actions))))
     (take-zeros (sh .states + sh .transitions) 384 (omega (arith, most-states s sh (b .pre .0), most-transitions s sh (b .pre .0))))
     ∙ sym (owners-is s sh (b .pre .0) (b .pre .1) (actions-known s sh (b .pre .0) (b .pre .2)))

@@ -1,5 +1,6 @@
 -- `structure::pairs_within` meets its contract: the invariant is that the pairs of the transitions below t are counted. Assumes nothing.
 use mathlib.Core.Path.{sym, ap, _∙_}
+use mathlib.Core.Bool.{cond}
 use Prim.Native.Nat.{_-_}
 use native.Mathlib.Omega.{arith}
 use borrow.Author.Needs.{needs}
@@ -36,10 +37,12 @@ returns : tie.Need-returns Inv-loop μ-loop
 returns c =
     let a = c .before .before .before .before .before .before .before .before .before .before .args in
     let l = c .before .before .before .before .before .before .before .loop in
-    let f = c .before .before .before .count-within .ensures .0 in
-    sym
-    (tallied-not 1 (pairAt (now (a .s)) (a .shape)) (a .shape .transitions) (now (a .seen)) (l .seen) (l .t) (l .inv) (c .before .before .before .before .before .before .loop-test .taken)
-    (ap (λ k. ltb (getD (l .seen) k 0) 1) (sym (c .before .before .before .before .pair .ensures)) ∙ sym f ∙ not-true _ (c .if1 .taken)))
+    let f = c .before .before .before .count-within .ensures in
+    let k = c .before .before .before .before .pair in
+    let t = not-true _ (c .if1 .taken) in
+    tallied-not 1 (pairAt (now (a .s)) (a .shape)) (a .shape .transitions) (now (a .seen)) (l .seen) _ (l .t) (l .inv) (c .before .before .before .before .before .before .loop-test .taken)
+    (ap (λ j. ltb (getD (l .seen) j 0) 1) (sym (k .ensures)) ∙ sym (f .0) ∙ t)
+    (f .1 ∙ ap (λ b. cond b (addOne (l .seen) (k .result)) (l .seen)) t)
 
 add-t : tie.Need-add-t Inv-loop μ-loop
 add-t c = omega (arith, c .before .before .before .before .before .before .before .before .before .before .good)
@@ -56,7 +59,7 @@ loop-again c =
     let t = not-false _ (c .if1 .left) in
     tallied-more 1 (pairAt (now (a .s)) (a .shape)) (a .shape .transitions) (now (a .seen)) (l .seen) _ (l .t) (l .inv) (c .before .before .before .before .before .before .loop-test .taken)
     (ap (λ k. ltb (getD (l .seen) k 0) 1) (sym k) ∙ sym (f .0) ∙ t)
-    (f .1 t ∙ ap (addOne (l .seen)) k)
+    (f .1 ∙ ap (λ b. cond b (addOne (l .seen) (c .before .before .before .before .pair .result)) (l .seen)) t ∙ ap (addOne (l .seen)) k)
 
 same-length-2 : tie.Need-same-length-2 Inv-loop μ-loop
 same-length-2 c = c .before .loop .inv .1
@@ -65,7 +68,7 @@ returns-2 : tie.Need-returns-2 Inv-loop μ-loop
 returns-2 c =
     let a = c .before .before .before .before .args in
     let l = c .before .loop in
-    sym (tallied-all 1 (pairAt (now (a .s)) (a .shape)) (a .shape .transitions) (now (a .seen)) (l .seen) (l .t) (l .inv) (c .loop-test .left))
+    tallied-all 1 (pairAt (now (a .s)) (a .shape)) (a .shape .transitions) (now (a .seen)) (l .seen) (l .t) (l .inv) (c .loop-test .left)
 
 pub pairs-within-spec : {M : Type 1} → statement M
 pairs-within-spec = tie.close (tie.spec Inv-loop μ-loop loop-holds pair-requires count-within-requires same-length returns add-t loop-less loop-again same-length-2 returns-2)

@@ -34,7 +34,7 @@ returns : tie.Need-returns
 returns c =
     let b = c .before .before .before .before .before in
     let s = now (b .args .s) in
-    c .before .pairs-within .ensures
+    c .before .pairs-within .ensures .0
     ∙ ap (λ l. within 1 l (map (pairAt s (b .args .shape)) (upto (b .args .shape .transitions)))) (take-zeros (16 * b .args .shape .states) 2048 (omega (arith, most-states s (b .args .shape) (b .pre .0))))
     ∙ sym (priorities-is s (b .args .shape) (b .pre .0) (priority-in-code s (b .args .shape) (b .pre .0) (b .pre .1)))
 

@@ -6,14 +6,15 @@ use borrow.Author.Needs.{needs}
 use denote.Ref.{now}
 use lib.Dec.{eqb}
 use lib.ListN.{length, getD}
-use Rattle.records.specs.Lists.{all, gather, upto}
+use Rattle.records.specs.Lists.{all, upto}
 use Rattle.expressions.specs.Nodes.{nodeAt}
-use Rattle.expressions.specs.Sorts.{nodesNamed, operandsFit}
+use Rattle.expressions.specs.Sorts.{nodesNamed, operandsFit, saysFit}
 use Rattle.expressions.specs.Uses.{addUses}
+use Rattle.expressions.proofs.Verdicts.{fit-said}
 use Rattle.chart_files.specs.Places.{nodePart}
-use Rattle.chart_files.specs.Used.{guardAt, assignedAt}
+use Rattle.chart_files.specs.Used.{guardUse, assignedUse, allUses}
 use Rattle.chart_files.proofs.Readings.{lookup-is, length-nodes, most-nodes}
-use Rattle.chart_files.proofs.NodeUses.{allUses, length-uses, used-is}
+use Rattle.chart_files.proofs.NodeUses.{length-uses, used-is}
 use Rattle.chart_files.proofs.uses.nodes_fit.Statement.{statement}
 use Rattle.chart_files.proofs.uses.nodes_fit.Tie as tie
 
@@ -33,7 +34,7 @@ held c =
     let s = now (b .args .s) in
     let sh = b .args .shape in
     c .assigned-fit .ensures .1
-    ∙ ap (λ u. addUses u (gather (assignedAt s sh) (upto (sh .actions)))) (c .before .before .before .before .guards-fit .ensures .1 ∙ ap (λ u. addUses u (gather (guardAt s sh) (upto (sh .transitions)))) (b .pre .3))
+    ∙ ap (λ u. addUses u (assignedUse s sh)) (c .before .before .before .before .guards-fit .ensures .1 ∙ ap (λ u. addUses u (guardUse s sh)) (b .pre .3))
 
 all-once-requires : tie.Need-all-once-requires
 all-once-requires c κs =
@@ -49,11 +50,13 @@ returns c =
     let s = now (b .args .s) in
     let sh = b .args .shape in
     let operands =
-    c .before .before .says-fit .ensures (nodesNamed (nodeAt (nodePart s sh)) (sh .nodes) (sh .variables)) (operandsFit (nodeAt (nodePart s sh)) (sh .nodes)) (b .pre .2)
+    c .before .before .says-fit .ensures
+    ∙ ap saysFit (b .pre .2)
+    ∙ fit-said (nodesNamed (nodeAt (nodePart s sh)) (sh .nodes) (sh .variables)) (operandsFit (nodeAt (nodePart s sh)) (sh .nodes))
     ∙ (λ i. operandsFit (sym (lookup-is s sh (b .pre .0)) i) (sym (length-nodes s sh (b .pre .0)) i))
     in
     let once = c .all-once .ensures ∙ ap (λ l. all (λ n. eqb (getD l n 0) 1) (upto (sh .nodes))) (held (c .before .before .before .before .before)) ∙ sym (used-is s sh (b .pre .0) (b .pre .1)) in
-    λ j. operands j && c .before .before .before .before .before .before .before .before .before .guards-fit .ensures .0 j && c .before .before .before .before .before .assigned-fit .ensures .0 j && once j
+    (λ j. operands j && c .before .before .before .before .before .before .before .before .before .guards-fit .ensures .0 j && c .before .before .before .before .before .assigned-fit .ensures .0 j && once j, held (c .before .before .before .before .before))
 
 pub nodes-fit-spec : {M : Type 1} → statement M
 nodes-fit-spec = tie.close (tie.spec guards-fit-requires assigned-fit-requires says-fit-requires all-once-requires same-length returns)

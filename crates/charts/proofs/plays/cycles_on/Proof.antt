@@ -11,7 +11,7 @@ use Rattle.model.specs.Runs.{possible, cycle}
 use Rattle.model.specs.ChartSet.{readCharts}
 use Rattle.model.specs.Charts.{charts}
 use Rattle.model.proofs.Steady.{charts-cycle-possible}
-use Rattle.machines.specs.Worlds.{reasonOf}
+use Rattle.machines.specs.Answers.{reasonOf}
 use Rattle.machines.proofs.Turning.{cycle-refused}
 use Rattle.machines.proofs.Playing.{Went, went-none, went-more, went-stop, went-all, cycle-counts}
 use Rattle.charts.specs.RunOf.{runIn}
@@ -33,7 +33,7 @@ abbrev μ-loop : tie.MeasureT-loop
 loop-holds : tie.Need-loop-holds Inv-loop μ-loop
 loop-holds c =
     let b = c .before .before in
-    (went-none (charts (readCharts (now (b .args .s)))) (now (b .args .masks)) (runIn (now (b .args .states)) (now (b .args .ages)) (now (b .args .vars)) 0 1 (b .args .cycles)), omega arith, b .pre .2)
+    (went-none (charts (readCharts (now (b .args .s)))) (now (b .args .masks)) (runIn (now (b .args .states)) (now (b .args .ages)) (now (b .args .vars)) 0 1 (b .args .cycles)), omega arith, b .pre .1)
 
 sub-result : tie.Need-sub-result Inv-loop μ-loop
 sub-result c = omega (arith, c .before .before .loop .inv .1)
@@ -59,7 +59,7 @@ cycle-again-requires : tie.Need-cycle-again-requires Inv-loop μ-loop
 cycle-again-requires c κs =
     let b = c .before .before .before .before .before .before .before .before .before in
     let l = c .before .before .before .before .before .before .loop in
-    (b .pre .0, b .pre .1, checked-fine (readCharts (now (b .args .s))) (l .states) (l .ages) (l .vars) (l .done) (getD (now (b .args .masks)) (l .k) 0) (l .inv .2) (c .before .before .before .before .if1 .left))
+    (b .pre .0, checked-fine (readCharts (now (b .args .s))) (l .states) (l .ages) (l .vars) (l .done) (getD (now (b .args .masks)) (l .k) 0) (l .inv .2) (c .before .before .before .before .if1 .left))
 
 enum-told : tie.Need-enum-told Inv-loop μ-loop
 enum-told c = search needs

@@ -10,7 +10,7 @@ use Rattle.model.specs.ChartSet.{readCharts}
 use Rattle.model.specs.Charts.{charts}
 use Rattle.machines.specs.Playing.{played}
 use Rattle.machines.proofs.Playing.{most-played}
-use Rattle.charts.specs.declared.plays.Cycles.the-variants.{Done}
+use Rattle.machines.specs.declared.answers.Cycles.the-variants.{Done}
 use Rattle.charts.specs.RunOf.{runOf, runIn}
 use Rattle.charts.proofs.PlayLaws.{count-kept, no-events, few-cycles}
 use Rattle.charts.proofs.plays.played_on.Statement.{statement}
@@ -19,18 +19,18 @@ use Rattle.charts.proofs.plays.played_on.Tie as tie
 rests : (b : tie.Start) → runOf (b .args .run) ≡ (runIn (b .args .run .states) (b .args .run .ages) (b .args .run .variables) 0 1 (b .args .run .cycles))
 rests b = λ i.
     runIn (b .args .run .states) (b .args .run .ages) (b .args .run .variables)
-    (no-events (charts (readCharts (now (b .args .s)))) (runOf (b .args .run)) (b .pre .2) (b .pre .3) i) (b .pre .3 i) (b .args .run .cycles)
+    (no-events (charts (readCharts (now (b .args .s)))) (runOf (b .args .run)) (b .pre .1) (b .pre .2) i) (b .pre .2 i) (b .args .run .cycles)
 
 cycles-on-requires : tie.Need-cycles-on-requires
 cycles-on-requires c κs =
     let b = c .before .before .before .before .before .before .before .before in
-    (b .pre .0, b .pre .1, subst (λ r. T (possible (charts (readCharts (now (b .args .s)))) r)) (rests b) (b .pre .2))
+    (b .pre .0, subst (λ r. T (possible (charts (readCharts (now (b .args .s)))) r)) (rests b) (b .pre .1))
 
 -- the run's count and the cycles played are at most 1,000,000
 few : (c : tie.After-cycles-on) → c .before .before .before .before .before .before .before .before .before .args .run .cycles + c .cycles-on .result ≤ 1_000_000
 few c =
     let b = c .before .before .before .before .before .before .before .before .before in
-    omega (arith, c .cycles-on .ensures .0, most-played (charts (readCharts (now (b .args .s)))) (count-kept (readCharts (now (b .args .s)))) (now (b .args .masks)) (runIn (b .args .run .states) (b .args .run .ages) (b .args .run .variables) 0 1 (b .args .run .cycles)), few-cycles (charts (readCharts (now (b .args .s)))) (runOf (b .args .run)) (b .pre .2))
+    omega (arith, c .cycles-on .ensures .0, most-played (charts (readCharts (now (b .args .s)))) (count-kept (readCharts (now (b .args .s)))) (now (b .args .masks)) (runIn (b .args .run .states) (b .args .run .ages) (b .args .run .variables) 0 1 (b .args .run .cycles)), few-cycles (charts (readCharts (now (b .args .s)))) (runOf (b .args .run)) (b .pre .1))
 
 add-t17 : tie.Need-add-t17
 add-t17 c = omega (arith, few c)

@@ -1,23 +1,15 @@
 -- `runs::give` meets its contract. Assumes nothing.
-use mathlib.Core.Path.{ap, sym}
-use mathlib.Core.Bool.{Bool, cond}
-use Prim.Native.Nat.{ℕ}
-use borrow.Author.Tests.{eq-eqb, ne-eqb}
-use Rattle.model.specs.Runs.{Run, setEvents}
-use Rattle.charts.specs.RunOf.{runOf}
+use mathlib.Core.Path.{ap}
+use borrow.Author.Needs.{needs}
+use Rattle.charts.specs.RunOf.{runIn}
 use Rattle.charts.proofs.runs.give.Statement.{statement}
 use Rattle.charts.proofs.runs.give.Tie as tie
 
-given-if : Run → ℕ → Bool → Run
-given-if r events b = record { at = r .at; timers = r .timers; world = setEvents (cond b events (r .world .events)) (r .world) }
+events-given-requires : tie.Need-events-given-requires
+events-given-requires c κs = search needs
 
 returns : tie.Need-returns
-unfolding given-if
-returns c = let a = c .before .before .args in ap (given-if (runOf (a .run)) (a .events)) (sym (eq-eqb (a .run .position) 1 (c .if1 .taken)))
-
-returns-2 : tie.Need-returns-2
-unfolding given-if
-returns-2 c = let a = c .before .before .args in ap (given-if (runOf (a .run)) (a .events)) (sym (ne-eqb (a .run .position) 1 (c .if1 .left)))
+returns c = let r = c .before .args .run in ap (λ e. runIn (r .states) (r .ages) (r .variables) e (r .position) (r .cycles)) (c .events-given .ensures)
 
 pub give-spec : {M : Type 1} → statement M
-give-spec = tie.close (tie.spec returns returns-2)
+give-spec = tie.close (tie.spec events-given-requires returns)

@@ -8,13 +8,13 @@ use native.Mathlib.Omega.{arith}
 use borrow.Author.Needs.{needs}
 use denote.Ref.{now}
 use lib.Dec.{eqb}
-use lib.ListN.{length, getD}
+use lib.ListN.{getD}
 use Rattle.records.specs.Refusal.{val, _>>=_}
 use Rattle.expressions.specs.Answers.{truthOf}
 use Rattle.expressions.specs.Answers as expressions-answers
 use Rattle.model.specs.ChartSet.{readCharts}
 use Rattle.model.specs.Charts.{firstThat, transitionHolds}
-use Rattle.chart_files.proofs.Readings.{most-states, most-transitions, length-homes}
+use Rattle.chart_files.proofs.Readings.{most-states, most-transitions}
 use Rattle.machines.specs.Worlds.{bareWorld}
 use Rattle.charts.specs.Tables.{slotAt}
 use Rattle.charts.specs.StepOf.{ChoiceOf, slotHolds}
@@ -43,13 +43,8 @@ small-state c =
     let a = c .before .before .before in
     omega (arith, c .if1 .left, most-states (now (a .args .s)) (a .args .shape) (a .pre .0 .shape))
 
-in-rows : (c : tie.Else1 Inv-loop μ-loop) → c .before .before .before .args .state < length (now (c .before .before .before .args .rows))
-in-rows c =
-    let a = c .before .before .before in
-    omega (arith, c .if1 .left, a .pre .1 .enough, length-homes (now (a .args .s)) (a .args .shape) (a .pre .0 .shape))
-
 small-end : (c : tie.Else1 Inv-loop μ-loop) → getD (now (c .before .before .before .args .ends)) (c .before .before .before .args .state) 0 ≤ 16
-small-end c = c .before .before .before .pre .2 (c .before .before .before .args .state) (in-rows c) (small-state c) .0
+small-end c = c .before .before .before .pre .2 .short (c .before .before .before .args .state) (small-state c)
 
 element-copy-out-end : tie.Need-element-copy-out-end Inv-loop μ-loop
 element-copy-out-end c = small-state c
@@ -151,11 +146,10 @@ returns-4 c =
     let a = c .before .before .before .before .before .before in
     let x = a .args in
     let l = c .before .loop in
-    let h = in-rows (c .before .before .before) in
     let k = small-state (c .before .before .before) in
     let past = c .loop-test .left in (
       tried-end (readCharts (now (x .s))) (x .state) (transitionHolds (readCharts (now (x .s))) (bareWorld (now (x .vars)) (x .events)) (x .age)) (16 - l .j) (l .j) (omega (arith, l .inv .0)) (l .inv)
-          (λ i le lt. unnamed (now (x .s)) (x .shape) (a .pre .0) (x .state) (i + 1) (sym (a .pre .1 .places (x .state) i h lt) ∙ a .pre .2 (x .state) h k .1 i (omega (arith, past)) lt)),
+          (λ i le lt. unnamed (now (x .s)) (x .shape) (a .pre .0) (x .state) (i + 1) (sym (a .pre .1 (x .state) i k lt) ∙ a .pre .2 .empty (x .state) i k (omega (arith, past)) lt)),
       none-chosen (x .shape .transitions),
     )
 

@@ -15,7 +15,7 @@ use Rattle.charts.proofs.steps.step_in_place.Statement.{statement}
 use Rattle.charts.proofs.steps.step_in_place.Tie as tie
 
 few-charts : (c : tie.Start) → c .args .chart < 8
-few-charts c = omega (arith, c .pre .2, most-charts (now (c .args .s)) (c .args .shape) (c .pre .0 .accepted .shape))
+few-charts c = omega (arith, c .pre .1, most-charts (now (c .args .s)) (c .args .shape) (c .pre .0 .accepted .shape))
 
 mul-state : tie.Need-mul-state
 mul-state c = search needs
@@ -30,7 +30,7 @@ element-copy-out-age : tie.Need-element-copy-out-age
 element-copy-out-age c = few-charts (c .before .before)
 
 first-that-requires : tie.Need-first-that-requires
-first-that-requires c κs = let a = c .before .before .before .before in (a .pre .0 .accepted, a .pre .0 .has-rows, a .pre .1)
+first-that-requires c κs = let a = c .before .before .before .before in (a .pre .0 .accepted, a .pre .0 .has-rows, a .pre .0 .has-ends)
 
 returns : tie.Need-returns
 returns c = λ p q.

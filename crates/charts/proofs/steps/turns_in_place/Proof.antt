@@ -18,13 +18,13 @@ abbrev μ-loop : tie.MeasureT-loop
 μ-loop s shape rows ends first next from to states₀ ages₀ vars₀ events chosen₀ present₀ chart₀ states ages vars chosen present chart = to - chart
 
 loop-holds : tie.Need-loop-holds Inv-loop μ-loop
-loop-holds c = let x = c .before .args in (omega arith, omega arith, c .before .pre .2, left-all (readCharts (now (x .s))) (x .from) (x .to) (answerBy (now (x .chosen))) (now (x .states)) (now (x .ages)) (now (x .vars)) (x .events))
+loop-holds c = let x = c .before .args in (omega arith, omega arith, c .before .pre .1, left-all (readCharts (now (x .s))) (x .from) (x .to) (answerBy (now (x .chosen))) (now (x .states)) (now (x .ages)) (now (x .vars)) (x .events))
 
 step-in-place-requires : tie.Need-step-in-place-requires Inv-loop μ-loop
 step-in-place-requires c κs =
     let b = c .before .before .before .before .before .before .before in
     let more = c .before .before .before .before .loop-test .taken in
-    (b .pre .0, b .pre .1, omega (arith, more, b .pre .3))
+    (b .pre .0, omega (arith, more, b .pre .2))
 
 returns : tie.Need-returns Inv-loop μ-loop
 returns c = λ p q.
@@ -42,7 +42,7 @@ add-chart : tie.Need-add-chart Inv-loop μ-loop
 add-chart c =
     let b = c .before .before .before .before .before .before .before .before .before in
     let more = c .before .before .before .before .before .before .loop-test .taken in
-    omega (arith, more, b .pre .3, most-charts (now (b .args .s)) (b .args .shape) (b .pre .0 .accepted .shape))
+    omega (arith, more, b .pre .2, most-charts (now (b .args .s)) (b .args .shape) (b .pre .0 .accepted .shape))
 
 loop-less : tie.Need-loop-less Inv-loop μ-loop
 loop-less c = let more = c .before .before .before .before .before .before .loop-test .taken in omega (arith, more)

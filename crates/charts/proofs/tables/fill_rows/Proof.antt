@@ -1,18 +1,19 @@
 -- `tables::fill_rows` meets its contract: the rows are filled down to t, and each has its end. Assumes nothing.
-use mathlib.Core.Path.{_≡_, sym, subst}
-use Prim.Native.Nat.{ℕ, _+_, _-_, _≤_, _<_}
+use mathlib.Core.Path.{_≡_, sym, ap, _∙_, subst}
+use mathlib.Core.List.{[]}
+use Prim.Native.Nat.{ℕ, _+_, _-_, _≤_, _<_, max}
 use native.Mathlib.Omega.{arith}
 use denote.Ref.{now}
-use lib.ListN.{length, replicate}
+use lib.ListN.{getD, set, replicate}
 use Rattle.chart_files.proofs.Readings.{most-states, most-transitions}
 use Rattle.charts.proofs.Sound.{source-known, priority-known}
 use Rattle.charts.proofs.TableLaws.{Rows, rows-none, rows-more, Ended, ends-none, ends-more}
-use Rattle.charts.proofs.RowLaws.{sourceAt, priorityAt, rows-are}
+use Rattle.charts.proofs.RowLaws.{sourceAt, priorityAt, rows-are, ends-are}
 use Rattle.charts.proofs.tables.fill_rows.Statement.{statement}
 use Rattle.charts.proofs.tables.fill_rows.Tie as tie
 
 abbrev Inv-loop : tie.InvT-loop
-Inv-loop s shape rows₀ ends₀ t₀ rows ends t = Rows (sourceAt s shape) (priorityAt s shape) (shape .transitions) (length rows₀) rows t × Ended rows ends
+Inv-loop s shape rows₀ ends₀ t₀ rows ends t = Rows (sourceAt s shape) (priorityAt s shape) (shape .transitions) 128 rows t × Ended (sourceAt s shape) (priorityAt s shape) (shape .transitions) rows ends t
 
 abbrev μ-loop : tie.MeasureT-loop
 μ-loop s shape rows₀ ends₀ t₀ rows ends t = t
@@ -20,9 +21,12 @@ abbrev μ-loop : tie.MeasureT-loop
 loop-holds : tie.Need-loop-holds Inv-loop μ-loop
 loop-holds c =
     let b = c .before in
-    let x = b .args in (
-      subst (λ rows. Rows (sourceAt (now (x .s)) (x .shape)) (priorityAt (now (x .s)) (x .shape)) (x .shape .transitions) (length (now (x .rows))) rows (x .shape .transitions)) (sym (b .pre .1 .1)) (rows-none (sourceAt (now (x .s)) (x .shape)) (priorityAt (now (x .s)) (x .shape)) (x .shape .transitions) (length (now (x .rows)))),
-      subst (λ rows. Ended rows (now (x .ends))) (sym (b .pre .1 .1)) (subst (Ended (replicate (length (now (x .rows))) (replicate {A = ℕ} 16 256))) (sym (b .pre .2)) (ends-none (length (now (x .rows))))),
+    let x = b .args in
+    let source = sourceAt (now (x .s)) (x .shape) in
+    let priority = priorityAt (now (x .s)) (x .shape) in (
+      subst (λ rows. Rows source priority (x .shape .transitions) 128 rows (x .shape .transitions)) (sym (b .pre .1)) (rows-none source priority (x .shape .transitions) 128),
+      subst (λ rows. Ended source priority (x .shape .transitions) rows (now (x .ends)) (x .shape .transitions)) (sym (b .pre .1))
+          (subst (λ ends. Ended source priority (x .shape .transitions) (replicate 128 (replicate {A = ℕ} 16 256)) ends (x .shape .transitions)) (sym (b .pre .2)) (ends-none source priority (x .shape .transitions))),
     )
 
 sub-t : tie.Need-sub-t Inv-loop μ-loop
@@ -49,13 +53,6 @@ source-in c =
 source-fits : (c : tie.After-priority-of Inv-loop μ-loop) → c .before .source-of .result < 128
 source-fits c = let a = c .before .before .before .before .before in omega (arith, source-in c, most-states (now (a .args .s)) (a .args .shape) (a .pre .0 .shape))
 
-source-row : (c : tie.After-priority-of Inv-loop μ-loop) → c .before .source-of .result < length (now (c .before .before .before .before .before .args .rows))
-source-row c = omega (arith, source-in c, c .before .before .before .before .before .pre .1 .0)
-
--- the rows that are there
-rows-there : (c : tie.After-priority-of Inv-loop μ-loop) → c .before .source-of .result < length (c .before .before .before .loop .rows)
-rows-there c = omega (arith, source-row c, c .before .before .before .loop .inv .0 .long)
-
 priority-fits : (c : tie.After-priority-of Inv-loop μ-loop) → (1 ≤ c .priority-of .result) × (c .priority-of .result ≤ 16)
 priority-fits c =
     let a = c .before .before .before .before .before in
@@ -74,7 +71,7 @@ mul-rows-2 : tie.Need-mul-rows-2 Inv-loop μ-loop
 mul-rows-2 c = omega (arith, priority-fits c)
 
 index-1-rows : tie.Need-index-1-rows Inv-loop μ-loop
-index-1-rows c = rows-there c
+index-1-rows c = source-fits c
 
 index-2-rows : tie.Need-index-2-rows Inv-loop μ-loop
 index-2-rows c = omega (arith, priority-fits c)
@@ -93,30 +90,37 @@ loop-less c = omega (arith, c .before .before .before .before .loop-test .taken)
 
 loop-again : tie.Need-loop-again Inv-loop μ-loop
 loop-again c =
-    let x = c .before .before .before .before .before .before .before .args in
+    let b = c .before .before .before .before .before .before .before in
+    let x = b .args in
     let l = c .before .before .before .before .before .loop in
     let u = c .before .before in
+    let source = sourceAt (now (x .s)) (x .shape) in
+    let priority = priorityAt (now (x .s)) (x .shape) in
     let more = c .before .before .before .before .loop-test .taken in
-    let e : l .t ≡ l .t - 1 + 1 = omega (arith, more) in (
-      rows-more (sourceAt (now (x .s)) (x .shape)) (priorityAt (now (x .s)) (x .shape)) (x .shape .transitions) (length (now (x .rows))) (l .rows) (l .t - 1) (c .before .before .before .source-of .result) (u .priority-of .result - 1)
-          (subst (Rows (sourceAt (now (x .s)) (x .shape)) (priorityAt (now (x .s)) (x .shape)) (x .shape .transitions) (length (now (x .rows))) (l .rows)) e (l .inv .0))
-          (sym (c .before .before .before .source-of .ensures)) (omega (arith, priority-fits u, u .priority-of .ensures)) (source-row u) (omega (arith, priority-fits u)) (omega (arith, in-file u, most-transitions (now (x .s)) (x .shape) (c .before .before .before .before .before .before .before .pre .0 .shape))),
-      ends-more (l .rows) (l .ends) (c .before .before .before .source-of .result) (u .priority-of .result - 1) (l .t - 1) (c .higher .result) (l .inv .1) (rows-there u) (source-fits u) (c .higher .ensures .0)
-          (omega (arith, priority-fits u, c .higher .ensures .1)) (c .higher .ensures .2 16 (l .inv .1 .1 (c .before .before .before .source-of .result) (rows-there u) (source-fits u) .0) (priority-fits u .1)),
+    let e : l .t ≡ l .t - 1 + 1 = omega (arith, more) in
+    let rows = subst (Rows source priority (x .shape .transitions) 128 (l .rows)) e (l .inv .0) in
+    let ends = subst (Ended source priority (x .shape .transitions) (l .rows) (l .ends)) e (l .inv .1) in
+    let at-source = sym (c .before .before .before .source-of .ensures) in
+    let i = c .before .before .before .source-of .result in
+    let k = u .priority-of .result - 1 in
+    let at-priority : priority (l .t - 1) ≡ k + 1 = omega (arith, priority-fits u, u .priority-of .ensures) in
+    let in-row : k < 16 = omega (arith, priority-fits u) in
+    let top : max (getD (l .ends) i 0) (k + 1) ≡ c .higher .result = ap (max (getD (l .ends) i 0)) (let z : k + 1 ≡ u .priority-of .result = omega (arith, priority-fits u) in z) ∙ sym (c .higher .ensures) in (
+      rows-more source priority (x .shape .transitions) 128 (l .rows) (l .t - 1) i k rows at-source at-priority (source-fits u) in-row (omega (arith, in-file u, most-transitions (now (x .s)) (x .shape) (b .pre .0 .shape))),
+      subst (λ n. Ended source priority (x .shape .transitions) (set (l .rows) i (set (getD (l .rows) i []) k (l .t - 1))) (set (l .ends) i n) (l .t - 1)) top
+          (ends-more source priority (x .shape .transitions) (l .rows) (l .ends) (l .t - 1) i k ends (rows .long) (in-file u) at-source at-priority (source-fits u) in-row),
     )
-
-same-length : tie.Need-same-length Inv-loop μ-loop
-same-length c = c .before .loop .inv .0 .long
 
 returns : tie.Need-returns Inv-loop μ-loop
 returns c =
     let a = c .before .before .before in
     let x = a .args in
     let l = c .before .loop in
+    let source = sourceAt (now (x .s)) (x .shape) in
+    let priority = priorityAt (now (x .s)) (x .shape) in
     let e : l .t ≡ 0 = omega (arith, c .loop-test .left) in
-    let filled = subst (Rows (sourceAt (now (x .s)) (x .shape)) (priorityAt (now (x .s)) (x .shape)) (x .shape .transitions) (length (now (x .rows))) (l .rows)) e (l .inv .0) in
-    let long = filled .long in
-    (rows-are (now (x .s)) (x .shape) (a .pre .0) (l .rows) (omega (arith, long, a .pre .1 .0)) (subst (λ n. Rows (sourceAt (now (x .s)) (x .shape)) (priorityAt (now (x .s)) (x .shape)) (x .shape .transitions) n (l .rows) 0) (sym long) filled), l .inv .1 .1)
+    (rows-are (now (x .s)) (x .shape) (a .pre .0) (l .rows) (subst (Rows source priority (x .shape .transitions) 128 (l .rows)) e (l .inv .0)),
+      ends-are (now (x .s)) (x .shape) (a .pre .0) (l .rows) (l .ends) (subst (Ended source priority (x .shape .transitions) (l .rows) (l .ends)) e (l .inv .1)))
 
 pub fill-rows-spec : {M : Type 1} → statement M
 fill-rows-spec =
@@ -140,5 +144,4 @@ fill-rows-spec =
     element-write-ends
     loop-less
     loop-again
-    same-length
     returns)

@@ -4,17 +4,13 @@ use Prim.Native.Nat.{_+_, _<_}
 use native.Mathlib.Omega.{arith}
 use borrow.Author.Needs.{needs}
 use denote.Ref.{now}
-use lib.ListN.{length}
-use Rattle.chart_files.proofs.Readings.{most-states, length-homes}
+use Rattle.chart_files.proofs.Readings.{most-states}
 use Rattle.charts.proofs.StepLaws.{unnamed, placed-one}
 use Rattle.charts.proofs.tables.slot_of.Statement.{statement}
 use Rattle.charts.proofs.tables.slot_of.Tie as tie
 
 small-state : (c : tie.Start) → c .args .state < 128
 small-state c = omega (arith, c .pre .2, most-states (now (c .args .s)) (c .args .shape) (c .pre .0 .shape))
-
-in-rows : (c : tie.Start) → c .args .state < length (now (c .args .rows))
-in-rows c = omega (arith, c .pre .2, c .pre .1 .enough, length-homes (now (c .args .s)) (c .args .shape) (c .pre .0 .shape))
 
 mul-t : tie.Need-mul-t
 mul-t c = omega (arith, small-state c)
@@ -23,7 +19,7 @@ mul-t-2 : tie.Need-mul-t-2
 mul-t-2 c = omega (arith, c .pre .3)
 
 index-1-t : tie.Need-index-1-t
-index-1-t c = in-rows c
+index-1-t c = small-state c
 
 index-2-t : tie.Need-index-2-t
 index-2-t c = c .pre .3
@@ -32,13 +28,13 @@ returns : tie.Need-returns
 returns c =
     let b = c .before .before in
     let a = b .args in
-    sym (unnamed (now (a .s)) (a .shape) (b .pre .0) (a .state) (a .place + 1) (sym (b .pre .1 .places (a .state) (a .place) (in-rows b) (b .pre .3)) ∙ c .if1 .taken))
+    sym (unnamed (now (a .s)) (a .shape) (b .pre .0) (a .state) (a .place + 1) (sym (b .pre .1 (a .state) (a .place) (small-state b) (b .pre .3)) ∙ c .if1 .taken))
 
 returns-2 : tie.Need-returns-2
 returns-2 c =
     let b = c .before .before in
     let a = b .args in
-    placed-one (now (a .s)) (a .shape) (b .pre .0) (a .state) (a .place + 1) _ (b .pre .1 .places (a .state) (a .place) (in-rows b) (b .pre .3)) (c .if1 .left)
+    placed-one (now (a .s)) (a .shape) (b .pre .0) (a .state) (a .place + 1) _ (b .pre .1 (a .state) (a .place) (small-state b) (b .pre .3)) (c .if1 .left)
 
 pub slot-of-spec : {M : Type 1} → statement M
 slot-of-spec = tie.close (tie.spec mul-t mul-t-2 index-1-t index-2-t returns returns-2)

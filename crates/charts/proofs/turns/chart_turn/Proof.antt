@@ -1,4 +1,4 @@
--- `turns::chart_turn` meets its contract: the turn in place, on a copy, with whole rows. Assumes nothing.
+-- `turns::chart_turn` meets its contract: the turn in place, on a copy. Assumes nothing.
 use mathlib.Core.Path.{sym, ap, _∙_}
 use Prim.Native.Nat.{_-_, _≤_}
 use native.Mathlib.Omega.{arith}
@@ -10,7 +10,6 @@ use Rattle.chart_files.proofs.Readings.{most-charts, length-initial}
 use Rattle.machines.proofs.Turning.{at-part}
 use Rattle.charts.specs.RunOf.{runOf}
 use Rattle.charts.specs.StepOf.{answerBy}
-use Rattle.charts.proofs.TableLaws.{whole-rows}
 use Rattle.charts.proofs.ChartTurns.{alone-turn}
 use Rattle.charts.proofs.turns.chart_turn.Statement.{statement}
 use Rattle.charts.proofs.turns.chart_turn.Tie as tie
@@ -25,19 +24,19 @@ cast-chart : tie.Need-cast-chart
 cast-chart c = omega (arith, few (c .before .before .before .before .before))
 
 add-turns-in-place : tie.Need-add-turns-in-place
-add-turns-in-place c = omega (arith, few (c .before .before .before .before .before .before .before))
+add-turns-in-place c = omega (arith, few (c .before .before .before .before .before))
 
 turns-in-place-requires : tie.Need-turns-in-place-requires
 turns-in-place-requires c κs =
-    let b = c .before .before .before .before .before .before .before .before .before .before .before in
-    (b .pre .0, whole-rows (now (b .args .rows)), omega arith, omega (arith, b .pre .1 .0 .begun, b .pre .1 .1))
+    let b = c .before .before .before .before .before .before .before .before .before in
+    (b .pre .0, omega arith, omega (arith, b .pre .1 .0 .begun, b .pre .1 .1))
 
 chart-turned-requires : tie.Need-chart-turned-requires
-chart-turned-requires c κs = omega (arith, few (c .before .before .before .before .before .before .before .before .before .before .before .before))
+chart-turned-requires c κs = omega (arith, few (c .before .before .before .before .before .before .before .before .before .before))
 
 returns : tie.Need-returns
 returns c =
-    let b = c .before .before .before .before .before .before .before .before .before .before .before .before .before in
+    let b = c .before .before .before .before .before .before .before .before .before .before .before in
     let x = b .args in
     let f = c .before .turns-in-place in
     c .chart-turned .ensures

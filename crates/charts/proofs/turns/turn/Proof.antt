@@ -3,49 +3,35 @@ use mathlib.Core.Path.{_≡_, sym, ap, _∙_, subst}
 use borrow.Author.Needs.{needs}
 use denote.Ref.{now}
 use Rattle.records.specs.Refusal.{val}
+use Rattle.records.specs.RefusalOf.{refusalOf}
 use Rattle.model.specs.Outcome.{settled}
 use Rattle.model.specs.Runs.{stepped, checked}
 use Rattle.model.specs.ChartSet.{readCharts}
 use Rattle.model.specs.Charts.{charts}
-use Rattle.charts.specs.declared.turns.Refusal.the-variants.{Impossible, Misplaced, Finished}
-use Rattle.charts.specs.RunOf.{runOf, beforeOf}
+use Rattle.machines.specs.Checks.{beforeOf}
+use Rattle.machines.proofs.Turning.{turn-fine, turn-refused}
+use Rattle.charts.specs.RunOf.{runOf}
 use Rattle.charts.specs.TurnOf.{Ready}
-use Rattle.machines.proofs.Turning.{turn-fine}
-use Rattle.charts.proofs.Turning.{ready, turn-unready}
+use Rattle.charts.proofs.Turning.{ready}
 use Rattle.charts.proofs.turns.turn.Statement.{statement}
 use Rattle.charts.proofs.turns.turn.Tie as tie
 
 before-turn-requires : tie.Need-before-turn-requires
 before-turn-requires c κs = c .before .pre .accepted .shape
 
+enum-known-w : tie.Need-enum-known-w
+enum-known-w c = search needs
+
 enum-told : tie.Need-enum-told
 enum-told c = search needs
-
-unready-requires : tie.Need-unready-requires
-unready-requires c κs = search needs
-
-enum-told-2 : tie.Need-enum-told-2
-enum-told-2 c = search needs
-
-unready-requires-2 : tie.Need-unready-requires-2
-unready-requires-2 c κs = search needs
-
-enum-told-3 : tie.Need-enum-told-3
-enum-told-3 c = search needs
-
-unready-requires-3 : tie.Need-unready-requires-3
-unready-requires-3 c κs = search needs
-
-enum-told-4 : tie.Need-enum-told-4
-enum-told-4 c = search needs
 
 give-requires : tie.Need-give-requires
 give-requires c κs = search needs
 
-passed : (c : tie.After-enum-told4) →
+passed : (c : tie.After-enum-told) →
     let b = c .before .before .before .before in
     checked (charts (readCharts (now (b .args .s)))) (b .args .events) (runOf (b .args .run)) ≡ val tt
-passed c = sym (c .before .before .before-turn .ensures) ∙ ap beforeOf (c .enum-told4 .given .1)
+passed c = sym (c .before .before .before-turn .ensures) ∙ ap beforeOf (c .enum-told .given .1)
 
 turn-taken-requires : tie.Need-turn-taken-requires
 turn-taken-requires c κs =
@@ -54,21 +40,14 @@ turn-taken-requires c κs =
 
 returns : tie.Need-returns
 returns c =
-    let a = c .before .before .before .before .before .args in
-    turn-unready (now (a .s)) (a .events) (a .run) Impossible (sym (c .before .before .before .before-turn .ensures) ∙ ap beforeOf (c .before .enum-told .given .1)) (c .unready .result) (c .unready .ensures)
+    let b = c .before .before .before .before .before in
+    let g = c .before .w .given in
+    sym
+    (ap (settled (runOf (b .args .run)))
+    (turn-refused (charts (readCharts (now (b .args .s)))) (b .args .events) (runOf (b .args .run)) (refusalOf (g .0 .0)) (sym (c .before .before .before .before-turn .ensures) ∙ ap beforeOf (g .1))))
 
 returns-2 : tie.Need-returns-2
 returns-2 c =
-    let a = c .before .before .before .before .before .args in
-    turn-unready (now (a .s)) (a .events) (a .run) Misplaced (sym (c .before .before .before .before-turn .ensures) ∙ ap beforeOf (c .before .enum-told2 .given .1)) (c .unready2 .result) (c .unready2 .ensures)
-
-returns-3 : tie.Need-returns-3
-returns-3 c =
-    let a = c .before .before .before .before .before .args in
-    turn-unready (now (a .s)) (a .events) (a .run) Finished (sym (c .before .before .before .before-turn .ensures) ∙ ap beforeOf (c .before .enum-told3 .given .1)) (c .unready3 .result) (c .unready3 .ensures)
-
-returns-4 : tie.Need-returns-4
-returns-4 c =
     let b = c .before .before .before .before .before .before in
     let m = charts (readCharts (now (b .args .s))) in
     c .turn-taken .ensures
@@ -80,16 +59,9 @@ turn-spec =
     tie.close
     (tie.spec
     before-turn-requires
+    enum-known-w
     enum-told
-    unready-requires
-    enum-told-2
-    unready-requires-2
-    enum-told-3
-    unready-requires-3
-    enum-told-4
     give-requires
     turn-taken-requires
     returns
-    returns-2
-    returns-3
-    returns-4)
+    returns-2)

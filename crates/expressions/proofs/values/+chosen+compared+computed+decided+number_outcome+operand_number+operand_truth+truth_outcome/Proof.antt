@@ -1,6 +1,6 @@
 -- The proof of the cycle of calls of `values::number_outcome` and `values::truth_outcome`. Each member's measure comes from its node: an operand's is below
 -- it, and a member that works out operands of node n stands between node n and its operands. Assumes nothing.
-use mathlib.Core.Path.{_≡_, sym, ap, _∙_}
+use mathlib.Core.Path.{_≡_, refl, sym, ap, _∙_}
 use mathlib.Core.Bool.{true, false}
 use Prim.Native.Nat.{ℕ, _+_, _*_, _≤_, _<_}
 use native.Mathlib.Omega.{arith}
@@ -18,8 +18,7 @@ use Rattle.records.specs.Refusal.{Out, val, _>>=_, choose}
 use Rattle.expressions.specs.Nodes.{nodeAt}
 use Rattle.expressions.specs.Values.{compute, compare, decide, operandNumber, operandTruth}
 use Rattle.expressions.specs.Coded.{arithmeticOf, comparisonOf}
-use Rattle.expressions.specs.Outcomes.{truthOutcome}
-use Rattle.expressions.proofs.Outcomes.{stands-same, stands-at, held, handed, of-number, of-zero, number-small, number-in, fault-stands, first-fault, second-fault, both-in, truth-in, truth-fault-in, of-truth, undecided, stays}
+use Rattle.expressions.proofs.Outcomes.{stands-same, stands-at, held, handed, of-number, of-zero, number-small, number-in, fault-stands, first-fault, second-fault, both-in, truth-same, truth-in, truth-fault-in, of-truth, turned, undecided, stays}
 use Rattle.expressions.proofs.Arms.{picked-one, no-number-arm, constant-arm, variable-arm, choice-arm, arithmetic-arm, no-truth-arm, comparison-arm, negation-arm, decided-arm, constant-leaf, variable-leaf}
 use Rattle.expressions.proofs.values.chosen.Reads as chosen
 use Rattle.expressions.proofs.values.chosen.Kinds as chosen-kinds
@@ -199,7 +198,7 @@ module _ (t : ℕ) where
       let k = c .before .before .before .before .args in
       let y : Out ℤ = operandNumber (nodeAt (now (k .nodes))) (now (k .vars)) (k .n) (k .b) in
       let first = c .before .before .operand-number in
-      c .truth-fault .ensures ∙ first-fault (held (first .ok) (first .ensures)) (c .before .if1 .taken) (λ u. (y >>= λ w. val (compare (comparisonOf (k .code)) u w)))
+      truth-same (c .truth-fault .ensures) (first-fault (held (first .ok) (first .ensures)) (c .before .if1 .taken) (λ u. (y >>= λ w. val (compare (comparisonOf (k .code)) u w))))
 
   compared-operand-number-requires-2 : compared-lts.Need-operand-number-requires-2 (compared-calls t) (compared-at t) compared.Post
   compared-operand-number-requires-2 c κs = (omega (arith, c .before .before .before .pre .0), tt)
@@ -212,8 +211,8 @@ module _ (t : ℕ) where
       let k = c .before .before .before .before .before .before .args in
       let first = c .before .before .before .before .operand-number in
       let second = c .before .before .operand-number2 in
-      c .truth-fault2 .ensures
-      ∙ second-fault (held (second .ok) (second .ensures)) (number-in (held (first .ok) (first .ensures)) (c .before .before .before .if1 .left)) (c .before .if2 .taken) (λ u w. val (compare (comparisonOf (k .code)) u w))
+      truth-same (c .truth-fault2 .ensures)
+      (second-fault (held (second .ok) (second .ensures)) (number-in (held (first .ok) (first .ensures)) (c .before .before .before .if1 .left)) (c .before .if2 .taken) (λ u w. val (compare (comparisonOf (k .code)) u w)))
 
   compared-compare-requires : compared-lts.Need-compare-requires (compared-calls t) (compared-at t) compared.Post
   compared-compare-requires c κs = tt
@@ -226,10 +225,9 @@ module _ (t : ℕ) where
       let k = c .before .before .before .before .before .before .before .args in
       let first = c .before .before .before .before .before .operand-number in
       let second = c .before .before .before .operand-number2 in
-      ap truthOutcome (c .truth-value .ensures)
-      ∙ of-truth (c .before .compare .result)
-      ∙ ap val (c .before .compare .ensures)
-      ∙ both-in (λ u w. val (compare (comparisonOf (k .code)) u w)) (number-in (held (first .ok) (first .ensures)) (c .before .before .before .before .if1 .left)) (number-in (held (second .ok) (second .ensures)) (c .before .before .if2 .left))
+      truth-same (of-truth (c .before .compare .result) (c .truth-value .ensures))
+      (ap val (c .before .compare .ensures)
+      ∙ both-in (λ u w. val (compare (comparisonOf (k .code)) u w)) (number-in (held (first .ok) (first .ensures)) (c .before .before .before .before .if1 .left)) (number-in (held (second .ok) (second .ensures)) (c .before .before .if2 .left)))
 
   computed-operand-number-requires : computed-lts.Need-operand-number-requires (computed-calls t) (computed-at t) computed.Post
   computed-operand-number-requires c κs = (omega (arith, c .before .pre .0), tt)
@@ -280,16 +278,13 @@ module _ (t : ℕ) where
   decided-returns c =
       let k = c .before .before .before .before .before .args in
       let y = operandTruth (nodeAt (now (k .nodes))) (now (k .vars)) (k .n) (k .b) in
-      c .operand-truth2 .ensures
-      ∙ undecided (k .decides) y
-      ∙ ap (λ u. decide (k .decides) u y) (ap truthOutcome (sym (c .before .if1 .taken ∙ c .before .before .truth-value .ensures)) ∙ c .before .before .before .operand-truth .ensures)
+      truth-same (c .operand-truth2 .ensures) (undecided (c .before .before .before .operand-truth .ensures) (k .decides) y (c .before .if1 .taken ∙ c .before .before .truth-value .ensures))
 
   decided-returns-2 : decided-lts.Need-returns-2 (decided-calls t) (decided-at t) decided.Post
   decided-returns-2 c =
       let k = c .before .before .before .before .args in
       let y = operandTruth (nodeAt (now (k .nodes))) (now (k .vars)) (k .n) (k .b) in
-      stays (k .decides) (c .before .before .operand-truth .result) y (λ e. c .if1 .left (e ∙ sym (c .before .truth-value .ensures)))
-      ∙ ap (λ u. decide (k .decides) u y) (c .before .before .operand-truth .ensures)
+      stays (c .before .before .operand-truth .ensures) (k .decides) y (λ e. c .if1 .left (e ∙ sym (c .before .truth-value .ensures)))
 
   number-outcome-fields-at-requires : number-outcome-lts.Need-fields-at-requires (number-outcome-calls t) (number-outcome-at t) number-outcome.Post
   number-outcome-fields-at-requires c κs = tt
@@ -446,7 +441,7 @@ module _ (t : ℕ) where
   operand-truth-returns-2 : operand-truth-lts.Need-returns-2 (operand-truth-calls t) (operand-truth-at t) operand-truth.Post
   operand-truth-returns-2 c =
       let k = c .before .before .args in
-      rw (le-ltb (k .a) (k .n) (c .if1 .left))
+      rw (le-ltb (k .a) (k .n) (c .if1 .left)) (of-truth false refl)
 
   truth-outcome-fields-at-requires : truth-outcome-lts.Need-fields-at-requires (truth-outcome-calls t) (truth-outcome-at t) truth-outcome.Post
   truth-outcome-fields-at-requires c κs = tt
@@ -459,7 +454,7 @@ module _ (t : ℕ) where
       let v = now (k .vars) in
       let f = q .fields-at .result in
       let g : f .code < 16 = c .if1 .taken in
-      no-truth-arm s v (k .n) f (q .fields-at .ensures) (λ l m. omega (arith, g))
+      truth-same (of-truth false refl) (no-truth-arm s v (k .n) f (q .fields-at .ensures) (λ l m. omega (arith, g)))
 
   truth-outcome-compared-requires : truth-outcome-lts.Need-compared-requires (truth-outcome-calls t) (truth-outcome-at t) truth-outcome.Post
   truth-outcome-compared-requires c κs = (omega (arith, c .before .before .before .before .pre .0), tt)
@@ -472,7 +467,7 @@ module _ (t : ℕ) where
       let v = now (k .vars) in
       let f = q .fields-at .result in
       let g : 16 ≤ f .code = c .before .before .if1 .left in
-      c .compared .ensures ∙ comparison-arm s v (k .n) f (q .fields-at .ensures) (omega (arith, g)) (c .before .if2 .taken)
+      truth-same (c .compared .ensures) (comparison-arm s v (k .n) f (q .fields-at .ensures) (omega (arith, g)) (c .before .if2 .taken))
 
   truth-outcome-operand-truth-requires : truth-outcome-lts.Need-operand-truth-requires (truth-outcome-calls t) (truth-outcome-at t) truth-outcome.Post
   truth-outcome-operand-truth-requires c κs = (omega (arith, c .before .before .before .before .before .pre .0), tt)
@@ -487,9 +482,7 @@ module _ (t : ℕ) where
       let s = now (k .nodes) in
       let v = now (k .vars) in
       let f = q .fields-at .result in
-      c .negated .ensures
-      ∙ ap (λ y. choose y (val false) (val true)) (c .before .operand-truth .ensures)
-      ∙ negation-arm s v (k .n) f (q .fields-at .ensures) (c .before .before .if3 .taken)
+      truth-same (rw (c .negated .ensures) (turned (c .before .operand-truth .ensures))) (negation-arm s v (k .n) f (q .fields-at .ensures) (c .before .before .if3 .taken))
 
   truth-outcome-decided-requires : truth-outcome-lts.Need-decided-requires (truth-outcome-calls t) (truth-outcome-at t) truth-outcome.Post
   truth-outcome-decided-requires c κs = (omega (arith, c .before .before .before .before .before .before .pre .0), tt)
@@ -503,7 +496,7 @@ module _ (t : ℕ) where
       let f = q .fields-at .result in
       let g : 19 ≤ f .code = c .before .before .before .if2 .left in
       let h : f .code ≡ 19 → ⊥ = c .before .before .if3 .left in
-      c .decided .ensures ∙ decided-arm s v (k .n) f (q .fields-at .ensures) (omega (arith, g, h)) (c .before .if4 .taken)
+      truth-same (c .decided .ensures) (decided-arm s v (k .n) f (q .fields-at .ensures) (omega (arith, g, h)) (c .before .if4 .taken))
 
   truth-outcome-returns-5 : truth-outcome-lts.Need-returns-5 (truth-outcome-calls t) (truth-outcome-at t) truth-outcome.Post
   truth-outcome-returns-5 c =
@@ -513,7 +506,7 @@ module _ (t : ℕ) where
       let v = now (k .vars) in
       let f = q .fields-at .result in
       let g : 22 ≤ f .code = c .if4 .left in
-      no-truth-arm s v (k .n) f (q .fields-at .ensures) (λ l m. omega (arith, g))
+      truth-same (of-truth false refl) (no-truth-arm s v (k .n) f (q .fields-at .ensures) (λ l m. omega (arith, g)))
 
 pub +chosen+compared+computed+decided+number-outcome+operand-number+operand-truth+truth-outcome-spec : {M : Type 1} → statement M
 +chosen+compared+computed+decided+number-outcome+operand-number+operand-truth+truth-outcome-spec =

@@ -3,9 +3,9 @@ use mathlib.Core.Path.{sym, ap, _∙_}
 use Prim.Native.Nat.{_<_}
 use native.Mathlib.Omega.{arith}
 use borrow.Author.Needs.{needs}
-use Rattle.records.specs.Refusal.{fault}
-use Rattle.expressions.specs.Outcomes.{truthOutcome}
-use Rattle.expressions.proofs.Outcomes.{truth-fault-in}
+use lib.Dec.{eqb}
+use Rattle.records.specs.Refusal.{val, fault}
+use Rattle.expressions.proofs.Outcomes.{truth-in, truth-fault-in}
 use Rattle.expressions.proofs.values.truth_of.Statement.{statement}
 use Rattle.expressions.proofs.values.truth_of.Tie as tie
 
@@ -16,10 +16,14 @@ reason-requires : tie.Need-reason-requires
 reason-requires c κs = search needs
 
 returns : tie.Need-returns
-returns c = ap truthOutcome (sym (c .match .keys1)) ∙ c .before .truth-outcome .ensures
+returns c =
+    let t = c .before .truth-outcome in
+    ap (λ k. val (eqb k 1)) (sym (c .match .keys1)) ∙ truth-in (t .ensures) (omega (arith, c .match .keys1))
 
 returns-2 : tie.Need-returns-2
-returns-2 c = ap truthOutcome (sym (c .match .keys2)) ∙ c .before .truth-outcome .ensures
+returns-2 c =
+    let t = c .before .truth-outcome in
+    ap (λ k. val (eqb k 1)) (sym (c .match .keys2)) ∙ truth-in (t .ensures) (omega (arith, c .match .keys2))
 
 returns-3 : tie.Need-returns-3
 returns-3 c =

@@ -1,39 +1,68 @@
--- `messages::input::last_kind` is safe and ends: a record for each turn. Assumes nothing.
-use Prim.Native.Nat.{_≤_, _-_}
+-- `messages::input::last_kind` meets its contract: what the kinds come to is what those left come to after the last. Assumes nothing.
+use mathlib.Core.Path.{_≡_, sym, ap, _∙_}
+use mathlib.Core.Bool.{cond, _||_}
+use mathlib.Core.List.{List, map}
+use Prim.Native.Nat.{ℕ, _+_, _-_, _*_, _/_, _≤_, _<_}
+use native.Mathlib.Omega.{arith}
 use borrow.Author.Needs.{needs}
+use lib.Dec.{ltb}
 use lib.ListN.{length}
+use Rattle.records.specs.Bytes.{byte, kind}
+use Rattle.records.proofs.Records.{rest, rest-all, rest-none}
+use Rattle.records.proofs.FramingLaws.{kinds-one}
+use Rattle.messages.specs.LongFiles.{lastKind, lastKindIn}
 use Rattle.messages.proofs.input.last_kind.Statement.{statement}
 use Rattle.messages.proofs.input.last_kind.Tie as tie
 
+left : List ℕ → ℕ → ℕ → ℕ
+left s last i = lastKind last (map kind (rest s i))
+
+left-one : (s : List ℕ) (last i : ℕ) → i < length s / 16 →
+    left s last i ≡ cond (ltb (byte s (16 * i)) last || ltb 6 (byte s (16 * i))) 255 (left s (byte s (16 * i)) (i + 1))
+unfolding lastKind left
+left-one s last i h = ap (lastKind last) (kinds-one s i h)
+
 abbrev Inv-loop : tie.InvT-loop
-Inv-loop s kind last₀ at₀ last at = at ≤ length s
+Inv-loop s kind last₀ i₀ last i = (i ≤ length s / 16) × (lastKindIn s kind ≡ left s last i)
 
 abbrev μ-loop : tie.MeasureT-loop
-μ-loop s kind last₀ at₀ last at = length s - at
+μ-loop s kind last₀ i₀ last i = length s / 16 - i
 
 loop-holds : tie.Need-loop-holds Inv-loop μ-loop
-loop-holds c = search needs
+unfolding left
+loop-holds c = (omega arith, ap (λ rs. lastKind (c .args .kind) (map kind rs)) (sym (rest-all (c .args .s .now))))
 
-sub-loop : tie.Need-sub-loop Inv-loop μ-loop
-sub-loop c = search needs
+mul-k : tie.Need-mul-k Inv-loop μ-loop
+mul-k c = search needs
 
 shared-slice-read-k : tie.Need-shared-slice-read-k Inv-loop μ-loop
 shared-slice-read-k c = search needs
 
 returns : tie.Need-returns Inv-loop μ-loop
-returns c = search needs
+returns c =
+    let s = c .before .before .before .before .args .s .now in
+    let l = c .before .before .before .loop in
+    sym (l .inv .1 ∙ left-one s (l .last) (l .i) (omega arith) ∙ ap (λ b. cond b 255 (left s (byte s (16 * l .i)) (l .i + 1))) (c .if1 .taken))
 
-add-at : tie.Need-add-at Inv-loop μ-loop
-add-at c = search needs
+add-i : tie.Need-add-i Inv-loop μ-loop
+add-i c = search needs
 
 loop-less : tie.Need-loop-less Inv-loop μ-loop
 loop-less c = search needs
 
 loop-again : tie.Need-loop-again Inv-loop μ-loop
-loop-again c = search needs
+loop-again c =
+    let s = c .before .before .before .before .args .s .now in
+    let l = c .before .before .before .loop in
+    (omega arith, l .inv .1 ∙ left-one s (l .last) (l .i) (omega arith) ∙ ap (λ b. cond b 255 (left s (byte s (16 * l .i)) (l .i + 1))) (c .if1 .left))
 
 returns-2 : tie.Need-returns-2 Inv-loop μ-loop
-returns-2 c = search needs
+unfolding lastKind left
+returns-2 c =
+    let s = c .before .before .args .s .now in
+    let l = c .before .loop in
+    let end : l .i ≡ length s / 16 = omega arith in
+    sym (l .inv .1 ∙ ap (λ rs. lastKind (l .last) (map kind rs)) (ap (rest s) end ∙ rest-none s))
 
 pub last-kind-spec : {M : Type 1} → statement M
 last-kind-spec =
@@ -42,10 +71,10 @@ last-kind-spec =
     Inv-loop
     μ-loop
     loop-holds
-    sub-loop
+    mul-k
     shared-slice-read-k
     returns
-    add-at
+    add-i
     loop-less
     loop-again
     returns-2)

@@ -54,21 +54,6 @@ enum-told-15 c = search needs
 enum-told-16 : tie.Need-enum-told-16
 enum-told-16 c = search needs
 
-enum-told-17 : tie.Need-enum-told-17
-enum-told-17 c = search needs
-
-enum-told-18 : tie.Need-enum-told-18
-enum-told-18 c = search needs
-
-enum-told-19 : tie.Need-enum-told-19
-enum-told-19 c = search needs
-
-enum-told-20 : tie.Need-enum-told-20
-enum-told-20 c = search needs
-
-enum-told-21 : tie.Need-enum-told-21
-enum-told-21 c = search needs
-
 returns : tie.Need-returns
 returns c = ap (λ w. refusalNumber (refusalOf w)) (sym (c .enum-told .given .1))
 
@@ -117,21 +102,6 @@ returns-15 c = ap (λ w. refusalNumber (refusalOf w)) (sym (c .enum-told15 .give
 returns-16 : tie.Need-returns-16
 returns-16 c = ap (λ w. refusalNumber (refusalOf w)) (sym (c .enum-told16 .given .1))
 
-returns-17 : tie.Need-returns-17
-returns-17 c = ap (λ w. refusalNumber (refusalOf w)) (sym (c .enum-told17 .given .1))
-
-returns-18 : tie.Need-returns-18
-returns-18 c = ap (λ w. refusalNumber (refusalOf w)) (sym (c .enum-told18 .given .1))
-
-returns-19 : tie.Need-returns-19
-returns-19 c = ap (λ w. refusalNumber (refusalOf w)) (sym (c .enum-told19 .given .1))
-
-returns-20 : tie.Need-returns-20
-returns-20 c = ap (λ w. refusalNumber (refusalOf w)) (sym (c .enum-told20 .given .1))
-
-returns-21 : tie.Need-returns-21
-returns-21 c = ap (λ w. refusalNumber (refusalOf w)) (sym (c .enum-told21 .given .1))
-
 pub refusal-number-spec : {M : Type 1} → statement M
 refusal-number-spec =
     tie.close
@@ -152,11 +122,6 @@ refusal-number-spec =
     enum-told-14
     enum-told-15
     enum-told-16
-    enum-told-17
-    enum-told-18
-    enum-told-19
-    enum-told-20
-    enum-told-21
     returns
     returns-2
     returns-3
@@ -172,9 +137,4 @@ refusal-number-spec =
     returns-13
     returns-14
     returns-15
-    returns-16
-    returns-17
-    returns-18
-    returns-19
-    returns-20
-    returns-21)
+    returns-16)

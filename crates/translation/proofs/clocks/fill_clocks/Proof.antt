@@ -1,16 +1,14 @@
 -- `clocks::fill_clocks` meets its contract: the numbers before t are filled in, and the count is t's number. Assumes nothing.
-use mathlib.Core.Path.{_≡_, sym, ap, _∙_}
+use mathlib.Core.Path.{_≡_, sym, ap, _∙_, subst}
 use Prim.Native.Nat.{ℕ, _+_, _-_, _<_, _≤_}
 use native.Mathlib.Omega.{arith}
 use borrow.Author.Needs.{needs}
 use denote.Ref.{now}
-use mathlib.Core.Bool.{cond}
-use lib.ListN.{length, getD, length-replicate}
-use borrow.Author.Tests.{lt-ltb}
+use lib.ListN.{length, length-replicate}
 use Rattle.model.specs.ChartSet.{readCharts, transition}
-use Rattle.model.specs.Translation.{clocksOf, clockOf}
+use Rattle.model.specs.Translation.{size, clocksOf, clockOf}
 use Rattle.chart_files.proofs.Readings.{transition-is, length-transitions, most-transitions}
-use Rattle.machines.proofs.Filled.{Filled, filled-none, filled-more}
+use Rattle.machines.proofs.Filled.{Filled, filled-none, filled-more, filled-padded}
 use Rattle.translation.proofs.ClockLaws.{clock-none, clock-more}
 use Rattle.translation.proofs.clocks.fill_clocks.Statement.{statement}
 use Rattle.translation.proofs.clocks.fill_clocks.Tie as tie
@@ -81,9 +79,9 @@ returns c =
     let x = entry .args in
     let l = c .before .before .loop in
     let cs = readCharts (now (x .s)) in
-    λ t h.
-    let m : t < l .t = omega (arith, length-transitions (now (x .s)) (x .shape) (entry .pre .0), c .if1 .left) in
-    l .inv .3 .1 t ∙ ap (λ b. cond b (clockOf cs t) (getD (now (x .clocks)) t 0)) (lt-ltb t (l .t) m)
+    let e : l .t ≡ size cs = omega (arith, l .inv .0, length-transitions (now (x .s)) (x .shape) (entry .pre .0), c .if1 .left) in
+    filled-padded (clockOf cs) 0 256 (size cs) (omega (arith, most-transitions (now (x .s)) (x .shape) (entry .pre .0), length-transitions (now (x .s)) (x .shape) (entry .pre .0))) (l .clocks)
+    (subst (λ l₀. Filled (clockOf cs) 0 l₀ (l .clocks) (size cs)) (entry .pre .1) (subst (Filled (clockOf cs) 0 (now (x .clocks)) (l .clocks)) e (l .inv .3)))
 
 pub fill-clocks-spec : {M : Type 1} → statement M
 fill-clocks-spec =

@@ -38,17 +38,8 @@ source-in-states c =
     let x = entry .args in
     omega (arith, c .source-of .ensures, source-known (now (x .s)) (x .shape) (entry .pre .0) (c .before .before .before .loop .t) (c .before .if1 .taken), most-states (now (x .s)) (x .shape) (entry .pre .0 .shape))
 
-cast-leaving : tie.Need-cast-leaving Inv-loop μ-loop
-cast-leaving c = omega (arith, source-in-states c)
-
-add-leaving : tie.Need-add-leaving Inv-loop μ-loop
-add-leaving c = omega (arith, source-in-states c)
-
-cast-crossing : tie.Need-cast-crossing Inv-loop μ-loop
-cast-crossing c = omega (arith, few c)
-
-add-crossing : tie.Need-add-crossing Inv-loop μ-loop
-add-crossing c = omega (arith, few c)
+cast-source : tie.Need-cast-source Inv-loop μ-loop
+cast-source c = omega (arith, source-in-states c)
 
 target-of-requires : tie.Need-target-of-requires Inv-loop μ-loop
 target-of-requires c κs = (c .before .before .before .before .before .pre .0, c .before .if1 .taken)
@@ -94,8 +85,21 @@ few-here c =
     let h : t < size (readCharts (now (x .s))) = omega (arith, k .before .if1 .taken, length-transitions (now (x .s)) (x .shape) (entry .pre .0 .shape)) in
     omega (arith, effects-here c, few-updates-of (now (x .s)) (entry .pre .0 .unrefused) t h, few-resets-of (now (x .s)) (entry .pre .0 .unrefused) t h)
 
-cast-entering : tie.Need-cast-entering Inv-loop μ-loop
-cast-entering c = omega (arith, target-in-states c)
+-- both ends are states
+ends : (c : tie.After-target-of Inv-loop μ-loop) → (c .before .source-of .result < 128) × (c .target-of .result < 128)
+ends c = (source-in-states (c .before), target-in-states c)
+
+cast-target : tie.Need-cast-target Inv-loop μ-loop
+cast-target c = omega (arith, target-in-states c)
+
+add-leaving : tie.Need-add-leaving Inv-loop μ-loop
+add-leaving c = omega (arith, ends c)
+
+cast-crossing : tie.Need-cast-crossing Inv-loop μ-loop
+cast-crossing c = omega (arith, few (c .before))
+
+add-crossing : tie.Need-add-crossing Inv-loop μ-loop
+add-crossing c = omega (arith, few (c .before))
 
 mul-n : tie.Need-mul-n Inv-loop μ-loop
 mul-n c = omega (arith, source-in-states (c .before))
@@ -122,10 +126,10 @@ add-n-2 : tie.Need-add-n-2 Inv-loop μ-loop
 add-n-2 c = omega (arith, few-here (c .before .before .before))
 
 mul-n-4 : tie.Need-mul-n-4 Inv-loop μ-loop
-mul-n-4 c = omega (arith, target-in-states (c .before .before .before))
+mul-n-4 c = omega (arith, ends (c .before .before .before))
 
 element-copy-out-n-4 : tie.Need-element-copy-out-n-4 Inv-loop μ-loop
-element-copy-out-n-4 c = omega (arith, target-in-states (c .before .before .before))
+element-copy-out-n-4 c = omega (arith, ends (c .before .before .before))
 
 add-n-3 : tie.Need-add-n-3 Inv-loop μ-loop
 add-n-3 c = omega (arith, few-here (c .before .before .before .before))
@@ -172,12 +176,12 @@ count-effects-spec =
     μ-loop
     loop-holds
     source-of-requires
-    cast-leaving
+    cast-source
+    target-of-requires
+    cast-target
     add-leaving
     cast-crossing
     add-crossing
-    target-of-requires
-    cast-entering
     mul-n
     element-copy-out-n
     mul-n-2

@@ -5,7 +5,7 @@ use mathlib.Core.List.{map}
 use Prim.Native.Nat.{_+_, _-_, _≤_, _<_, _^_}
 use native.Mathlib.Omega.{arith}
 use denote.Ref.{now}
-use lib.ListN.{length, getD}
+use lib.ListN.{getD}
 use Rattle.records.specs.Lists.{gather, upto}
 use Rattle.model.specs.ChartSet.{readCharts}
 use Rattle.translation.proofs.Written.{Texts, texts-start, texts-step, texts-end, puts-as}
@@ -38,13 +38,8 @@ known-state c =
     let x = entry .args in
     omega (arith, c .before .if1 .taken, most-states (now (x .s)) (x .shape) (entry .pre .0 .shape))
 
-known-row : (c : tie.After-struct-known2 Inv-loop μ-loop) → c .before .before .before .loop .state < length (now (c .before .before .before .before .before .before .args .rows))
-known-row c =
-    let entry = c .before .before .before .before .before .before in
-    omega (arith, c .before .if1 .taken, entry .pre .2 .enough, length-homes (now (entry .args .s)) (entry .args .shape) (entry .pre .0 .shape))
-
 end-here : (c : tie.After-struct-known2 Inv-loop μ-loop) → getD (now (c .before .before .before .before .before .before .args .ends)) (c .before .before .before .loop .state) 0 ≤ 16
-end-here c = c .before .before .before .before .before .before .pre .3 (c .before .before .before .loop .state) (known-row c) (known-state c) .0
+end-here c = c .before .before .before .before .before .before .pre .3 .short (c .before .before .before .loop .state) (known-state c)
 
 cast-end : tie.Need-cast-end Inv-loop μ-loop
 cast-end c = omega (arith, known-state c)
@@ -76,10 +71,9 @@ loop-again c =
     let l = k .before .before .before .loop in
     let p = c .before .before .put-negations in
     let cs = readCharts (now (x .s)) in
-    let end = entry .pre .3 (l .state) (known-row k) (known-state k) in
     texts-step _ _ _ _ _ (l .inv) (k .before .if1 .taken) (p .kept .1 .1 .1 .1 .0)
     (puts-as _
-    (ap (λ ts. literalTexts (x .shape .transitions + l .state) (map (literal cs false) ts)) (above-end (now (x .s)) (x .shape) (entry .pre .0) (now (x .rows)) (entry .pre .2) (l .state) (getD (now (x .ends)) (l .state) 0) (k .before .if1 .taken) (end .0) (end .1))
+    (ap (λ ts. literalTexts (x .shape .transitions + l .state) (map (literal cs false) ts)) (above-end (now (x .s)) (x .shape) (entry .pre .0) (now (x .rows)) (entry .pre .2) (l .state) (getD (now (x .ends)) (l .state) 0) (k .before .if1 .taken) (end-here k) (λ j a b. entry .pre .3 .empty (l .state) j (known-state k) a b))
     ∙ ap (λ n. literalTexts (n + l .state) (idleLiterals cs (l .state))) (sym (length-transitions (now (x .s)) (x .shape) (entry .pre .0 .shape))))
     (p .ensures))
 

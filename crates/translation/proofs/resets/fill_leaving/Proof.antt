@@ -1,11 +1,12 @@
 -- `resets::fill_leaving` meets its contract: the chains are filled down to t. Assumes nothing.
-use mathlib.Core.Path.{_≡_, sym, subst}
+use mathlib.Core.Path.{_≡_, refl, sym, _∙_, subst}
 use Prim.Native.Nat.{ℕ, _+_, _-_, _<_}
 use native.Mathlib.Omega.{arith}
 use borrow.Author.Needs.{needs}
 use denote.Ref.{now}
-use lib.ListN.{replicate}
-use Rattle.chart_files.proofs.Readings.{most-states, most-transitions}
+use lib.ListN.{drop, replicate}
+use lib.Seq.{drop-set-lt}
+use Rattle.chart_files.proofs.Readings.{length-transitions, most-states, most-transitions}
 use Rattle.machines.proofs.Chaining.{Chains, chains-none, chains-more, chains-made}
 use Rattle.charts.proofs.RowLaws.{sourceAt}
 use Rattle.charts.proofs.Sound.{source-known}
@@ -14,7 +15,7 @@ use Rattle.translation.proofs.resets.fill_leaving.Statement.{statement}
 use Rattle.translation.proofs.resets.fill_leaving.Tie as tie
 
 abbrev Inv-loop : tie.InvT-loop
-Inv-loop s shape first₀ next₀ t₀ first next t = Chains (sourceAt s shape) 128 256 (shape .transitions) first next t
+Inv-loop s shape first₀ next₀ t₀ first next t = Chains (sourceAt s shape) 128 256 (shape .transitions) first next t × (drop (shape .transitions) next ≡ drop (shape .transitions) next₀)
 
 abbrev μ-loop : tie.MeasureT-loop
 μ-loop s shape first₀ next₀ t₀ first next t = t
@@ -22,9 +23,11 @@ abbrev μ-loop : tie.MeasureT-loop
 loop-holds : tie.Need-loop-holds Inv-loop μ-loop
 loop-holds c =
     let b = c .before in
-    let x = b .args in
-    subst (λ first. Chains (sourceAt (now (x .s)) (x .shape)) 128 256 (x .shape .transitions) first (now (x .next)) (x .shape .transitions)) (sym (b .pre .1))
-    (subst (λ next. Chains (sourceAt (now (x .s)) (x .shape)) 128 256 (x .shape .transitions) (replicate {A = ℕ} 128 65535) next (x .shape .transitions)) (sym (b .pre .2)) (chains-none (sourceAt (now (x .s)) (x .shape)) 128 256 (x .shape .transitions)))
+    let x = b .args in (
+      subst (λ first. Chains (sourceAt (now (x .s)) (x .shape)) 128 256 (x .shape .transitions) first (now (x .next)) (x .shape .transitions)) (sym (b .pre .1))
+          (subst (λ next. Chains (sourceAt (now (x .s)) (x .shape)) 128 256 (x .shape .transitions) (replicate {A = ℕ} 128 65535) next (x .shape .transitions)) (sym (b .pre .2)) (chains-none (sourceAt (now (x .s)) (x .shape)) 128 256 (x .shape .transitions))),
+      refl,
+    )
 
 sub-t : tie.Need-sub-t Inv-loop μ-loop
 sub-t c = omega arith
@@ -36,13 +39,13 @@ in-file : (c : tie.After-source-of Inv-loop μ-loop) → c .before .before .loop
 in-file c =
     let entry = c .before .before .before .before in
     let x = entry .args in
-    omega (arith, c .before .before .loop .inv .bound, most-transitions (now (x .s)) (x .shape) (entry .pre .0 .shape), c .before .loop-test .taken)
+    omega (arith, c .before .before .loop .inv .0 .bound, most-transitions (now (x .s)) (x .shape) (entry .pre .0 .shape), c .before .loop-test .taken)
 
 in-states : (c : tie.After-source-of Inv-loop μ-loop) → c .source-of .result < 128
 in-states c =
     let entry = c .before .before .before .before in
     let x = entry .args in
-    let h : c .before .before .loop .t - 1 < x .shape .transitions = omega (arith, c .before .before .loop .inv .bound, c .before .loop-test .taken) in
+    let h : c .before .before .loop .t - 1 < x .shape .transitions = omega (arith, c .before .before .loop .inv .0 .bound, c .before .loop-test .taken) in
     omega (arith, c .source-of .ensures, source-known (now (x .s)) (x .shape) (entry .pre .0) (c .before .before .loop .t - 1) h, most-states (now (x .s)) (x .shape) (entry .pre .0 .shape))
 
 cast-source : tie.Need-cast-source Inv-loop μ-loop
@@ -77,20 +80,24 @@ loop-again c =
     let entry = c .before .before .before .before .before in
     let x = entry .args in
     let l = c .before .before .before .loop in
-    let e : l .t ≡ l .t - 1 + 1 = omega (arith, c .before .before .loop-test .taken) in
-    chains-more (sourceAt (now (x .s)) (x .shape)) 128 256 (x .shape .transitions) (l .first) (l .next) (l .t - 1) (c .before .source-of .result)
-    (subst (Chains (sourceAt (now (x .s)) (x .shape)) 128 256 (x .shape .transitions) (l .first) (l .next)) e (l .inv))
-    (omega (arith, most-transitions (now (x .s)) (x .shape) (entry .pre .0 .shape))) (sym (c .before .source-of .ensures)) (omega (arith, in-states (c .before)))
+    let e : l .t ≡ l .t - 1 + 1 = omega (arith, c .before .before .loop-test .taken) in (
+      chains-more (sourceAt (now (x .s)) (x .shape)) 128 256 (x .shape .transitions) (l .first) (l .next) (l .t - 1) (c .before .source-of .result)
+          (subst (Chains (sourceAt (now (x .s)) (x .shape)) 128 256 (x .shape .transitions) (l .first) (l .next)) e (l .inv .0))
+          (omega (arith, most-transitions (now (x .s)) (x .shape) (entry .pre .0 .shape))) (sym (c .before .source-of .ensures)) (omega (arith, in-states (c .before))),
+      drop-set-lt (x .shape .transitions) (l .next) (l .t - 1) _ (omega (arith, l .inv .0 .bound, c .before .before .loop-test .taken)) ∙ l .inv .1,
+    )
 
 returns : tie.Need-returns Inv-loop μ-loop
 returns c =
     let entry = c .before .before .before in
     let x = entry .args in
     let l = c .before .loop in
-    let e : l .t ≡ 0 = omega (arith, c .loop-test .left) in
-    leaving-are (now (x .s)) (x .shape) (entry .pre .0) (l .first) (l .next)
-    (chains-made (sourceAt (now (x .s)) (x .shape)) 128 256 (x .shape .transitions) (l .first) (l .next)
-    (subst (Chains (sourceAt (now (x .s)) (x .shape)) 128 256 (x .shape .transitions) (l .first) (l .next)) e (l .inv)))
+    let e : l .t ≡ 0 = omega (arith, c .loop-test .left) in (
+      leaving-are (now (x .s)) (x .shape) (entry .pre .0) (l .first) (l .next)
+          (chains-made (sourceAt (now (x .s)) (x .shape)) 128 256 (x .shape .transitions) (l .first) (l .next)
+          (subst (Chains (sourceAt (now (x .s)) (x .shape)) 128 256 (x .shape .transitions) (l .first) (l .next)) e (l .inv .0))),
+      subst (λ n. drop n (l .next) ≡ drop n (now (x .next))) (sym (length-transitions (now (x .s)) (x .shape) (entry .pre .0 .shape))) (l .inv .1),
+    )
 
 pub fill-leaving-spec : {M : Type 1} → statement M
 fill-leaving-spec =

@@ -14,6 +14,7 @@ use Rattle.charts.specs.Accepted.{Accepted}
 use Rattle.translation.specs.Tables.{sourceOf}
 use Rattle.translation.specs.Texts.{resetTexts}
 use Rattle.translation.proofs.Written.{Along, along-start, along-rises, along-more, along-end, puts-as}
+use Rattle.translation.proofs.ClockLaws.{clock-at}
 use Rattle.translation.proofs.EdgeLaws.{clockResets, resets-text}
 use Rattle.translation.proofs.resets.put_leaving.Statement.{statement}
 use Rattle.translation.proofs.resets.put_leaving.Tie as tie
@@ -95,7 +96,7 @@ loop-again c =
     let x = entry .args in
     let t = inner .before .loop .t in
     let p = c .before .before .before .put-reset in
-    let clock = entry .pre .1 t (known inner) in
+    let clock = clock-at (readCharts (now (x .s))) (now (x .clocks)) (entry .pre .1) t (known inner) in
     let trigger = c .before .before .before .before .before .trigger-of .ensures ∙ ap (λ y. y .trigger) (sym (transition-is (now (x .s)) (x .shape) (entry .pre .0 .shape) t (inside inner .0))) in
     along-more _ _ _ (now (x .first)) (now (x .next)) (entry .pre .2) (few (now (x .s)) (x .shape) (entry .pre .0)) (x .state) (small (now (x .s)) (x .shape) (x .state) (entry .pre .0) (entry .pre .3)) _ _ _ (inner .before .loop .inv) (inner .loop-test .taken)
     (p .kept .1 .1 .0)

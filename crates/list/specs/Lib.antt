@@ -1,0 +1,4 @@
+pub mod Parts
+pub mod Sets
+pub mod Tables
+pub mod Listing
