@@ -12,26 +12,8 @@ path-back-requires c κs = search needs
 enum-known-w : tie.Need-enum-known-w
 enum-known-w c = search needs
 
-tell-file-requires : tie.Need-tell-file-requires
-tell-file-requires c κs = search needs
-
-enum-told : tie.Need-enum-told
-enum-told c = search needs
-
-path-number-requires : tie.Need-path-number-requires
-path-number-requires c κs = search needs
-
-tell-number-requires : tie.Need-tell-number-requires
-tell-number-requires c κs = search needs
-
-enum-told-2 : tie.Need-enum-told-2
-enum-told-2 c = search needs
-
-rows-number-requires : tie.Need-rows-number-requires
-rows-number-requires c κs = search needs
-
-tell-number-requires-2 : tie.Need-tell-number-requires-2
-tell-number-requires-2 c κs = search needs
+tell-refusal-requires : tie.Need-tell-refusal-requires
+tell-refusal-requires c κs = search needs
 
 enum-known-n : tie.Need-enum-known-n
 enum-known-n c = search needs
@@ -55,38 +37,16 @@ same-length-2 c = search needs
 returns-2 : tie.Need-returns-2
 returns-2 c = search needs
 
-same-length-3 : tie.Need-same-length-3
-same-length-3 c = search needs
-
-returns-3 : tie.Need-returns-3
-returns-3 c = search needs
-
-same-length-4 : tie.Need-same-length-4
-same-length-4 c = search needs
-
-returns-4 : tie.Need-returns-4
-returns-4 c = search needs
-
 pub lead-spec : {M : Type 1} → statement M
 lead-spec =
     tie.close
     (tie.spec
     path-back-requires
     enum-known-w
-    tell-file-requires
-    enum-told
-    path-number-requires
-    tell-number-requires
-    enum-told-2
-    rows-number-requires
-    tell-number-requires-2
+    tell-refusal-requires
     enum-known-n
     print-rows-requires
     same-length
     returns
     same-length-2
-    returns-2
-    same-length-3
-    returns-3
-    same-length-4
-    returns-4)
+    returns-2)

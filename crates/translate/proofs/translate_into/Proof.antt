@@ -14,17 +14,8 @@ translate-requires c κs = search needs
 enum-known-w : tie.Need-enum-known-w
 enum-known-w c = search needs
 
-tell-file-requires : tie.Need-tell-file-requires
-tell-file-requires c κs = search needs
-
-enum-told : tie.Need-enum-told
-enum-told c = search needs
-
-buffer-number-requires : tie.Need-buffer-number-requires
-buffer-number-requires c κs = search needs
-
-tell-number-requires : tie.Need-tell-number-requires
-tell-number-requires c κs = search needs
+tell-refusal-requires : tie.Need-tell-refusal-requires
+tell-refusal-requires c κs = search needs
 
 enum-known-n : tie.Need-enum-known-n
 enum-known-n c = search needs
@@ -58,22 +49,13 @@ same-length-2 c = search needs
 returns-2 : tie.Need-returns-2
 returns-2 c = search needs
 
-same-length-3 : tie.Need-same-length-3
-same-length-3 c = search needs
-
-returns-3 : tie.Need-returns-3
-returns-3 c = search needs
-
 pub translate-into-spec : {M : Type 1} → statement M
 translate-into-spec =
     tie.close
     (tie.spec
     translate-requires
     enum-known-w
-    tell-file-requires
-    enum-told
-    buffer-number-requires
-    tell-number-requires
+    tell-refusal-requires
     enum-known-n
     slice-reshare-prefix-write-twin
     slice-aggregate-write-twin
@@ -81,6 +63,4 @@ translate-into-spec =
     same-length
     returns
     same-length-2
-    returns-2
-    same-length-3
-    returns-3)
+    returns-2)
