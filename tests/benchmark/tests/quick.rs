@@ -16,7 +16,11 @@ fn text(output: Output) -> String {
 #[test]
 fn times() {
     let text = text(benchmark(&["--quick"]));
-    assert!(text.contains(&format!(" of {LINES} lines within 1.5")), "{text}");
+    let close = format!(" of {LINES} lines within 1.5");
+    let within = text.lines().find_map(|line| line.split_once(&close)).expect("a closing line").0;
+    let within: usize = within.trim().parse().expect("a number");
+    // few repetitions are rough: code that became twice as slow shows, a busy machine does not
+    assert!(within >= 20, "{text}");
 }
 
 /// Two works of each side, and a third side where the file can be kept.

@@ -8,7 +8,7 @@ use simulator::Random;
 
 fn compare(bytes: &[u8], met: &mut [usize; 10]) {
     let right = charts::check(bytes);
-    assert_eq!(charts_check(bytes).unsigned_abs(), right, "{bytes:?}");
+    assert_eq!(charts_check(bytes), -(right as i32), "{bytes:?}");
     let lowest = charts::applying(bytes).iter().position(|applies| *applies).unwrap_or(0);
     assert_eq!(lowest as u32, right, "{bytes:?}");
     met[right as usize] += 1;
@@ -45,7 +45,7 @@ fn damaged_twice() {
             if let Some(bad) = set_damage::damage_pair(&mut random, &set, low, high) {
                 let applying = charts::applying(&bad.bytes);
                 assert!(applying[low as usize] && applying[high as usize], "{:?}", bad.clauses);
-                assert_eq!(charts_check(&bad.bytes).unsigned_abs(), low, "{:?}", bad.clauses);
+                assert_eq!(charts_check(&bad.bytes), -(low as i32), "{:?}", bad.clauses);
                 compare(&bad.bytes, &mut met);
                 made += 1;
             }

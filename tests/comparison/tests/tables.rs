@@ -15,7 +15,7 @@ use simulator::{ChartSet, Random};
 /// Compares a file, and counts the clause that it breaks alone, or that it breaks several or none.
 fn compare(bytes: &[u8], met: &mut Met) {
     let right = automata::check(bytes);
-    assert_eq!(automata_check(bytes).unsigned_abs(), right, "{bytes:?}");
+    assert_eq!(automata_check(bytes), -(right as i32), "{bytes:?}");
     let broken = broken_clauses(bytes);
     assert_eq!(broken.is_empty(), right == 0, "{broken:?} in {bytes:?}");
     met.add(match broken[..] {
