@@ -243,7 +243,7 @@ pub fn cycle_in_place(
     }
 }
 
-// A cycle of any run, in place, after the checks: all its turns, or none. After it there are no events, at position 1.
+// A cycle of any run, in place, after the checks. After it there are no events, at position 1; of the places after a fault nothing is said.
 pub fn cycle_checked(
     s: &[u8],
     shape: Shape,

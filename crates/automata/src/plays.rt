@@ -108,10 +108,13 @@ fn cycles_played(
     shape: Shape,
     first: &[u16; 896],
     next: &[u16],
+    turn: &[u16; 256],
+    cap: &[u16; 256],
     run: Run,
     masks: &[u32],
 ) -> Played
     requires { ⌜ Known (now s) shape (now first) (now next) ⌝ }
+    requires { ⌜ HasLimits (now s) shape (now turn) (now cap) ⌝ }
     ensures { λ r. ⌜ playedOf r ≡ settled (runOf run) (playing (machine (readAutomata (now (s .entry)))) (now (masks .entry)) (runOf run)) ⌝ }
 {
     if masks.len() == 0 {
@@ -120,9 +123,6 @@ fn cycles_played(
             run,
         };
     }
-    let mut turn = [65535u16; 256];
-    let mut cap = [65535u16; 256];
-    limits_of(s, shape, &mut turn, &mut cap);
     let mut locations = run.locations;
     let mut clocks = run.clocks;
     let mut variables = run.variables;
@@ -131,8 +131,8 @@ fn cycles_played(
         shape,
         first,
         next,
-        &turn,
-        &cap,
+        turn,
+        cap,
         &mut locations,
         &mut clocks,
         &mut variables,
@@ -143,7 +143,7 @@ fn cycles_played(
     ) {
         Ending::Done => {
             let after = run_in(&locations, &clocks, &variables, 0, 1, run.cycles + 1);
-            let rest = rest_played(s, shape, first, next, &turn, &cap, after, &masks[1..]);
+            let rest = rest_played(s, shape, first, next, turn, cap, after, &masks[1..]);
             let last = rest.run;
             Played {
                 answer: Cycles::Done(rest.count + 1),
@@ -161,15 +161,18 @@ fn cycles_played(
     }
 }
 
-// The same, with the index in what is lent, which names nothing yet.
+// The same, with the clocks' limits, and the index in what is lent, which names nothing yet.
 fn play_indexed(s: &[u8], shape: Shape, next: &mut [u16], run: Run, masks: &[u32]) -> Played
     requires { ⌜ Accepted (now s) shape ⌝ }
     requires { ⌜ RoomFor shape (now next) ⌝ }
     ensures { λ r. ⌜ playedOf r ≡ settled (runOf run) (playing (machine (readAutomata (now (s .entry)))) (now (masks .entry)) (runOf run)) ⌝ }
 {
     let mut first = [65535u16; 896];
+    let mut turn = [65535u16; 256];
+    let mut cap = [65535u16; 256];
     index_of(s, shape, &mut first, next);
-    cycles_played(s, shape, &first, next, run, masks)
+    limits_of(s, shape, &mut turn, &mut cap);
+    cycles_played(s, shape, &first, next, &turn, &cap, run, masks)
 }
 
 // Many cycles of an accepted table. The index is that of a turn.

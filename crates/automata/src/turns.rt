@@ -28,7 +28,7 @@ pub struct Turned {
     pub run: Run,
 }
 
-// An automaton's turn, and the next position.
+// An automaton's turn, and the next position. After a fault the places are of no use.
 fn automaton_turn(
     s: &[u8],
     shape: Shape,

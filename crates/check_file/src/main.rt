@@ -32,7 +32,7 @@ fn check_set(s: &[u8]) {
 
 fn check_table(s: &[u8]) {
     match automata_files::check(s) {
-        automata_files::Checked::Refused => tell_table(s),
+        automata_files::Checked::Refused(_) => tell_table(s),
         automata_files::Checked::Accepted(shape) => print_table(shape),
     }
 }

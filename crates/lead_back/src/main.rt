@@ -11,14 +11,10 @@ use messages::input::argument;
 use messages::input::arguments;
 use messages::input::fill;
 use messages::input::read_file;
-use messages::numbers::path_number;
-use messages::numbers::rows_number;
 use messages::texts::row_into;
 use messages::words::print;
-use messages::words::tell_file;
-use messages::words::tell_number;
+use messages::words::tell_refusal;
 use paths::Led;
-use paths::path_back;
 
 // Whether it was written.
 fn print_row(cycle: u32, chart: u32, transition: u32) -> bool {
@@ -41,10 +37,8 @@ fn print_rows(rows: &[u32], count: usize)
 }
 
 fn lead(s: &[u8], path: &[u16], rows: &mut [u32]) {
-    match path_back(s, path, rows) {
-        Led::Refused(w) => tell_file(w),
-        Led::Broken => tell_number(path_number()),
-        Led::Short => tell_number(rows_number()),
+    match calls::sets::path_back(s, path, rows) {
+        Led::Refused(w) => tell_refusal(w),
         Led::Rows(n) => print_rows(rows, n),
     }
 }

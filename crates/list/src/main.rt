@@ -111,7 +111,7 @@ fn list_set(s: &[u8]) {
 
 fn list_table(s: &[u8]) {
     match automata_files::check(s) {
-        automata_files::Checked::Refused => tell_table(s),
+        automata_files::Checked::Refused(_) => tell_table(s),
         automata_files::Checked::Accepted(_) => list(s),
     }
 }

@@ -5,12 +5,11 @@ ghost use lib.Dec.{leb};
 ghost use lib.ListN.{length};
 ghost use Rattle.io.specs.Counts.{Counts};
 ghost use Rattle.records.specs.Bytes.{byte};
-ghost use Rattle.chart_files.specs.Shape.{refusalFor};
+ghost use Rattle.records.specs.RefusalOf.{refusalOf};
 ghost use Rattle.messages.specs.LongFiles.{lastKindIn, longRefusal};
-use crate::numbers::table_number;
-use crate::words::tell_file;
-use crate::words::tell_number;
+use crate::words::tell_refusal;
 use libc::STDERR_FILENO;
+use records::refusals::Refusal;
 
 // So many bytes were read; where a read failed there may be more.
 pub struct Got {
@@ -132,16 +131,16 @@ fn next_part(fd: i32, buf: &mut [u8], kind: u8) -> Part {
 }
 
 // Its parts are full but for the last; what they are full of is whole records.
-fn long_refusal(size: usize, kind: u8) -> chart_files::Refusal
-    ensures { λ r. ⌜ refusalFor r ≡ longRefusal size kind ⌝ }
+fn long_refusal(size: usize, kind: u8) -> Refusal
+    ensures { λ r. ⌜ refusalOf r ≡ longRefusal size kind ⌝ }
 {
     if size % 16 != 0 {
-        return chart_files::Refusal::OddLength;
+        return Refusal::OddLength;
     }
     if kind == 255 {
-        return chart_files::Refusal::UnorderedKinds;
+        return Refusal::UnorderedKinds;
     }
-    chart_files::Refusal::WrongAmounts
+    Refusal::WrongAmounts
 }
 
 // A set with more than the first part, which is more than the most of all kinds together: it is read on, as refusals 1 and 2 depend on its end.
@@ -156,7 +155,7 @@ fn refuse_long(fd: i32, name: &[u8], buf: &mut [u8]) {
         }
         kind = part.kind;
         if part.size < buf.len() {
-            tell_file(long_refusal(part.size, kind));
+            tell_refusal(long_refusal(part.size, kind));
             return;
         }
         left -= 1;
@@ -171,7 +170,7 @@ fn refuse_full(fd: i32, name: &[u8], buf: &mut [u8], form: Form) {
         Form::Either => is_table(buf),
     };
     if table {
-        tell_number(table_number());
+        tell_refusal(Refusal::BadTable);
     } else {
         refuse_long(fd, name, buf);
     }

@@ -1,11 +1,10 @@
 // Refusals and faults in words: a line of their number and meaning on standard error.
-use crate::numbers::file_number;
-use crate::numbers::reason_number;
-use crate::numbers::refusal_number;
-use crate::numbers::twin_reason_number;
-use crate::numbers::twin_refusal_number;
 use libc::STDERR_FILENO;
 use libc::STDOUT_FILENO;
+use machines::answers::Reason;
+use machines::answers::reason_number;
+use records::refusals::Refusal;
+use records::refusals::refusal_number;
 
 // Of a chart file.
 fn file_meaning(number: u8) {
@@ -70,29 +69,12 @@ fn tell(word: &[u8], number: u8) {
     io::write_all(STDERR_FILENO, b"\n");
 }
 
-// A refusal by its number.
-pub fn tell_number(number: u8) {
-    tell(b"refusal ", number);
-}
-
-pub fn tell_file(w: chart_files::Refusal) {
-    tell(b"refusal ", file_number(w));
-}
-
-pub fn tell_refusal(w: charts::turns::Refusal) {
+pub fn tell_refusal(w: Refusal) {
     tell(b"refusal ", refusal_number(w));
 }
 
-pub fn tell_fault(w: machines::deeds::Reason) {
+pub fn tell_fault(w: Reason) {
     tell(b"fault ", reason_number(w));
-}
-
-pub fn tell_twin_refusal(w: automata::turns::Refusal) {
-    tell(b"refusal ", twin_refusal_number(w));
-}
-
-pub fn tell_twin_fault(w: automata::steps::Reason) {
-    tell(b"fault ", twin_reason_number(w));
 }
 
 // Whether a text went to standard output; else that is told.

@@ -1,25 +1,8 @@
 // The readers.
 ghost use mathlib.Core.Path.{_≡_};
 ghost use Rattle.model.specs.Calls.{chartSets, automataTables, check, numbered};
-ghost use Rattle.chart_files.specs.Shape.{refusalFor};
-ghost use Rattle.monuvaleck.specs.Numbers.{refusedCode, doneCode};
-use chart_files::Refusal;
-
-pub fn file_code(w: Refusal) -> i32
-    ensures { λ r. ⌜ r ≡ refusedCode (refusalFor w) ⌝ }
-{
-    match w {
-        Refusal::OddLength => -1,
-        Refusal::UnorderedKinds => -2,
-        Refusal::WrongAmounts => -3,
-        Refusal::StrayByte => -4,
-        Refusal::BrokenCode => -5,
-        Refusal::DanglingNumber => -6,
-        Refusal::BrokenStructure => -7,
-        Refusal::BrokenNode => -8,
-        Refusal::ZeroTicks => -9,
-    }
-}
+ghost use Rattle.machines.specs.Answers.{doneCode};
+use machines::answers::refused_code;
 
 // 0 where a chart set is accepted.
 #[no_mangle]
@@ -28,7 +11,7 @@ pub extern "C" fn charts_check(s: &[u8]) -> i32
 {
     match chart_files::check(s) {
         chart_files::Checked::Accepted(_) => 0,
-        chart_files::Checked::Refused(w) => file_code(w),
+        chart_files::Checked::Refused(w) => refused_code(w),
     }
 }
 
@@ -39,6 +22,6 @@ pub extern "C" fn automata_check(s: &[u8]) -> i32
 {
     match automata_files::check(s) {
         automata_files::Checked::Accepted(_) => 0,
-        automata_files::Checked::Refused => -11,
+        automata_files::Checked::Refused(w) => refused_code(w),
     }
 }

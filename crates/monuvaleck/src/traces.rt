@@ -4,9 +4,9 @@ ghost use Prim.Native.Nat.{ℕ, _≤_};
 ghost use Rattle.records.specs.Refusal.{val};
 ghost use Rattle.model.specs.Calls.{numbered};
 ghost use Rattle.model.specs.PathBack.{pathBack};
+ghost use Rattle.machines.specs.Answers.{countCode};
 ghost use Rattle.paths.specs.LedOf.{answerOf};
-ghost use Rattle.monuvaleck.specs.Numbers.{countCode};
-use super::files::file_code;
+use machines::answers::refused_code;
 use paths::Led;
 
 fn led_code(led: Led) -> i32
@@ -15,9 +15,7 @@ fn led_code(led: Led) -> i32
 {
     match led {
         Led::Rows(n) => n as i32,
-        Led::Refused(w) => file_code(w),
-        Led::Broken => -20,
-        Led::Short => -21,
+        Led::Refused(w) => refused_code(w),
     }
 }
 
@@ -27,6 +25,6 @@ pub extern "C" fn path_back(s: &[u8], path: &[u16], rows: &mut [u32]) -> i32
     ensures { λ r. ⌜ r ≡ numbered countCode (pathBack (now (s .entry)) (now (path .entry)) (now (rows .entry)) .answer) ⌝ }
     ensures { λ _. ⌜ now (rows .exit) ≡ pathBack (now (s .entry)) (now (path .entry)) (now (rows .entry)) .lent ⌝ }
 {
-    let led = paths::path_back(s, path, rows);
+    let led = calls::sets::path_back(s, path, rows);
     led_code(led)
 }

@@ -4,9 +4,9 @@ ghost use Prim.Native.Nat.{ℕ, _≤_};
 ghost use Rattle.records.specs.Refusal.{val};
 ghost use Rattle.model.specs.Calls.{numbered};
 ghost use Rattle.model.specs.Translation.{translate};
+ghost use Rattle.machines.specs.Answers.{countCode};
 ghost use Rattle.translation.specs.Answer.{answerOf};
-ghost use Rattle.monuvaleck.specs.Numbers.{countCode};
-use super::files::file_code;
+use machines::answers::refused_code;
 use translation::Translated;
 
 fn translated_code(answer: Translated) -> i32
@@ -15,8 +15,7 @@ fn translated_code(answer: Translated) -> i32
 {
     match answer {
         Translated::Written(n) => n as i32,
-        Translated::Short => -10,
-        Translated::Refused(w) => file_code(w),
+        Translated::Refused(w) => refused_code(w),
     }
 }
 
@@ -26,6 +25,6 @@ pub extern "C" fn charts_translate(s: &[u8], out: &mut [u8]) -> i32
     ensures { λ r. ⌜ r ≡ numbered countCode (translate (now (s .entry)) (now (out .entry)) .answer) ⌝ }
     ensures { λ _. ⌜ now (out .exit) ≡ translate (now (s .entry)) (now (out .entry)) .lent ⌝ }
 {
-    let answer = translation::translate(s, out);
+    let answer = calls::sets::translate(s, out);
     translated_code(answer)
 }

@@ -3,9 +3,9 @@ use findings::Found;
 use findings::Rule;
 use findings::find;
 use libc::STDERR_FILENO;
-use messages::numbers::file_number;
-use messages::numbers::table_number;
 use messages::words::say;
+use records::refusals::Refusal;
+use records::refusals::refusal_number;
 
 // Whether there is such a record, of which it is told what is wrong.
 fn tell_record(s: &[u8], rule: Rule, words: &[u8]) -> bool {
@@ -21,13 +21,13 @@ fn tell_record(s: &[u8], rule: Rule, words: &[u8]) -> bool {
     }
 }
 
-pub fn tell_set(s: &[u8], w: chart_files::Refusal) {
-    say(b"refusal ", file_number(w));
+pub fn tell_set(s: &[u8], w: Refusal) {
+    say(b"refusal ", refusal_number(w));
     match w {
-        chart_files::Refusal::UnorderedKinds => tell_record(s, Rule::SetKinds, b": unknown"),
-        chart_files::Refusal::StrayByte => tell_record(s, Rule::SetBytes, b""),
-        chart_files::Refusal::BrokenCode => tell_record(s, Rule::SetCodes, b""),
-        chart_files::Refusal::ZeroTicks => tell_record(s, Rule::SetTicks, b""),
+        Refusal::UnorderedKinds => tell_record(s, Rule::SetKinds, b": unknown"),
+        Refusal::StrayByte => tell_record(s, Rule::SetBytes, b""),
+        Refusal::BrokenCode => tell_record(s, Rule::SetCodes, b""),
+        Refusal::ZeroTicks => tell_record(s, Rule::SetTicks, b""),
         _ => false,
     }
     ;
@@ -36,7 +36,7 @@ pub fn tell_set(s: &[u8], w: chart_files::Refusal) {
 
 // What is told of 11 is the first of 2, 4 and 5 that a record breaks.
 pub fn tell_table(s: &[u8]) {
-    say(b"refusal ", table_number());
+    say(b"refusal ", refusal_number(Refusal::BadTable));
     if !tell_record(s, Rule::TableKinds, b": kind unknown") {
         if !tell_record(s, Rule::TableBytes, b": an unnamed or unused byte not zero") {
             tell_record(s, Rule::TableCodes, b": a code or range broken");

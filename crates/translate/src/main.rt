@@ -9,13 +9,10 @@ use messages::input::Form;
 use messages::input::argument;
 use messages::input::arguments;
 use messages::input::read_file;
-use messages::numbers::buffer_number;
 use messages::texts::written_into;
 use messages::words::print;
-use messages::words::tell_file;
-use messages::words::tell_number;
+use messages::words::tell_refusal;
 use translation::Translated;
-use translation::translate;
 
 fn print_written(size: u32, shape: Shape) {
     let mut text = io::buffer();
@@ -48,7 +45,7 @@ fn write_twin(name: &[u8], twin: &[u8])
         return;
     }
     match shape_of(twin) {
-        Checked::Refused => (),
+        Checked::Refused(_) => (),
         Checked::Accepted(shape) => print_written(twin.len() as u32, shape),
     }
 }
@@ -57,9 +54,8 @@ fn write_twin(name: &[u8], twin: &[u8])
 fn translate_into(s: &[u8], name: &[u8], twin: &mut [u8])
     requires { ⌜ length (now twin) ≤ 232576 ⌝ }
 {
-    match translate(s, twin) {
-        Translated::Refused(w) => tell_file(w),
-        Translated::Short => tell_number(buffer_number()),
+    match calls::sets::translate(s, twin) {
+        Translated::Refused(w) => tell_refusal(w),
         Translated::Written(n) => write_twin(name, &twin[..n]),
     }
 }

@@ -15,10 +15,9 @@ use Rattle.model.specs.Automata.{automata}
 use Rattle.machines.specs.Answers.{reasonOf}
 use Rattle.machines.specs.Playing.{played, stoppedAt}
 use Rattle.machines.proofs.Playing.{went-none, went-more, went-stop, went-all}
-use Rattle.automata.specs.RunOf.{runIn, runOf, Sized, HasLimits}
+use Rattle.automata.specs.RunOf.{runIn, runOf, Sized}
 use Rattle.automata.specs.TurnOf.{endedOf}
 use Rattle.automata.specs.PlayedOf.{Rested}
-use Rattle.automata.proofs.Clocks.{room-for-limits, has-limits}
 use Rattle.automata.proofs.PlayLaws.{rested-next, rested-few, told-later}
 use Rattle.automata.proofs.plays.cycles_played.Statement.{statement}
 use Rattle.automata.proofs.plays.cycles_played.Tie as tie
@@ -35,65 +34,59 @@ returns c =
 some-mask : (c : tie.Else1) → 0 < length (now (c .before .before .before .before .args .masks))
 some-mask c = let h = c .if1 .left in omega (arith, h)
 
-limits-of-requires : tie.Need-limits-of-requires
-limits-of-requires c κs = (c .before .before .before .before .before .before .pre .accepted, room-for-limits)
-
 shared-slice-read-cycle-checked : tie.Need-shared-slice-read-cycle-checked
-shared-slice-read-cycle-checked c = some-mask (c .before .before .before .before .before .before .before .before .before .before .before .before)
-
-limits : (c : tie.After-limits-of) → let x = c .limits-of in HasLimits (now (c .before .before .before .before .before .before .before .args .s)) (c .before .before .before .before .before .before .before .args .shape) (x .last .1 .1 .0) (x .last .1 .1 .1 .0)
-limits c = let b = c .before .before .before .before .before .before .before in has-limits (now (b .args .s)) (b .args .shape) (b .pre .accepted .shape) _ _ _ _ room-for-limits (c .limits-of .ensures)
+shared-slice-read-cycle-checked c = some-mask (c .before .before .before .before .before .before .before)
 
 sized : (c : tie.Start) → Sized (c .args .run .locations) (c .args .run .clocks) (c .args .run .variables)
 sized c = search needs
 
 cycle-checked-requires : tie.Need-cycle-checked-requires
-cycle-checked-requires c κs = (c .before .before .before .before .before .before .before .before .before .before .before .before .before .before .before .before .pre, (sized (c .before .before .before .before .before .before .before .before .before .before .before .before .before .before .before .before), limits (c .before .before .before .before .before .before .before .before .before)))
+cycle-checked-requires c κs = let b = c .before .before .before .before .before .before .before .before .before .before .before in (b .pre .0, (sized b, b .pre .1))
 
 -- the run that the first cycle left in the places, and the cycle from its answer
 abbrev left : tie.After-cycle-checked → Run
-left c = let l = c .cycle-checked .last in runIn (l .1 .1 .1 .1 .1 .1 .0) (l .1 .1 .1 .1 .1 .1 .1 .0) (l .1 .1 .1 .1 .1 .1 .1 .1 .0) 0 1 (c .before .before .before .before .before .before .before .before .before .before .before .before .before .before .before .before .before .args .run .cycles + 1)
+left c = let l = c .cycle-checked .last in runIn (l .1 .1 .1 .1 .1 .1 .0) (l .1 .1 .1 .1 .1 .1 .1 .0) (l .1 .1 .1 .1 .1 .1 .1 .1 .0) 0 1 (c .before .before .before .before .before .before .before .before .before .before .before .before .args .run .cycles + 1)
 
-cycling : (c : tie.After-cycle-checked) → let x = c .before .before .before .before .before .before .before .before .before .before .before .before .before .before .before .before .before .args in cycle (automata (readAutomata (now (x .s)))) (getD (now (x .masks)) 0 0) (runOf (x .run)) ≡ endedOf (c .cycle-checked .result) (left c)
+cycling : (c : tie.After-cycle-checked) → let x = c .before .before .before .before .before .before .before .before .before .before .before .before .args in cycle (automata (readAutomata (now (x .s)))) (getD (now (x .masks)) 0 0) (runOf (x .run)) ≡ endedOf (c .cycle-checked .result) (left c)
 cycling c = sym (c .cycle-checked .ensures)
 
 enum-told : tie.Need-enum-told
 enum-told c = search needs
 
 -- it was done, and left a run that can go on
-done : (c : tie.After-enum-told) → let x = c .before .before .before .before .before .before .before .before .before .before .before .before .before .before .before .before .before .before .before .args in cycle (automata (readAutomata (now (x .s)))) (getD (now (x .masks)) 0 0) (runOf (x .run)) ≡ val (tt, left (c .before .before))
+done : (c : tie.After-enum-told) → let x = c .before .before .before .before .before .before .before .before .before .before .before .before .before .before .args in cycle (automata (readAutomata (now (x .s)))) (getD (now (x .masks)) 0 0) (runOf (x .run)) ≡ val (tt, left (c .before .before))
 done c = let t = c .before .before in cycling t ∙ ap (λ a. endedOf a (left t)) (c .enum-told .given .1)
 
-rests : (c : tie.After-enum-told) → Rested (automata (readAutomata (now (c .before .before .before .before .before .before .before .before .before .before .before .before .before .before .before .before .before .before .before .args .s)))) (left (c .before .before))
+rests : (c : tie.After-enum-told) → Rested (automata (readAutomata (now (c .before .before .before .before .before .before .before .before .before .before .before .before .before .before .args .s)))) (left (c .before .before))
 rests c =
-    let b = c .before .before .before .before .before .before .before .before .before .before .before .before .before .before .before .before .before .before .before in
-    rested-next (now (b .args .s)) (b .args .shape) (b .pre .accepted) (getD (now (b .args .masks)) 0 0) (runOf (b .args .run)) (left (c .before .before)) (done c) .0
+    let b = c .before .before .before .before .before .before .before .before .before .before .before .before .before .before in
+    rested-next (now (b .args .s)) (b .args .shape) (b .pre .0 .accepted) (getD (now (b .args .masks)) 0 0) (runOf (b .args .run)) (left (c .before .before)) (done c) .0
 
 add-run-in : tie.Need-add-run-in
 add-run-in c =
     let d = c .before .before .before .before in
-    let b = d .before .before .before .before .before .before .before .before .before .before .before .before .before .before .before .before .before .before .before in
-    omega (arith, rested-few (now (b .args .s)) (b .args .shape) (b .pre .accepted) (left (d .before .before)) (rests d))
+    let b = d .before .before .before .before .before .before .before .before .before .before .before .before .before .before in
+    omega (arith, rested-few (now (b .args .s)) (b .args .shape) (b .pre .0 .accepted) (left (d .before .before)) (rests d))
 
 run-in-requires : tie.Need-run-in-requires
 run-in-requires c κs = search needs
 
 sub-rest-played : tie.Need-sub-rest-played
-sub-rest-played c = omega (arith, some-mask (c .before .before .before .before .before .before .before .before .before .before .before .before .before .before .before .before .before .before .before .before .before .before))
+sub-rest-played c = omega (arith, some-mask (c .before .before .before .before .before .before .before .before .before .before .before .before .before .before .before))
 
 part-rest-played-start : tie.Need-part-rest-played-start
-part-rest-played-start c = omega (arith, some-mask (c .before .before .before .before .before .before .before .before .before .before .before .before .before .before .before .before .before .before .before .before .before .before))
+part-rest-played-start c = omega (arith, some-mask (c .before .before .before .before .before .before .before .before .before .before .before .before .before .before .before))
 
 part-rest-played-end : tie.Need-part-rest-played-end
 part-rest-played-end c = omega arith
 
 rest-played-requires : tie.Need-rest-played-requires
 rest-played-requires c κs =
-    let b = c .before .before .before .before .before .before .before .before .before .before .before .before .before .before .before .before .before .before .before .before .before .before .before .before .before .before .before in
-    (b .pre, (limits (c .before .before .before .before .before .before .before .before .before .before .before .before .before .before .before .before .before .before .before .before), subst (Rested (automata (readAutomata (now (b .args .s))))) (sym (c .before .before .before .run-in .ensures)) (rests (c .before .before .before .before .before .before .before .before))))
+    let b = c .before .before .before .before .before .before .before .before .before .before .before .before .before .before .before .before .before .before .before .before in
+    (b .pre .0, (b .pre .1, subst (Rested (automata (readAutomata (now (b .args .s))))) (sym (c .before .run-in .ensures)) (rests (c .before .before .before .before .before .before))))
 
-add-t35 : tie.Need-add-t35
-add-t35 c = omega (arith, c .before .before .rest-played .ensures .few)
+add-t30 : tie.Need-add-t30
+add-t30 c = omega (arith, c .before .before .rest-played .ensures .few)
 
 enum-known-w : tie.Need-enum-known-w
 enum-known-w c = search needs
@@ -103,10 +96,10 @@ enum-known-w-2 c = search needs
 
 returns-2 : tie.Need-returns-2
 returns-2 c =
-    let x = c .before .before .before .before .before .before .before .before .before .before .before .before .before .before .before .before .before .before .before .before .before .before .before .before .before .before .before .before .before .before .args in
+    let x = c .before .before .before .before .before .before .before .before .before .before .before .before .before .before .before .before .before .before .before .before .before .before .before .args in
     let m = automata (readAutomata (now (x .s))) in
     let masks = now (x .masks) in
-    let q = runOf (c .before .before .before .before .before .before .run-in .result) in
+    let q = runOf (c .before .before .before .before .run-in .result) in
     let y = c .before .before .rest-played in
     let rest = take-all (length masks - 1) (drop 1 masks) (omega (arith, length-drop 1 masks)) in
     let p = played m (drop 1 masks) q in
@@ -116,34 +109,33 @@ returns-2 c =
     ∙ ap (settled (runOf (x .run))) (told-later (p .count) (y .result .count + 1) (p .run) (p .stop) (ap (λ n. n + 1) number))
     ∙ sym
     (ap (λ p. settled (runOf (x .run)) (stoppedAt (p .count) (p .run) (p .stop)))
-    (went-more m masks (runOf (x .run)) 0 (runOf (x .run)) q (some-mask (c .before .before .before .before .before .before .before .before .before .before .before .before .before .before .before .before .before .before .before .before .before .before .before .before .before .before)) (went-none m masks (runOf (x .run))) (done (c .before .before .before .before .before .before .before .before .before .before .before) ∙ ap (λ r. val (tt, r)) (sym (c .before .before .before .before .before .before .run-in .ensures)))))
+    (went-more m masks (runOf (x .run)) 0 (runOf (x .run)) q (some-mask (c .before .before .before .before .before .before .before .before .before .before .before .before .before .before .before .before .before .before .before)) (went-none m masks (runOf (x .run))) (done (c .before .before .before .before .before .before .before .before .before) ∙ ap (λ r. val (tt, r)) (sym (c .before .before .before .before .run-in .ensures)))))
 
 returns-3 : tie.Need-returns-3
 returns-3 c =
-    let x = c .before .before .before .before .before .before .before .before .before .before .before .before .before .before .before .before .before .before .before .before .args in
+    let x = c .before .before .before .before .before .before .before .before .before .before .before .before .before .before .before .args in
     let m = automata (readAutomata (now (x .s))) in
     let t = c .before .before .before in
     let g = c .before .w .given in
     sym
     (ap (λ p. settled (runOf (x .run)) (stoppedAt (p .count) (p .run) (p .stop)))
-    (went-stop m (now (x .masks)) (runOf (x .run)) 0 (runOf (x .run)) (reasonOf (g .0 .0)) (some-mask (c .before .before .before .before .before .before .before .before .before .before .before .before .before .before .before .before)) (went-none m (now (x .masks)) (runOf (x .run))) (cycling t ∙ ap (λ a. endedOf a (left t)) (g .1))))
+    (went-stop m (now (x .masks)) (runOf (x .run)) 0 (runOf (x .run)) (reasonOf (g .0 .0)) (some-mask (c .before .before .before .before .before .before .before .before .before .before .before)) (went-none m (now (x .masks)) (runOf (x .run))) (cycling t ∙ ap (λ a. endedOf a (left t)) (g .1))))
 
 returns-4 : tie.Need-returns-4
 returns-4 c =
-    let x = c .before .before .before .before .before .before .before .before .before .before .before .before .before .before .before .before .before .before .before .before .args in
+    let x = c .before .before .before .before .before .before .before .before .before .before .before .before .before .before .before .args in
     let m = automata (readAutomata (now (x .s))) in
     let t = c .before .before .before in
     let g = c .before .w2 .given in
     sym
     (ap (λ p. settled (runOf (x .run)) (stoppedAt (p .count) (p .run) (p .stop)))
-    (went-stop m (now (x .masks)) (runOf (x .run)) 0 (runOf (x .run)) (refusalOf (g .0 .0)) (some-mask (c .before .before .before .before .before .before .before .before .before .before .before .before .before .before .before .before)) (went-none m (now (x .masks)) (runOf (x .run))) (cycling t ∙ ap (λ a. endedOf a (left t)) (g .1))))
+    (went-stop m (now (x .masks)) (runOf (x .run)) 0 (runOf (x .run)) (refusalOf (g .0 .0)) (some-mask (c .before .before .before .before .before .before .before .before .before .before .before)) (went-none m (now (x .masks)) (runOf (x .run))) (cycling t ∙ ap (λ a. endedOf a (left t)) (g .1))))
 
 pub cycles-played-spec : {M : Type 1} → statement M
 cycles-played-spec =
     tie.close
     (tie.spec
     returns
-    limits-of-requires
     shared-slice-read-cycle-checked
     cycle-checked-requires
     enum-told
@@ -153,7 +145,7 @@ cycles-played-spec =
     part-rest-played-start
     part-rest-played-end
     rest-played-requires
-    add-t35
+    add-t30
     enum-known-w
     enum-known-w-2
     returns-2

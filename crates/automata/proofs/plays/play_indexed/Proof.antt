@@ -1,14 +1,23 @@
--- `plays::play_indexed` meets its contract: the index that `cycles_played` asks for is made. Assumes nothing.
-use borrow.Author.Needs.{needs}
+-- `plays::play_indexed` meets its contract: the index and the limits that `cycles_played` asks for are made. Assumes nothing.
+use denote.Ref.{now}
 use Rattle.automata.proofs.LinkLaws.{blank}
+use Rattle.automata.proofs.Clocks.{room-for-limits, has-limits}
+use borrow.Author.Needs.{needs}
 use Rattle.automata.proofs.plays.play_indexed.Statement.{statement}
 use Rattle.automata.proofs.plays.play_indexed.Tie as tie
 
 index-of-requires : tie.Need-index-of-requires
 index-of-requires c κs = (search needs, (blank, search needs))
 
+limits-of-requires : tie.Need-limits-of-requires
+limits-of-requires c κs = (c .before .before .before .before .before .before .before .before .before .before .pre .0, room-for-limits)
+
 cycles-played-requires : tie.Need-cycles-played-requires
-cycles-played-requires c κs = search needs
+cycles-played-requires c κs =
+    let b = c .before .before .before .before .before .before .before .before .before .before .before .before .before .before .before in (
+      record { accepted = b .pre .0; has-index = c .before .before .before .before .before .before .before .before .before .index-of .ensures .0 },
+      has-limits (now (b .args .s)) (b .args .shape) (b .pre .0 .shape) _ _ _ _ room-for-limits (c .before .before .before .before .limits-of .ensures),
+    )
 
 same-length : tie.Need-same-length
 same-length c = search needs
@@ -17,4 +26,4 @@ returns : tie.Need-returns
 returns c = search needs
 
 pub play-indexed-spec : {M : Type 1} → statement M
-play-indexed-spec = tie.close (tie.spec index-of-requires cycles-played-requires same-length returns)
+play-indexed-spec = tie.close (tie.spec index-of-requires limits-of-requires cycles-played-requires same-length returns)

@@ -32,8 +32,8 @@ returns c = search needs
 long-refusal-requires : tie.Need-long-refusal-requires Inv-loop μ-loop
 long-refusal-requires c κs = search needs
 
-tell-file-requires : tie.Need-tell-file-requires Inv-loop μ-loop
-tell-file-requires c κs = search needs
+tell-refusal-requires : tie.Need-tell-refusal-requires Inv-loop μ-loop
+tell-refusal-requires c κs = search needs
 
 same-length-2 : tie.Need-same-length-2 Inv-loop μ-loop
 same-length-2 c = search needs
@@ -69,7 +69,7 @@ refuse-long-spec =
     same-length
     returns
     long-refusal-requires
-    tell-file-requires
+    tell-refusal-requires
     same-length-2
     returns-2
     sub-left

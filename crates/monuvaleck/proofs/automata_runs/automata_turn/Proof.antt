@@ -1,23 +1,23 @@
--- `automata_runs::automata_turn` meets its contract, by those of `turn_call` and `answer_code`: the run is passed on. Assumes nothing.
+-- `automata_runs::automata_turn` meets its contract, by those of `calls::tables::turn` and `answer_code`: the run is passed on. Assumes nothing.
 use contract.Running.{givenOf, tables, tablesOf}
 use denote.Enum.Laws as EL
 use denote.Triple.Spec.{tripleOf}
 use denote.Triple.Table.{entered, cited}
 use Rattle.model.specs.Calls.{automataTables, answerCode, turnCall}
 use Rattle.automata.specs.RunOf.{runOf}
-use Rattle.automata.specs.TurnOf.{answerOf}
+use Rattle.machines.specs.Answers.{answerOf}
 use Rattle.automata.proofs.runs.Run as R
-use Rattle.automata.proofs.turns.Answer as E
-use Rattle.automata.proofs.turns.Answer.Laws as E′
-use Rattle.automata.proofs.lent.turn_call as step
-use Rattle.automata.proofs.lent.turn_call.Symbol as step-def
-use Rattle.automata.proofs.lent.turn_call.Symbol.{name as #step}
-use Rattle.automata.proofs.lent.turn_call.Met as step-thm
+use Rattle.machines.proofs.answers.Answer as E
+use Rattle.machines.proofs.answers.Answer.Laws as E′
+use Rattle.calls.proofs.tables.turn as step
+use Rattle.calls.proofs.tables.turn.Symbol as step-def
+use Rattle.calls.proofs.tables.turn.Symbol.{name as #step}
+use Rattle.calls.proofs.tables.turn.Met as step-thm
 use Rattle.monuvaleck.proofs.PassingEvents.{passes}
-use Rattle.monuvaleck.proofs.automata_runs.answer_code as number
-use Rattle.monuvaleck.proofs.automata_runs.answer_code.Symbol as number-def
-use Rattle.monuvaleck.proofs.automata_runs.answer_code.Symbol.{name as #number}
-use Rattle.monuvaleck.proofs.automata_runs.answer_code.Met as number-thm
+use Rattle.machines.proofs.answers.answer_code as number
+use Rattle.machines.proofs.answers.answer_code.Symbol as number-def
+use Rattle.machines.proofs.answers.answer_code.Symbol.{name as #number}
+use Rattle.machines.proofs.answers.answer_code.Met as number-thm
 use Rattle.monuvaleck.proofs.automata_runs.automata_turn.Key.{name as #this}
 use Rattle.monuvaleck.proofs.automata_runs.automata_turn as f
 use Rattle.monuvaleck.proofs.automata_runs.automata_turn.Statement as stated
@@ -30,5 +30,5 @@ automata-turn-spec 𝓤 H 𝓜 𝓖 𝓡 =
     (tables 𝓤 H 𝓜 𝓡 code.env .C) (tables 𝓤 H 𝓜 𝓡 code.env .Λ) #this code.function (code.unfolded 𝓤 H 𝓜 𝓡)
     (passes R.the-row E.the-row runOf answerOf answerCode (turnCall automataTables) 𝓤 H (𝓖 .A) (givenOf 𝓤 H 𝓜 𝓖) #step #number
     (λ r w is. EL.lawful E.the-type E′.the-laws 𝓤 H (𝓖 .A) (givenOf 𝓤 H 𝓜 𝓖) tt .typed r _ is) (tablesOf 𝓤 H 𝓜 (tables 𝓤 H 𝓜 𝓡 code.env))
-    (cited 𝓤 H (tripleOf 𝓤 H (𝓖 .A) step.signature (step.spec 𝓤 H (𝓖 .A) (𝓜 .mem) (𝓡 .run))) 𝓜 𝓡 code.env #step step-def.routine code.calls-automata·lent·turn-call (step-thm.met 𝓤 H 𝓜 𝓖 𝓡))
-    (cited 𝓤 H (tripleOf 𝓤 H (𝓖 .A) number.signature (number.spec 𝓤 H (𝓖 .A) (𝓜 .mem) (𝓡 .run))) 𝓜 𝓡 code.env #number number-def.routine code.calls-monuvaleck·automata-runs·answer-code (number-thm.met 𝓤 H 𝓜 𝓖 𝓡)))
+    (cited 𝓤 H (tripleOf 𝓤 H (𝓖 .A) step.signature (step.spec 𝓤 H (𝓖 .A) (𝓜 .mem) (𝓡 .run))) 𝓜 𝓡 code.env #step step-def.routine code.calls-calls·tables·turn (step-thm.met 𝓤 H 𝓜 𝓖 𝓡))
+    (cited 𝓤 H (tripleOf 𝓤 H (𝓖 .A) number.signature (number.spec 𝓤 H (𝓖 .A) (𝓜 .mem) (𝓡 .run))) 𝓜 𝓡 code.env #number number-def.routine code.calls-machines·answers·answer-code (number-thm.met 𝓤 H 𝓜 𝓖 𝓡)))

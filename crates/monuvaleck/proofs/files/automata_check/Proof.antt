@@ -1,11 +1,13 @@
 -- `files::automata_check` meets its contract, by that of the reader. Assumes nothing.
-use mathlib.Core.Path.{sym, ap, _∙_}
+use mathlib.Core.Path.{_≡_, sym, ap, _∙_}
 use mathlib.Core.Option.{Option}
+use mir.Syntax.{w32}
+use mir.Val.{toZ, ofZ}
 use lib.IntN.{ℤ}
 use Rattle.records.specs.Refusal.{Refusal, val, unless-refused}
 use Rattle.model.specs.Calls.{numbered}
 use Rattle.automata_files.specs.Shape.{refusalOf}
-use Rattle.monuvaleck.specs.Numbers.{doneCode}
+use Rattle.machines.specs.Answers.{doneCode}
 use borrow.Author.Needs.{needs}
 use Rattle.monuvaleck.proofs.files.automata_check.Statement.{statement}
 use Rattle.monuvaleck.proofs.files.automata_check.Tie as tie
@@ -19,14 +21,19 @@ check-requires c κs = search needs
 enum-told : tie.Need-enum-told
 enum-told c = search needs
 
-enum-told-2 : tie.Need-enum-told-2
-enum-told-2 c = search needs
+enum-known-w : tie.Need-enum-known-w
+enum-known-w c = search needs
+
+refused-code-requires : tie.Need-refused-code-requires
+refused-code-requires c κs = search needs
 
 returns : tie.Need-returns
 returns c = ap (λ x. told (refusalOf x)) (sym (c .enum-told .given .1)) ∙ ap told (c .before .before .check .ensures .answer)
 
 returns-2 : tie.Need-returns-2
-returns-2 c = ap (λ x. told (refusalOf x)) (sym (c .enum-told2 .given .1)) ∙ ap told (c .before .before .check .ensures .answer)
+returns-2 c =
+    let kept : toZ w32 (ofZ w32 (c .refused-code .result)) ≡ c .refused-code .result = search needs in
+    kept ∙ c .refused-code .ensures ∙ ap (λ x. told (refusalOf x)) (sym (c .before .before .w .given .1)) ∙ ap told (c .before .before .before .before .check .ensures .answer)
 
 pub automata-check-spec : {M : Type 1} → statement M
-automata-check-spec = tie.close (tie.spec check-requires enum-told enum-told-2 returns returns-2)
+automata-check-spec = tie.close (tie.spec check-requires enum-told enum-known-w refused-code-requires returns returns-2)

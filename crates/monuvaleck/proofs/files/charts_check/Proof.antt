@@ -7,7 +7,7 @@ use lib.IntN.{ℤ}
 use Rattle.records.specs.Refusal.{Refusal, val, unless-refused}
 use Rattle.model.specs.Calls.{numbered}
 use Rattle.chart_files.specs.Shape.{refusalOf}
-use Rattle.monuvaleck.specs.Numbers.{doneCode}
+use Rattle.machines.specs.Answers.{doneCode}
 use borrow.Author.Needs.{needs}
 use Rattle.monuvaleck.proofs.files.charts_check.Statement.{statement}
 use Rattle.monuvaleck.proofs.files.charts_check.Tie as tie
@@ -24,16 +24,16 @@ enum-told c = search needs
 enum-known-w : tie.Need-enum-known-w
 enum-known-w c = search needs
 
-file-code-requires : tie.Need-file-code-requires
-file-code-requires c κs = search needs
+refused-code-requires : tie.Need-refused-code-requires
+refused-code-requires c κs = search needs
 
 returns : tie.Need-returns
 returns c = ap (λ x. told (refusalOf x)) (sym (c .enum-told .given .1)) ∙ ap told (c .before .before .check .ensures .answer)
 
 returns-2 : tie.Need-returns-2
 returns-2 c =
-    let kept : toZ w32 (ofZ w32 (c .file-code .result)) ≡ c .file-code .result = search needs in
-    kept ∙ c .file-code .ensures ∙ ap (λ x. told (refusalOf x)) (sym (c .before .before .w .given .1)) ∙ ap told (c .before .before .before .before .check .ensures .answer)
+    let kept : toZ w32 (ofZ w32 (c .refused-code .result)) ≡ c .refused-code .result = search needs in
+    kept ∙ c .refused-code .ensures ∙ ap (λ x. told (refusalOf x)) (sym (c .before .before .w .given .1)) ∙ ap told (c .before .before .before .before .check .ensures .answer)
 
 pub charts-check-spec : {M : Type 1} → statement M
-charts-check-spec = tie.close (tie.spec check-requires enum-told enum-known-w file-code-requires returns returns-2)
+charts-check-spec = tie.close (tie.spec check-requires enum-told enum-known-w refused-code-requires returns returns-2)

@@ -7,7 +7,7 @@ use native.Mathlib.Omega.{arith}
 use mir.Facts.{toZ-pos}
 use Rattle.model.specs.Calls.{numbered}
 use Rattle.paths.specs.LedOf.{answerOf}
-use Rattle.monuvaleck.specs.Numbers.{countCode}
+use Rattle.machines.specs.Answers.{countCode}
 use borrow.Author.Needs.{needs}
 use Rattle.monuvaleck.proofs.traces.led_code.Statement.{statement}
 use Rattle.monuvaleck.proofs.traces.led_code.Tie as tie
@@ -26,14 +26,8 @@ cast-result c =
 enum-known-led-2 : tie.Need-enum-known-led-2
 enum-known-led-2 c = search needs
 
-file-code-requires : tie.Need-file-code-requires
-file-code-requires c κs = search needs
-
-enum-told : tie.Need-enum-told
-enum-told c = search needs
-
-enum-told-2 : tie.Need-enum-told-2
-enum-told-2 c = search needs
+refused-code-requires : tie.Need-refused-code-requires
+refused-code-requires c κs = search needs
 
 returns : tie.Need-returns
 returns c =
@@ -44,14 +38,8 @@ returns c =
 
 returns-2 : tie.Need-returns-2
 returns-2 c =
-    let kept : toZ w32 (ofZ w32 (c .file-code .result)) ≡ c .file-code .result = search needs in
-    kept ∙ c .file-code .ensures ∙ ap (λ x. numbered countCode (answerOf x)) (sym (c .before .before .led2 .given .1))
-
-returns-3 : tie.Need-returns-3
-returns-3 c = ap (λ x. numbered countCode (answerOf x)) (sym (c .enum-told .given .1))
-
-returns-4 : tie.Need-returns-4
-returns-4 c = ap (λ x. numbered countCode (answerOf x)) (sym (c .enum-told2 .given .1))
+    let kept : toZ w32 (ofZ w32 (c .refused-code .result)) ≡ c .refused-code .result = search needs in
+    kept ∙ c .refused-code .ensures ∙ ap (λ x. numbered countCode (answerOf x)) (sym (c .before .before .led2 .given .1))
 
 pub led-code-spec : {M : Type 1} → statement M
 led-code-spec =
@@ -60,10 +48,6 @@ led-code-spec =
     enum-known-led
     cast-result
     enum-known-led-2
-    file-code-requires
-    enum-told
-    enum-told-2
+    refused-code-requires
     returns
-    returns-2
-    returns-3
-    returns-4)
+    returns-2)

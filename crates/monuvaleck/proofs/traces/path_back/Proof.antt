@@ -5,7 +5,7 @@ use mir.Val.{toZ, ofZ}
 use denote.Ref.{now}
 use Rattle.model.specs.Calls.{numbered}
 use Rattle.paths.proofs.Bounds.{few}
-use Rattle.monuvaleck.specs.Numbers.{countCode}
+use Rattle.machines.specs.Answers.{countCode}
 use borrow.Author.Needs.{needs}
 use Rattle.monuvaleck.proofs.traces.path_back.Statement.{statement}
 use Rattle.monuvaleck.proofs.traces.path_back.Tie as tie

@@ -4,7 +4,7 @@ use mir.Syntax.{w32}
 use mir.Val.{toZ, ofZ}
 use denote.Ref.{now}
 use Rattle.model.specs.Calls.{numbered}
-use Rattle.monuvaleck.specs.Numbers.{countCode}
+use Rattle.machines.specs.Answers.{countCode}
 use Rattle.monuvaleck.proofs.TwinLengths.{short}
 use borrow.Author.Needs.{needs}
 use Rattle.monuvaleck.proofs.translations.charts_translate.Statement.{statement}

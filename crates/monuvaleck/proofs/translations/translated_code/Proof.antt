@@ -7,7 +7,7 @@ use native.Mathlib.Omega.{arith}
 use mir.Facts.{toZ-pos}
 use Rattle.model.specs.Calls.{numbered}
 use Rattle.translation.specs.Answer.{answerOf}
-use Rattle.monuvaleck.specs.Numbers.{countCode}
+use Rattle.machines.specs.Answers.{countCode}
 use borrow.Author.Needs.{needs}
 use Rattle.monuvaleck.proofs.translations.translated_code.Statement.{statement}
 use Rattle.monuvaleck.proofs.translations.translated_code.Tie as tie
@@ -23,14 +23,11 @@ cast-result c =
     let small : g .0 .0 < 2 ^ 31 = omega (arith, few) in
     search (needs, small)
 
-enum-told : tie.Need-enum-told
-enum-told c = search needs
-
 enum-known-answer-2 : tie.Need-enum-known-answer-2
 enum-known-answer-2 c = search needs
 
-file-code-requires : tie.Need-file-code-requires
-file-code-requires c κs = search needs
+refused-code-requires : tie.Need-refused-code-requires
+refused-code-requires c κs = search needs
 
 returns : tie.Need-returns
 returns c =
@@ -40,12 +37,9 @@ returns c =
     toZ-pos w32 small ∙ ap (λ x. numbered countCode (answerOf x)) (sym (g .1))
 
 returns-2 : tie.Need-returns-2
-returns-2 c = ap (λ x. numbered countCode (answerOf x)) (sym (c .enum-told .given .1))
-
-returns-3 : tie.Need-returns-3
-returns-3 c =
-    let kept : toZ w32 (ofZ w32 (c .file-code .result)) ≡ c .file-code .result = search needs in
-    kept ∙ c .file-code .ensures ∙ ap (λ x. numbered countCode (answerOf x)) (sym (c .before .before .answer2 .given .1))
+returns-2 c =
+    let kept : toZ w32 (ofZ w32 (c .refused-code .result)) ≡ c .refused-code .result = search needs in
+    kept ∙ c .refused-code .ensures ∙ ap (λ x. numbered countCode (answerOf x)) (sym (c .before .before .answer2 .given .1))
 
 pub translated-code-spec : {M : Type 1} → statement M
 translated-code-spec =
@@ -53,9 +47,7 @@ translated-code-spec =
     (tie.spec
     enum-known-answer
     cast-result
-    enum-told
     enum-known-answer-2
-    file-code-requires
+    refused-code-requires
     returns
-    returns-2
-    returns-3)
+    returns-2)
