@@ -9,7 +9,7 @@ use Rattle.model.proofs.CyclesByTurns.{after-turn, cycle-by-turns, turn-moves}
 use Rattle.machines.proofs.Turning.{unsettled, unsettle}
 
 module _ (m : Machine) (ok : Steady m) (given : ℕ) (r : Run) (x : Outcome Answer Run) (is : x ≡ settled r (turn m given r)) where
-  turning : turn m given r ≡ unsettled x
+  pub turning : turn m given r ≡ unsettled x
   turning = sym (unsettle r (turn m given r)) ∙ ap unsettled (sym is)
 
   by-answer : cycle m given r ≡ (unsettled x >>= λ y. after-turn m y)

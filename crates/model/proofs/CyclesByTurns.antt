@@ -8,7 +8,7 @@ use Prim.Native.Nat.{ℕ, suc, _+_, _-_, _≤_, _<_}
 use native.Mathlib.Omega.{arith}
 use lib.Dec.{T, leb, eqb, leb→le, nleb→lt}
 use Rattle.records.specs.Refusal.{impossible-run, misplaced-events, cycles-done, Out, val, fault, _>>=_, _>>_, fault-if}
-use Rattle.model.specs.Runs.{Run, Answer, taken, idle, time, Machine, parts, possible, checked, setEvents, give, moved, timePassed, stepped, turn, unless-stopped, onto, turns, ended, cycle}
+use Rattle.model.specs.Runs.{Run, Answer, taken, idle, time, Machine, parts, possible, checked, setEvents, give, moved, timePassed, stepped, turn, whole-cycle, Trace, done, stopped, turned, onto, unless-stopped, turns, trace, ended, cycle}
 use Rattle.model.specs.ChartSet.{readCharts}
 use Rattle.model.specs.Charts.{charts}
 use Rattle.model.specs.ChartFile.{chartsRefusal}
@@ -22,12 +22,22 @@ use Rattle.model.proofs.StaysPossible.{NotTime, same-fits, Keeps, Stead
 use Rattle.model.proofs.Steady.{steady-charts, steady-automata, sound-table}
 
 -- what is left of a cycle after a turn's answer: nothing after time's, else a cycle called with no events
+abbrev pub trace-after : Machine → Answer × Run → Trace
+trace-after m (taken t, r) = trace m (whole-cycle 0) r
+trace-after m (idle, r) = trace m (whole-cycle 0) r
+trace-after m (time, r) = done
+
 abbrev pub after-turn : Machine → Answer × Run → Out (Unit {0} × Run)
 after-turn m (taken t, r) = cycle m 0 r
 after-turn m (idle, r) = cycle m 0 r
 after-turn m (time, r) = val (tt, r)
 
-after-part : (m : Machine) (a : Answer) (r : Run) → NotTime a → after-turn m (a, r) ≡ cycle m 0 r
+-- a turn taken in r₀, and what is left after it
+abbrev pub traced : Machine → Run → Out (Answer × Run) → Trace
+traced m r₀ (fault w) = stopped w
+traced m r₀ (val x) = turned r₀ (x .0) (x .1) (trace-after m x)
+
+after-part : (m : Machine) (a : Answer) (r : Run) → NotTime a → trace-after m (a, r) ≡ trace m (whole-cycle 0) r
 after-part m (taken t) r n = refl
 after-part m idle r n = refl
 after-part m time r n = absurd n
@@ -76,41 +86,50 @@ module _ (m : Machine) (ok : Steady m) (given : ℕ) (r : Run) where
           (part-rests m (r .world) (moved (x .1) .world) (passed .1) low l (ap (λ n. n + 1) (kept .2)) (kept .1))
 
   -- the turns after a part's turn are those of a cycle called with no events
-  cycle-onward : (x : Answer × Run) → Onward x → cycle m 0 (moved (x .1)) ≡ (ended (moved (x .1)) (turns m (parts m + 1 - r .world .position) (moved (x .1))) >>= λ r₁. val (tt {0}, r₁))
-  cycle-onward x o =
+  trace-onward : (x : Answer × Run) → Onward x → trace m (whole-cycle 0) (moved (x .1)) ≡ turns m (parts m + 1 - r .world .position) (moved (x .1))
+  trace-onward x o =
       let n : parts m + 2 - (x .1 .world .position + 1) ≡ parts m + 1 - r .world .position = omega (arith, o .position) in
-      λ i. ended (moved (x .1)) (unless-stopped (o .checks i) (turns m (n i) (o .none-given i))) >>= λ r₁. val (tt {0}, r₁)
+      λ i. unless-stopped (o .checks i) (turns m (n i) (o .none-given i))
 
-  pub cycle-by-turns : cycle m given r ≡ (turn m given r >>= λ x. after-turn m x)
-  unfolding turns ended
-  cycle-by-turns = go (checked m given r) refl
+  pub trace-by-turns : trace m (whole-cycle given) r ≡ traced m (give given r) (turn m given r)
+  unfolding turns
+  trace-by-turns = go (checked m given r) refl
     where
       k : ℕ
       k = parts m + 1 - r .world .position
 
       part : (u : Unit {0}) → checked m given r ≡ val u → r .world .position ≤ parts m → (o : Out (Answer × Run)) → m .step (r .world .position - 1) (give given r) ≡ o →
-          (ended r (onto (give given r) (o >>= λ x. val (x .0, moved (x .1))) (turns m k)) >>= λ r₁. val (tt {0}, r₁)) ≡ ((o >>= λ x. val (x .0, moved (x .1))) >>= λ x. after-turn m x)
+          onto (give given r) (o >>= λ x. val (x .0, moved (x .1))) (turns m k) ≡ traced m (give given r) (o >>= λ x. val (x .0, moved (x .1)))
       part u c l (fault w) e = refl
       part u c l (val x) e =
           let o : Onward x = part-onward u c l x e in
-          sym (after-part m (x .0) (moved (x .1)) (o .answers) ∙ cycle-onward x o)
+          ap (turned (give given r) (x .0) (moved (x .1))) (sym (after-part m (x .0) (moved (x .1)) (o .answers) ∙ trace-onward x o))
 
       by : (u : Unit {0}) → checked m given r ≡ val u → (b : Bool) → leb (r .world .position) (parts m) ≡ b →
-          (ended r (onto (give given r) (cond b (m .step (r .world .position - 1) (give given r) >>= λ x. val (x .0, moved (x .1))) (val (time, timePassed m (give given r)))) (turns m k)) >>= λ r₁. val (tt {0}, r₁))
-          ≡ (cond b (m .step (r .world .position - 1) (give given r) >>= λ x. val (x .0, moved (x .1))) (val (time, timePassed m (give given r))) >>= λ x. after-turn m x)
+          onto (give given r) (cond b (m .step (r .world .position - 1) (give given r) >>= λ x. val (x .0, moved (x .1))) (val (time, timePassed m (give given r)))) (turns m k)
+          ≡ traced m (give given r) (cond b (m .step (r .world .position - 1) (give given r) >>= λ x. val (x .0, moved (x .1))) (val (time, timePassed m (give given r))))
       by u c true q = part u c (leb→le (r .world .position) (parts m) (of-true q)) (m .step (r .world .position - 1) (give given r)) refl
       by u c false q =
           let l : parts m < r .world .position = nleb→lt (r .world .position) (parts m) (not-false q) in
           let z : k ≡ 0 = omega arith in
-          ap (λ n. ended (timePassed m (give given r)) (turns m n (timePassed m (give given r))) >>= λ r₁. val (tt {0}, r₁)) z
+          ap (λ n. turned (give given r) time (timePassed m (give given r)) (turns m n (timePassed m (give given r)))) z
 
-      go : (c : Out (Unit {0})) → checked m given r ≡ c →
-          (ended r (unless-stopped c (turns m (parts m + 2 - r .world .position) (give given r))) >>= λ r₁. val (tt {0}, r₁)) ≡ ((c >> stepped m (give given r)) >>= λ x. after-turn m x)
+      go : (c : Out (Unit {0})) → checked m given r ≡ c → unless-stopped c (turns m (parts m + 2 - r .world .position) (give given r)) ≡ traced m (give given r) (c >> stepped m (give given r))
       go (fault w) q = refl
       go (val u) q =
           let high : r .world .position ≤ parts m + 1 = possible-rests m r (past-checks u q .0) .high in
           let n : parts m + 2 - r .world .position ≡ suc k = omega arith in
-          ap (λ n. ended r (turns m n (give given r)) >>= λ r₁. val (tt {0}, r₁)) n ∙ by u q (leb (r .world .position) (parts m)) refl
+          ap (λ n. turns m n (give given r)) n ∙ by u q (leb (r .world .position) (parts m)) refl
+
+  pub cycle-by-turns : cycle m given r ≡ (turn m given r >>= λ x. after-turn m x)
+  unfolding ended
+  cycle-by-turns = ap (λ t. ended r t >>= λ r₁. val (tt {0}, r₁)) trace-by-turns ∙ go (turn m given r)
+    where
+      go : (o : Out (Answer × Run)) → (ended r (traced m (give given r) o) >>= λ r₁. val (tt {0}, r₁)) ≡ (o >>= λ x. after-turn m x)
+      go (fault w) = refl
+      go (val (taken t, r₁)) = refl
+      go (val (idle, r₁)) = refl
+      go (val (time, r₁)) = refl
 
   -- a part's turn goes one position on, time's is taken at the last
   abbrev TakenAt : Answer × Run → Type 0
@@ -155,11 +174,22 @@ module _ (m : Machine) (ok : Steady m) (given : ℕ) (r : Run) where
   pub turn-time : (r₁ : Run) → turn m given r ≡ val (time, r₁) → r .world .position ≡ parts m + 1
   turn-time r₁ e = taken-at (time, r₁) e
 
+  -- a run whose turn is taken has a position
+  pub turn-begun : (x : Answer × Run) → turn m given r ≡ val x → 1 ≤ r .world .position
+  turn-begun x e = go (checked m given r) refl e
+    where
+      go : (c : Out (Unit {0})) → checked m given r ≡ c → (c >> stepped m (give given r)) ≡ val x → 1 ≤ r .world .position
+      go (fault w) q e = let z : _≡_ {A = ℕ} 0 1 = cc in absurd (omega arith)
+      go (val u) q e = possible-rests m r (past-checks u q .0) .low
+
 -- ---- charts
 
 module _ (s : List ℕ) (ok : chartsRefusal s ≡ none) (given : ℕ) (r : Run) where
   pub charts-cycle-by-turns : cycle (charts (readCharts s)) given r ≡ (turn (charts (readCharts s)) given r >>= λ x. after-turn (charts (readCharts s)) x)
   charts-cycle-by-turns = cycle-by-turns (charts (readCharts s)) (steady-charts (readCharts s) (sound s ok)) given r
+
+  pub charts-trace-by-turns : trace (charts (readCharts s)) (whole-cycle given) r ≡ traced (charts (readCharts s)) (give given r) (turn (charts (readCharts s)) given r)
+  charts-trace-by-turns = trace-by-turns (charts (readCharts s)) (steady-charts (readCharts s) (sound s ok)) given r
 
   pub charts-turn-moves : (a : Answer) (r₁ : Run) → turn (charts (readCharts s)) given r ≡ val (a, r₁) → NotTime a →
       (r .world .position ≤ parts (charts (readCharts s))) × (r₁ .world .position ≡ r .world .position + 1)
@@ -173,6 +203,9 @@ module _ (s : List ℕ) (ok : chartsRefusal s ≡ none) (given : ℕ) (r : Run) 
 module _ (s : List ℕ) (ok : automataRefusal s ≡ none) (given : ℕ) (r : Run) where
   pub table-cycle-by-turns : cycle (automata (readAutomata s)) given r ≡ (turn (automata (readAutomata s)) given r >>= λ x. after-turn (automata (readAutomata s)) x)
   table-cycle-by-turns = cycle-by-turns (automata (readAutomata s)) (steady-automata (readAutomata s) (sound-table s ok)) given r
+
+  pub table-trace-by-turns : trace (automata (readAutomata s)) (whole-cycle given) r ≡ traced (automata (readAutomata s)) (give given r) (turn (automata (readAutomata s)) given r)
+  table-trace-by-turns = trace-by-turns (automata (readAutomata s)) (steady-automata (readAutomata s) (sound-table s ok)) given r
 
   pub table-turn-moves : (a : Answer) (r₁ : Run) → turn (automata (readAutomata s)) given r ≡ val (a, r₁) → NotTime a →
       (r .world .position ≤ parts (automata (readAutomata s))) × (r₁ .world .position ≡ r .world .position + 1)

@@ -7,10 +7,10 @@ use chart_files::Shape;
 use chart_files::check;
 use charts::runs::Run;
 use charts::runs::start;
-use charts::tables::actions_of;
-use charts::tables::rows_of;
-use charts::turns::Ending;
+use charts::tables::fill_actions;
+use charts::tables::fill_rows;
 use libc::STDIN_FILENO;
+use machines::answers::Ending;
 use messages::input::Form;
 use messages::input::argument;
 use messages::input::arguments;
@@ -18,7 +18,6 @@ use messages::input::fill;
 use messages::input::read_file;
 use messages::words::print;
 use messages::words::tell_fault;
-use messages::words::tell_file;
 use messages::words::tell_refusal;
 use replays::sets::cycle_into;
 
@@ -48,15 +47,16 @@ fn play_mask(
     s: &[u8],
     shape: Shape,
     rows: &[[u16; 16]; 128],
+    ends: &[u8; 128],
     first: &[u16; 512],
     next: &[u16; 512],
     run: Run,
     mask: u32,
 ) -> Played
-    requires { ⌜ Known (now s) shape (now rows) (now first) (now next) ⌝ }
+    requires { ⌜ Known (now s) shape (now rows) (now ends) (now first) (now next) ⌝ }
 {
     let mut text = io::buffer();
-    let lined = cycle_into(s, shape, rows, first, next, run, mask, &mut text);
+    let lined = cycle_into(s, shape, rows, ends, first, next, run, mask, &mut text);
     let size = lined.size;
     let answer = lined.answer;
     let after = lined.run;
@@ -74,11 +74,12 @@ fn play_next(
     s: &[u8],
     shape: Shape,
     rows: &[[u16; 16]; 128],
+    ends: &[u8; 128],
     first: &[u16; 512],
     next: &[u16; 512],
     run: Run,
 ) -> Played
-    requires { ⌜ Known (now s) shape (now rows) (now first) (now next) ⌝ }
+    requires { ⌜ Known (now s) shape (now rows) (now ends) (now first) (now next) ⌝ }
 {
     let mut four = [0u8; 4];
     let got = fill(STDIN_FILENO, &mut four);
@@ -89,17 +90,24 @@ fn play_next(
         return Played { going: false, run };
     }
     let mask = records::u32_at(&four, 0);
-    play_mask(s, shape, rows, first, next, run, mask)
+    play_mask(s, shape, rows, ends, first, next, run, mask)
 }
 
 // Refusal 14 ends any replay long before the count of turns does.
-fn play(s: &[u8], shape: Shape, rows: &[[u16; 16]; 128], first: &[u16; 512], next: &[u16; 512])
-    requires { ⌜ Known (now s) shape (now rows) (now first) (now next) ⌝ }
+fn play(
+    s: &[u8],
+    shape: Shape,
+    rows: &[[u16; 16]; 128],
+    ends: &[u8; 128],
+    first: &[u16; 512],
+    next: &[u16; 512],
+)
+    requires { ⌜ Known (now s) shape (now rows) (now ends) (now first) (now next) ⌝ }
 {
     let mut run = start(s, shape);
     let mut left = u64::MAX;
     while 0 < left {
-        let played = play_next(s, shape, rows, first, next, run);
+        let played = play_next(s, shape, rows, ends, first, next, run);
         if !played.going {
             return;
         }
@@ -112,13 +120,16 @@ fn play(s: &[u8], shape: Shape, rows: &[[u16; 16]; 128], first: &[u16; 512], nex
 // The file is checked once.
 fn play_file(s: &[u8]) {
     match check(s) {
-        Checked::Refused(w) => tell_file(w),
+        Checked::Refused(w) => tell_refusal(w),
         Checked::Accepted(shape) => {
-            let rows = rows_of(s, shape);
-            let actions = actions_of(s, shape);
-            let first = actions.first;
-            let next = actions.next;
-            play(s, shape, &rows, &first, &next);
+            let empty = [256u16; 16];
+            let mut rows = [empty; 128];
+            let mut ends = [0u8; 128];
+            let mut first = [65535u16; 512];
+            let mut next = [65535u16; 512];
+            fill_rows(s, shape, &mut rows, &mut ends);
+            fill_actions(s, shape, &mut first, &mut next);
+            play(s, shape, &rows, &ends, &first, &next);
         }
     }
 }

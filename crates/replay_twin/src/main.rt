@@ -5,21 +5,19 @@ ghost use Rattle.automata.specs.TurnOf.{Known};
 use automata::index::index_of;
 use automata::runs::Run;
 use automata::runs::start;
-use automata::turns::Ending;
 use automata_files::Checked;
 use automata_files::Shape;
 use automata_files::check;
 use libc::STDIN_FILENO;
+use machines::answers::Ending;
 use messages::input::Form;
 use messages::input::argument;
 use messages::input::arguments;
 use messages::input::fill;
 use messages::input::read_file;
-use messages::numbers::table_number;
 use messages::words::print;
-use messages::words::tell_number;
-use messages::words::tell_twin_fault;
-use messages::words::tell_twin_refusal;
+use messages::words::tell_fault;
+use messages::words::tell_refusal;
 use replays::twins::cycle_into;
 
 // Whether to go on, and from which run.
@@ -33,11 +31,11 @@ fn tell_ending(answer: Ending) -> bool {
     match answer {
         Ending::Done => true,
         Ending::Fault(w) => {
-            tell_twin_fault(w);
+            tell_fault(w);
             false
         }
         Ending::Refused(w) => {
-            tell_twin_refusal(w);
+            tell_refusal(w);
             false
         }
     }
@@ -48,7 +46,7 @@ fn play_mask(
     s: &[u8],
     shape: Shape,
     first: &[u16; 896],
-    next: &[u16; 14536],
+    next: &[u16],
     run: Run,
     mask: u32,
 ) -> Played
@@ -69,7 +67,7 @@ fn play_mask(
     Played { going, run: after }
 }
 
-fn play_next(s: &[u8], shape: Shape, first: &[u16; 896], next: &[u16; 14536], run: Run) -> Played
+fn play_next(s: &[u8], shape: Shape, first: &[u16; 896], next: &[u16], run: Run) -> Played
     requires { ⌜ Known (now s) shape (now first) (now next) ⌝ }
 {
     let mut four = [0u8; 4];
@@ -85,7 +83,7 @@ fn play_next(s: &[u8], shape: Shape, first: &[u16; 896], next: &[u16; 14536], ru
 }
 
 // Refusal 14 ends any replay long before the count of turns does.
-fn play(s: &[u8], shape: Shape, first: &[u16; 896], next: &[u16; 14536])
+fn play(s: &[u8], shape: Shape, first: &[u16; 896], next: &[u16])
     requires { ⌜ Known (now s) shape (now first) (now next) ⌝ }
 {
     let mut run = start(s, shape);
@@ -104,7 +102,7 @@ fn play(s: &[u8], shape: Shape, first: &[u16; 896], next: &[u16; 14536])
 // The file is checked once.
 fn play_file(s: &[u8]) {
     match check(s) {
-        Checked::Refused => tell_number(table_number()),
+        Checked::Refused(w) => tell_refusal(w),
         Checked::Accepted(shape) => {
             let mut first = [65535u16; 896];
             let mut next = [65535u16; 14536];

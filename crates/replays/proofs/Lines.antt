@@ -1,178 +1,124 @@
--- The lines of a cycle's turns, one turn at a time, and of the whole call, of any machine. Assumes nothing.
+-- The lines of a cycle, turn by turn, of any machine whose turns keep a run possible. Assumes nothing.
 use mathlib.Core.Path.{_≡_, refl, sym, ap, _∙_, subst}
-use mathlib.Core.List.{List, [], _∷_, _++_, append-assoc, append-nil}
-use Prim.Native.Nat.{ℕ, suc, _+_, _-_, _*_, _≤_, _<_}
+use mathlib.Core.List.{List, [], _++_, append-assoc, append-nil}
+use Prim.Native.Nat.{ℕ, _+_, _-_, _*_, _≤_}
 use native.Mathlib.Omega.{arith}
 use lib.ListN.{length, getD, take}
-use lib.Seq.{sets}
 use Rattle.records.specs.Refusal.{Refusal, Out, val, fault, _>>=_}
-use Rattle.model.specs.Outcome.{Outcome, settled}
-use Rattle.model.specs.Runs.{Run, Answer, time, Machine, parts, checked, give, moved, timePassed, stepped, turns, trace, whole-cycle, unless-stopped, onto, ended, cycle}
-use Rattle.machines.specs.Turns.{after, finish, Ready}
-use Rattle.machines.proofs.Turning.{WentOn, val-is, at-part, at-time, cycle-more, cycle-stop, cycle-end, cycle-refused}
 use Rattle.records.specs.Wrote.{Wrote, Begins}
-use Rattle.lines.specs.Text.{chosenOf, lineText, turnText, traceText}
-use Rattle.lines.specs.declared.Chosen.{Chosen}
 use Rattle.records.proofs.Wrote.{nothing-wrote, wrote-then}
-use Rattle.lines.proofs.Texts.{chosen-text}
-use Rattle.replays.specs.Played.{endedOf, runAfter, turnLine}
+use Rattle.model.specs.Outcome.{Outcome, settled}
+use Rattle.model.specs.Runs.{Run, Answer, taken, idle, time, Machine, parts, give, turn, whole-cycle, trace, ended, cycle}
+use Rattle.model.proofs.StaysPossible.{NotTime, Steady}
+use Rattle.model.proofs.CyclesByTurns.{traced, trace-by-turns, turn-begun}
+use Rattle.machines.specs.Turns.{finish}
+use Rattle.machines.proofs.ByTurns.{turning, goes-on, moves-on, ends-at-time, ends-in-fault}
+use Rattle.lines.specs.Text.{turnText, traceText}
+use Rattle.replays.specs.Played.{answerText, endedOf}
 
--- ---- one turn
+-- what a cycle called with these events writes
+abbrev pub linesOf : Machine → ℕ → Run → List ℕ
+linesOf m given r = traceText m (trace m (whole-cycle given) r)
 
-module _ (m : Machine) (k : ℕ) (r : Run) where
-  lines-more : (a : Answer) (q : Run) → stepped m r ≡ val (a, q) → traceText m (turns m (suc k) r) ≡ turnText m r a q ++ traceText m (turns m k q)
-  unfolding turns traceText
-  lines-more a q e = ap (λ o. traceText m (onto r o (turns m k))) e
+-- In the midst of a cycle that was called in r₀: what is written and what is left make up the whole, no part's line is longer than 482 bytes, and there are
+-- 8 parts at most.
+pub record Underway (m : Machine) (before : List ℕ) (events : ℕ) (r₀ : Run) (now : List ℕ) (at : ℕ) (given : ℕ) (r : Run) : Type 0 where
+  pub text : List ℕ
+  pub wrote : Wrote before 0 text now at
+  pub lines : linesOf m events r₀ ≡ text ++ linesOf m given r
+  pub end : cycle m events r₀ ≡ cycle m given r
+  pub near : at ≤ 482 * (r .world .position - 1)
+  pub room : at ≤ 3856
 
-  lines-stop : (w : Refusal) → stepped m r ≡ fault w → traceText m (turns m (suc k) r) ≡ []
-  unfolding turns traceText
-  lines-stop w e = ap (λ o. traceText m (onto r o (turns m k))) e
+pub underway : (m : Machine) (before : List ℕ) (events : ℕ) (r : Run) → Underway m before events r before 0 events r
+underway m before events r = record {
+  text = [];
+  wrote = nothing-wrote before 0;
+  lines = refl;
+  end = refl;
+  near = omega arith;
+  room = omega arith;
+}
 
-lines-none : (m : Machine) (r : Run) → traceText m (turns m 0 r) ≡ []
-unfolding turns traceText
-lines-none m r = refl
+-- the line of a turn's answer
+answer-text : (m : Machine) (given : ℕ) (r : Run) (o : Out Answer) (a : Answer) (q : Run) (v : ℕ) → o ≡ val a → length (m .variables) ≡ v →
+    answerText (r .world .cycles) (r .world .position - 1) o (getD (q .at) (r .world .position - 1) 0) (take v (q .world .vars)) ≡ turnText m (give given r) a q
+answer-text m given r o a q v e l =
+    (λ i. answerText (r .world .cycles) (r .world .position - 1) (e i) (getD (q .at) (r .world .position - 1) 0) (take (sym l i) (q .world .vars))) ∙ go a
+  where
+    go : (a : Answer) →
+        answerText (r .world .cycles) (r .world .position - 1) (val a) (getD (q .at) (r .world .position - 1) 0) (take (length (m .variables)) (q .world .vars)) ≡ turnText m (give given r) a q
+    go (taken t) = refl
+    go idle = refl
+    go time = refl
 
--- a turn whose run is known was taken
-pub went-on : (o : Out (Answer × Run)) (q : Run) → val q ≡ runAfter o → WentOn o q
-went-on (val x) q e = record { answer = x .0; is = ap (λ p. val (x .0, p)) (sym (val-is e)) }
-went-on (fault w) q e = let z : _≡_ {A = ℕ} 0 1 = cc in absurd (omega arith)
+-- ---- a turn of the present run, by what it answered
 
-pub went-wrong : (o : Out (Answer × Run)) (w : Refusal) → fault w ≡ runAfter o → o ≡ fault w
-went-wrong (val x) w e = let z : _≡_ {A = ℕ} 0 1 = cc in absurd (omega arith)
-went-wrong (fault v) w e = cc
+module _ (m : Machine) (ok : Steady m) (given : ℕ) (r : Run) (x : Outcome Answer Run) (is : x ≡ settled r (turn m given r)) where
+  turned-so : (o : Out Answer) → x .answer ≡ o → turn m given r ≡ (o >>= λ a. val (a, x .lent))
+  turned-so o e = turning m ok given r x is ∙ ap (λ o. o >>= λ a. val (a, x .lent)) e
 
--- a part's turn from its step: the line of one that is taken, none of one that faults
-module _ (m : Machine) (n : ℕ) (size : parts m ≡ n) (r : Run) (h : r .world .position ≤ n) where
-  module _ (c : Chosen) (q : Run) (e : m .step (r .world .position - 1) r ≡ val (chosenOf c, q)) where
-    turn-taken : stepped m r ≡ val (chosenOf c, moved q)
-    turn-taken = at-part m n size r h ∙ ap (λ o. o >>= λ x. val (x .0, moved (x .1))) e
+  by-answer : (o : Out Answer) → x .answer ≡ o → linesOf m given r ≡ traceText m (traced m (give given r) (o >>= λ a. val (a, x .lent)))
+  by-answer o e = ap (traceText m) (trace-by-turns m ok given r ∙ ap (traced m (give given r)) (turned-so o e))
 
-    pub taken-run : runAfter (stepped m r) ≡ val (moved q)
-    taken-run = ap runAfter turn-taken
+  part-lines : (a : Answer) → x .answer ≡ val a → NotTime a → linesOf m given r ≡ turnText m (give given r) a (x .lent) ++ linesOf m 0 (x .lent)
+  unfolding traceText
+  part-lines (taken t) e n = by-answer (val (taken t)) e
+  part-lines idle e n = by-answer (val idle) e
+  part-lines time e n = absurd n
 
-    pub taken-line : (v : ℕ) → length (m .variables) ≡ v →
-        turnLine m r (stepped m r)
-        ≡ lineText (r .world .cycles) (r .world .position - 1) (chosenOf c) (getD (q .at) (r .world .position - 1) 0) (take v (q .world .vars))
-    taken-line v l =
-        ap (turnLine m r) turn-taken
-        ∙ chosen-text m r c (moved q)
-        ∙ ap (λ k. lineText (r .world .cycles) (r .world .position - 1) (chosenOf c) (getD (q .at) (r .world .position - 1) 0) (take k (q .world .vars))) l
+  time-lines : x .answer ≡ val time → linesOf m given r ≡ []
+  unfolding traceText
+  time-lines e = by-answer (val time) e
 
-  module _ (w : Refusal) (e : m .step (r .world .position - 1) r ≡ fault w) where
-    turn-fault : stepped m r ≡ fault w
-    turn-fault = at-part m n size r h ∙ ap (λ o. o >>= λ x. val (x .0, moved (x .1))) e
+  fault-lines : (w : Refusal) → x .answer ≡ fault w → linesOf m given r ≡ []
+  unfolding traceText
+  fault-lines w e = by-answer (fault w) e
 
-    pub fault-run : runAfter (stepped m r) ≡ fault w
-    fault-run = ap runAfter turn-fault
+  -- a part's turn has a part's place, and goes one on
+  pub part-place : (a : Answer) → x .answer ≡ val a → NotTime a →
+      (1 ≤ r .world .position) × (r .world .position ≤ parts m) × (x .lent .world .position ≡ r .world .position + 1)
+  part-place a e n =
+      let m₁ = moves-on m ok given r x is a e n in
+      (turn-begun m ok given r (a, x .lent) (turned-so (val a) e), m₁ .0, m₁ .1)
 
-    pub fault-line : turnLine m r (stepped m r) ≡ []
-    fault-line = ap (turnLine m r) turn-fault
+  module _ {before now : List ℕ} {events : ℕ} {r₀ : Run} {at : ℕ} (u : Underway m before events r₀ now at given r) where
+    pub underway-next : (a : Answer) → x .answer ≡ val a → NotTime a → (later : List ℕ) (place v : ℕ) → parts m ≤ 8 → length (m .variables) ≡ v →
+        Wrote now at (answerText (r .world .cycles) (r .world .position - 1) (x .answer) (getD (x .lent .at) (r .world .position - 1) 0) (take v (x .lent .world .vars))) later place
+        × (place ≤ at + 482) → Underway m before events r₀ later place 0 (x .lent)
+    underway-next a e n later place v few l told =
+        let p = part-place a e n in
+        let line = turnText m (give given r) a (x .lent) in
+        let one : Wrote now at line later place = subst (λ t. Wrote now at t later place) (answer-text m given r (x .answer) a (x .lent) v e l) (told .0) in
+        record {
+          text = u .text ++ line;
+          wrote = wrote-then (u .wrote) one;
+          lines = u .lines ∙ ap (λ t. u .text ++ t) (part-lines a e n) ∙ sym (append-assoc (u .text) line (linesOf m 0 (x .lent)));
+          end = u .end ∙ goes-on m ok given r x is a e n;
+          near = omega (arith, p .0, p .2, u .near, told .1);
+          room = omega (arith, p .0, p .1, few, u .near, told .1);
+        }
 
--- ---- the turns of a cycle
+    -- Where no line is left, all are written: what a call promises that ends so.
+    whole : (o : Out (Unit {0} × Run)) → linesOf m given r ≡ [] → cycle m given r ≡ o →
+        Begins before (linesOf m events r₀) now at × ((at ≤ 3856) × (settled r₀ o ≡ settled r₀ (cycle m events r₀)))
+    whole o nil e =
+        let all : linesOf m events r₀ ≡ u .text = u .lines ∙ ap (λ t. u .text ++ t) nil ∙ append-nil (u .text) in
+        let w : Wrote before 0 (linesOf m events r₀) now at = subst (λ t. Wrote before 0 t now at) (sym all) (u .wrote) in
+        ((let b = w .behind in omega arith, w .written), (u .room, sym (ap (settled r₀) (u .end ∙ e))))
 
-module _ (m : Machine) (n : ℕ) where
-  abbrev pub linesLeft : Run → List ℕ
-  linesLeft r = traceText m (turns m (n + 2 - r .world .position) r)
+    pub finished : x .answer ≡ val time →
+        Begins before (linesOf m events r₀) now at × ((at ≤ 3856) × (record { answer = val tt; lent = x .lent } ≡ settled r₀ (cycle m events r₀)))
+    finished e = whole (val (tt, x .lent)) (time-lines e) (ends-at-time m ok given r x is e)
 
-  abbrev pub runLeft : Run → Out Run
-  runLeft r = after m (n + 2 - r .world .position) r
+    pub failed : (w : Refusal) → x .answer ≡ fault w →
+        Begins before (linesOf m events r₀) now at × ((at ≤ 3856) × (record { answer = fault w; lent = r₀ } ≡ settled r₀ (cycle m events r₀)))
+    failed w e = whole (fault w) (fault-lines w e) (ends-in-fault m ok given r x is w e)
 
-  -- In the midst of a cycle that began in r₀: what is written and what is left make up the whole, and each part to come has room for its line.
-  pub record Underway (fit : ℕ → ℕ → ℕ → Type 0) (before : List ℕ) (r₀ : Run) (now : List ℕ) (at : ℕ) (r : Run) : Type 0 where
-    pub ready : Ready n fit r
-    pub text : List ℕ
-    pub wrote : Wrote before 0 text now at
-    pub lines : linesLeft r₀ ≡ text ++ linesLeft r
-    pub end : runLeft r₀ ≡ runLeft r
-    pub room : at + 482 * (n + 1 - r .world .position) ≤ 3856
-
-module _ (m : Machine) (n : ℕ) (size : parts m ≡ n) where
-  pub underway : {fit : ℕ → ℕ → ℕ → Type 0} (before : List ℕ) (r : Run) → n ≤ 8 → Ready n fit r → Underway m n fit before r before 0 r
-  underway before r few h = record {
-    ready = h;
-    text = [];
-    wrote = nothing-wrote before 0;
-    lines = refl;
-    end = refl;
-    room = omega (arith, h .begun, few);
-  }
-
-  module _ {fit : ℕ → ℕ → ℕ → Type 0} {before now : List ℕ} {r₀ r : Run} {at : ℕ} (u : Underway m n fit before r₀ now at r) where
-    module _ (h : r .world .position ≤ n) where
-      -- a turn taken: the next position
-      pub underway-next : (q : Run) (later : List ℕ) (place : ℕ) → WentOn (stepped m r) q → Wrote now at (turnLine m r (stepped m r)) later place → place ≤ at + 482 →
-          Ready n fit q × (q .world .position ≡ r .world .position + 1) → Underway m n fit before r₀ later place q
-      underway-next q later place went w l next =
-          let a = went .answer in
-          let one : Wrote now at (turnText m r a q) later place = subst (λ o. Wrote now at (turnLine m r o) later place) (went .is) w in
-          let more : linesLeft m n r ≡ turnText m r a q ++ linesLeft m n q =
-          ap (λ k. traceText m (turns m k r)) (let z : n + 2 - r .world .position ≡ suc (n + 2 - q .world .position) = omega (arith, next .1) in z)
-          ∙ lines-more m (n + 2 - q .world .position) r a q (went .is)
-          in
-          record {
-            ready = next .0;
-            text = u .text ++ turnText m r a q;
-            wrote = wrote-then (u .wrote) one;
-            lines = u .lines ∙ ap (λ t. u .text ++ t) more ∙ sym (append-assoc (u .text) (turnText m r a q) (linesLeft m n q));
-            end = u .end ∙ cycle-more m n size r a q h (next .1) (went .is);
-            room = omega (arith, next .1, u .room);
-          }
-
-      -- a turn that faults: nothing is written any more
-      module _ (w : Refusal) (e : stepped m r ≡ fault w) where
-        pub stopped-lines : (later : List ℕ) (place : ℕ) → Wrote now at (turnLine m r (stepped m r)) later place → Begins before (linesLeft m n r₀) later place × (place ≤ 3856)
-        stopped-lines later place w′ =
-            let none : Wrote now at [] later place = subst (λ o. Wrote now at (turnLine m r o) later place) e w′ in
-            let nil : linesLeft m n r ≡ [] =
-            ap (λ k. traceText m (turns m k r)) (let z : n + 2 - r .world .position ≡ suc (n + 1 - r .world .position) = omega arith in z)
-            ∙ lines-stop m (n + 1 - r .world .position) r w e
-            in
-            let whole : Wrote before 0 (linesLeft m n r₀) later place = subst (λ t. Wrote before 0 t later place) (ap (λ t. u .text ++ t) (sym nil) ∙ sym (u .lines)) (wrote-then (u .wrote) none) in
-            ((let b = whole .behind in omega arith, whole .written), let b = none .behind in omega (arith, u .room))
-
-        pub stopped-end : runLeft m n r₀ ≡ fault w
-        stopped-end = u .end ∙ cycle-stop m n size r w h e
-
-    -- all parts have had their turn: time has no line
-    module _ (h : r .world .position ≡ n + 1) where
-      pub finished-lines : Begins before (linesLeft m n r₀) now at × (at ≤ 3856)
-      finished-lines =
-          let nil : linesLeft m n r ≡ [] =
-          ap (λ k. traceText m (turns m k r)) (let z : n + 2 - r .world .position ≡ 1 = omega arith in z)
-          ∙ lines-more m 0 r time (timePassed m r) (at-time m n size r (omega arith))
-          ∙ lines-none m (timePassed m r)
-          in
-          let whole : Wrote before 0 (linesLeft m n r₀) now at = subst (λ t. Wrote before 0 t now at) (sym (append-nil (u .text)) ∙ ap (λ t. u .text ++ t) (sym nil) ∙ sym (u .lines)) (u .wrote) in
-          ((let b = whole .behind in omega arith, whole .written), omega (arith, u .room))
-
-      pub finished-end : runLeft m n r₀ ≡ val (timePassed m r)
-      finished-end = u .end ∙ cycle-end m n size r h
-
--- ---- the call
-
-module _ (m : Machine) (events : ℕ) (r : Run) where
-  -- a call that is refused writes nothing and changes nothing
-  module _ (w : Refusal) (e : checked m events r ≡ fault w) where
-    refused-lines : traceText m (trace m (whole-cycle events) r) ≡ []
-    unfolding traceText
-    refused-lines = ap (λ c. traceText m (unless-stopped c (turns m (parts m + 2 - r .world .position) (give events r)))) e
-
-    pub refused-text : (before : List ℕ) (size : ℕ) → size ≡ 0 → Begins before (traceText m (trace m (whole-cycle events) r)) before size
-    refused-text before size z = (z ∙ ap length (sym refused-lines), ap (sets before 0) (sym refused-lines))
-
-    pub refused-end : record { answer = fault w; lent = r } ≡ settled r (cycle m events r)
-    refused-end = sym (ap (settled r) (cycle-refused m events r w e))
-
-  pub given-lines : (n : ℕ) → parts m ≡ n → (q : Run) → checked m events r ≡ val tt → q ≡ give events r → traceText m (trace m (whole-cycle events) r) ≡ linesLeft m n q
-  given-lines n size q e d =
-      subst (λ x. traceText m (trace m (whole-cycle events) r) ≡ traceText m (turns m (n + 2 - x .world .position) x)) (sym d)
-      (ap (λ c. traceText m (unless-stopped c (turns m (parts m + 2 - r .world .position) (give events r)))) e
-      ∙ ap (λ k. traceText m (turns m (k + 2 - r .world .position) (give events r))) size)
-
-  -- the run after the cycle, told by the answer alone
-  pub ended-by : (x : Outcome (Unit {0}) Run) → x ≡ settled r (cycle m events r) → endedOf x ≡ ended r (trace m (whole-cycle events) r)
-  ended-by x e = ap endedOf e ∙ go (ended r (trace m (whole-cycle events) r))
-    where
-      go : (o : Out Run) → endedOf (settled r (finish o)) ≡ o
-      go (val q) = refl
-      go (fault v) = refl
+-- the run after the cycle, told by the answer alone
+pub ended-by : (m : Machine) (events : ℕ) (r : Run) (x : Outcome (Unit {0}) Run) → x ≡ settled r (cycle m events r) → endedOf x ≡ ended r (trace m (whole-cycle events) r)
+ended-by m events r x e = ap endedOf e ∙ go (ended r (trace m (whole-cycle events) r))
+  where
+    go : (o : Out Run) → endedOf (settled r (finish o)) ≡ o
+    go (val q) = refl
+    go (fault v) = refl

@@ -1,19 +1,18 @@
--- What a turn of any machine writes and leaves. Assumes nothing: these are definitions.
+-- The line of a part's turn by its answer, and how a cycle ended. Assumes nothing: these are definitions.
 use mathlib.Core.List.{List, []}
 use Prim.Native.Nat.{ℕ}
+use lib.IntN.{ℤ}
 use Rattle.records.specs.Refusal.{Out, val, fault, _>>=_}
 use Rattle.model.specs.Outcome.{Outcome}
-use Rattle.model.specs.Runs.{Run, Machine, Answer}
-use Rattle.lines.specs.Text.{turnText}
+use Rattle.model.specs.Runs.{Run, Answer, taken, idle, time}
+use Rattle.lines.specs.Text.{lineText}
 
--- the run after a turn, if it was taken
-abbrev pub runAfter : Out (Answer × Run) → Out Run
-runAfter o = o >>= λ x. val (x .1)
-
--- the lines of a turn taken in r: none where it faults
-abbrev pub turnLine : Machine → Run → Out (Answer × Run) → List ℕ
-turnLine m r (val x) = turnText m r (x .0) (x .1)
-turnLine m r (fault w) = []
+-- time has no line, nor has a turn that is not taken
+abbrev pub answerText : (cycle part : ℕ) → Out Answer → (place : ℕ) → List ℤ → List ℕ
+answerText cycle part (val (taken t)) place variables = lineText cycle part (taken t) place variables
+answerText cycle part (val idle) place variables = lineText cycle part idle place variables
+answerText cycle part (val time) place variables = []
+answerText cycle part (fault w) place variables = []
 
 -- the run after a cycle, if there is one
 abbrev pub endedOf : Outcome (Unit {0}) Run → Out Run

@@ -4,10 +4,10 @@ use Rattle.replay.proofs.play.Statement.{statement}
 use Rattle.replay.proofs.play.Tie as tie
 
 abbrev Inv-loop : tie.InvT-loop
-Inv-loop s shape rows first next run₀ left₀ run left = Unit {0}
+Inv-loop s shape rows ends first next run₀ left₀ run left = Unit {0}
 
 abbrev μ-loop : tie.MeasureT-loop
-μ-loop s shape rows first next run₀ left₀ run left = left
+μ-loop s shape rows ends first next run₀ left₀ run left = left
 
 start-requires : tie.Need-start-requires Inv-loop μ-loop
 start-requires c κs = c .before .pre .accepted .shape

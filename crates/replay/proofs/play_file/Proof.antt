@@ -1,4 +1,5 @@
 -- `replay::play_file` is safe: a file that is not refused is one that can be played. Assumes nothing.
+use mathlib.Core.Path.{refl}
 use borrow.Author.Needs.{needs}
 use denote.Ref.{now}
 use Rattle.charts.specs.Accepted.{Accepted}
@@ -12,8 +13,8 @@ check-requires c κs = search needs
 enum-known-w : tie.Need-enum-known-w
 enum-known-w c = search needs
 
-tell-file-requires : tie.Need-tell-file-requires
-tell-file-requires c κs = search needs
+tell-refusal-requires : tie.Need-tell-refusal-requires
+tell-refusal-requires c κs = search needs
 
 enum-known-shape : tie.Need-enum-known-shape
 enum-known-shape c = search needs
@@ -23,16 +24,17 @@ accepted c =
     let k = c .before .before .before in
     accepted-of (now (k .before .before .args .s)) (k .check .result) (k .check .ensures) (c .before .shape .given .0 .0) (c .before .shape .given .1)
 
-rows-of-requires : tie.Need-rows-of-requires
-rows-of-requires c κs = accepted c
+fill-rows-requires : tie.Need-fill-rows-requires
+fill-rows-requires c κs = (accepted (c .before .before), refl, refl)
 
-actions-of-requires : tie.Need-actions-of-requires
-actions-of-requires c κs = accepted (c .before)
+fill-actions-requires : tie.Need-fill-actions-requires
+fill-actions-requires c κs = (accepted (c .before .before .before .before .before), refl, refl)
 
 play-requires : tie.Need-play-requires
 play-requires c κs =
-    let a = c .before .before .before .before .before in
-    record { accepted = accepted (a .before .before); has-rows = a .before .rows-of .ensures; has-actions = a .actions-of .ensures }
+    let a = c .before .before .before .before in
+    let r = a .before .before .before in
+    record { accepted = accepted (r .before .before .before); has-rows = r .fill-rows .ensures .0; has-ends = r .fill-rows .ensures .1; has-actions = a .fill-actions .ensures }
 
 returns : tie.Need-returns
 returns c = search needs
@@ -46,10 +48,10 @@ play-file-spec =
     (tie.spec
     check-requires
     enum-known-w
-    tell-file-requires
+    tell-refusal-requires
     enum-known-shape
-    rows-of-requires
-    actions-of-requires
+    fill-rows-requires
+    fill-actions-requires
     play-requires
     returns
     returns-2)

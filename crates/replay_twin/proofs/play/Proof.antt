@@ -10,7 +10,7 @@ abbrev μ-loop : tie.MeasureT-loop
 μ-loop s shape first next run₀ left₀ run left = left
 
 start-requires : tie.Need-start-requires Inv-loop μ-loop
-start-requires c κs = c .before .pre .accepted .shape
+start-requires c κs = c .before .before .pre .accepted .shape
 
 loop-holds : tie.Need-loop-holds Inv-loop μ-loop
 loop-holds c = search needs

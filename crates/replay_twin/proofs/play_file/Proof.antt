@@ -11,19 +11,16 @@ use Rattle.replay_twin.proofs.play_file.Tie as tie
 check-requires : tie.Need-check-requires
 check-requires c κs = search needs
 
-enum-told : tie.Need-enum-told
-enum-told c = search needs
+enum-known-w : tie.Need-enum-known-w
+enum-known-w c = search needs
 
-table-number-requires : tie.Need-table-number-requires
-table-number-requires c κs = search needs
-
-tell-number-requires : tie.Need-tell-number-requires
-tell-number-requires c κs = search needs
+tell-refusal-requires : tie.Need-tell-refusal-requires
+tell-refusal-requires c κs = search needs
 
 enum-known-shape : tie.Need-enum-known-shape
 enum-known-shape c = search needs
 
-accepted : (c : tie.After-known-told) → Accepted (now (c .before .before .before .before .before .args .s)) (c .before .shape .given .0 .0)
+accepted : (c : tie.After-known-told2) → Accepted (now (c .before .before .before .before .before .args .s)) (c .before .shape .given .0 .0)
 accepted c =
     let k = c .before .before .before in
     accepted-of (now (k .before .before .args .s)) (k .check .result) (k .check .ensures) (c .before .shape .given .0 .0) (c .before .shape .given .1)
@@ -34,8 +31,11 @@ slice-aggregate-index-of c = search needs
 index-of-requires : tie.Need-index-of-requires
 index-of-requires c κs = let ok = accepted (c .before .before) in (ok, (blank, room-long _ _ (ok .shape)))
 
+slice-aggregate-play : tie.Need-slice-aggregate-play
+slice-aggregate-play c = search needs
+
 play-requires : tie.Need-play-requires
-play-requires c κs = record { accepted = accepted (c .before .before .before .before .before .before); has-index = c .before .before .before .index-of .ensures }
+play-requires c κs = record { accepted = accepted (c .before .before .before .before .before .before); has-index = c .before .before .before .index-of .ensures .0 }
 
 returns : tie.Need-returns
 returns c = search needs
@@ -48,12 +48,12 @@ play-file-spec =
     tie.close
     (tie.spec
     check-requires
-    enum-told
-    table-number-requires
-    tell-number-requires
+    enum-known-w
+    tell-refusal-requires
     enum-known-shape
     slice-aggregate-index-of
     index-of-requires
+    slice-aggregate-play
     play-requires
     returns
     returns-2)

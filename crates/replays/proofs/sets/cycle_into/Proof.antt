@@ -1,139 +1,154 @@
--- `sets::cycle_into` meets its contract: what the checks let pass is ready. Assumes nothing.
-use mathlib.Core.Path.{_≡_, sym, ap, _∙_, subst}
-use mathlib.Core.List.{List}
-use Prim.Native.Nat.{ℕ, _≤_}
+-- `sets::cycle_into` meets its contract. The invariant: what is written and what is left of the cycle make up the whole. Assumes nothing.
+use mathlib.Core.Path.{_≡_, refl, ap, _∙_, subst}
+use Prim.Native.Nat.{_+_, _-_, _≤_}
 use native.Mathlib.Omega.{arith}
 use borrow.Author.Needs.{needs}
 use denote.Ref.{now}
-use Rattle.records.specs.Refusal.{val, fault}
-use Rattle.model.specs.Outcome.{settled}
-use Rattle.model.specs.Runs.{checked, trace, whole-cycle, cycle}
-use Rattle.model.specs.Replay.{traceLines}
+use lib.ListN.{length}
+use Rattle.records.specs.RefusalOf.{refusalOf}
+use Rattle.records.specs.Wrote.{Begins}
+use Rattle.model.specs.Runs.{Machine, parts, whole-cycle, trace}
 use Rattle.model.specs.ChartSet.{readCharts}
 use Rattle.model.specs.Charts.{charts}
-use Rattle.charts.specs.declared.runs.Run as declared-run
-use Rattle.charts.specs.declared.turns.Refusal as declared-refusal
-use Rattle.charts.specs.declared.turns.Refusal.the-variants.{Impossible, Misplaced, Finished}
-use Rattle.charts.specs.declared.turns.Ending as declared-ending
+use Rattle.model.specs.Replay.{traceLines}
+use Rattle.model.proofs.StaysPossible.{Steady}
+use Rattle.model.proofs.Steady.{steady-charts}
+use Rattle.model.proofs.Accepted.{sound}
+use Rattle.machines.specs.Answers.{reasonOf, answerOf}
+use Rattle.chart_files.proofs.Readings.{most-charts, most-variables, length-initial, length-variables}
 use Rattle.charts.specs.RunOf.{runOf}
-use Rattle.charts.specs.TurnOf.{refusalOf, endingOf, Ready}
-use Rattle.chart_files.proofs.Readings.{length-initial}
-use Rattle.machines.specs.Checks.{beforeOf}
-use Rattle.machines.proofs.Turning.{cycle-given}
-use Rattle.charts.proofs.Turning.{ready}
-use Rattle.records.specs.Wrote.{Begins}
+use Rattle.charts.specs.TurnOf.{turnOf}
+use Rattle.charts.proofs.CycleLaws.{PartTurn, part-turn}
 use Rattle.lines.proofs.Texts.{trace-text}
-use Rattle.replays.specs.declared.sets.Lined.{Lined}
-use Rattle.replays.specs.Sets.{linedOf}
-use Rattle.replays.proofs.Lines.{given-lines, refused-text, refused-end}
+use Rattle.replays.proofs.Lines.{linesOf, Underway, underway, part-place, underway-next, finished, failed}
 use Rattle.replays.proofs.sets.cycle_into.Statement.{statement}
 use Rattle.replays.proofs.sets.cycle_into.Tie as tie
 
-before-turn-requires : tie.Need-before-turn-requires
-before-turn-requires c κs = c .before .before .pre .accepted .shape
+abbrev Inv-loop : tie.InvT-loop
+Inv-loop s shape rows ends first next run events out₀ present₀ given₀ size₀ out present given size =
+    Underway (charts (readCharts s)) out₀ events (runOf run) out size given (runOf present) × (length out ≡ length out₀)
 
-enum-told : tie.Need-enum-told
+abbrev μ-loop : tie.MeasureT-loop
+μ-loop s shape rows ends first next run events out₀ present₀ given₀ size₀ out present given size = parts (charts (readCharts s)) + 2 - present .position
+
+loop-holds : tie.Need-loop-holds Inv-loop μ-loop
+loop-holds c = (underway _ _ _ _, refl)
+
+turn-requires : tie.Need-turn-requires Inv-loop μ-loop
+turn-requires c κs = c .before .before .before .pre
+
+-- the machine, whose turns keep a run possible
+abbrev m : tie.After-turn Inv-loop μ-loop → Machine
+m t = charts (readCharts (now (t .before .before .before .before .args .s)))
+
+steady : (t : tie.After-turn Inv-loop μ-loop) → Steady (m t)
+steady t = let b = t .before .before .before .before in steady-charts (readCharts (now (b .args .s))) (sound (now (b .args .s)) (b .pre .accepted .unrefused))
+
+-- a part's turn is taken at its place, and goes one on
+on : (t : tie.After-turn Inv-loop μ-loop) → PartTurn (t .turn .result .answer) →
+    (1 ≤ t .before .loop .present .position) × (t .before .loop .present .position ≤ parts (m t))
+    × (t .turn .result .run .position ≡ t .before .loop .present .position + 1)
+on t p = let l = t .before .loop in part-place (m t) (steady t) (l .given) (runOf (l .present)) (turnOf (t .turn .result)) (t .turn .ensures) (p .answer) (p .is) (p .not-time)
+
+few : (t : tie.After-turn Inv-loop μ-loop) → parts (m t) ≤ 8
+few t =
+    let b = t .before .before .before .before in
+    omega (arith, most-charts (now (b .args .s)) (b .args .shape) (b .pre .accepted .shape), length-initial (now (b .args .s)) (b .args .shape) (b .pre .accepted .shape))
+
+sub-chart : tie.Need-sub-chart Inv-loop μ-loop
+sub-chart c = on (c .before .before .before .before .before) (part-turn (c .before .before .before .before .before .turn .result .answer) (c .before .before .before .match .keys1)) .0
+
+tell-requires : tie.Need-tell-requires Inv-loop μ-loop
+tell-requires c κs =
+    let t = c .before .before .before .before .before .before .before .before in
+    let b = t .before .before .before .before in
+    let h = on t (part-turn (t .turn .result .answer) (c .before .before .before .before .before .before .match .keys1)) in (
+      omega (arith, t .before .loop .inv .0 .room),
+      omega (arith, h .0, h .1, few t),
+      most-variables (now (b .args .s)) (b .args .shape) (b .pre .accepted .shape),
+    )
+
+loop-less : tie.Need-loop-less Inv-loop μ-loop
+loop-less c = let t = c .before .before .before .before .before .before .before .before .before .before .before in let h = on t (part-turn (t .turn .result .answer) (c .before .before .before .before .before .before .before .before .before .match .keys1)) in omega (arith, h .1, h .2)
+
+loop-again : tie.Need-loop-again Inv-loop μ-loop
+loop-again c =
+    let t = c .before .before .before .before .before .before .before .before .before .before .before in
+    let told = c .before .before .tell in
+    let l = t .before .loop in
+    let b = t .before .before .before .before in
+    let p = part-turn (t .turn .result .answer) (c .before .before .before .before .before .before .before .before .before .match .keys1) in (
+      underway-next (m t) (steady t) (l .given) (runOf (l .present)) (turnOf (t .turn .result)) (t .turn .ensures) (l .inv .0) (p .answer) (p .is) (p .not-time)
+          (told .last .0) (told .result) (b .args .shape .variables) (few t) (length-variables (now (b .args .s)) (b .args .shape) (b .pre .accepted .shape)) (told .ensures),
+      told .kept .0 ∙ l .inv .1,
+    )
+
+-- of chart sets the text is the model's
+in-model : (t : tie.After-turn Inv-loop μ-loop) {P : Type 0} →
+    let b = t .before .before .before .before in
+    let l = t .before .loop in
+    Begins (b .args .out .now) (linesOf (m t) (b .args .events) (runOf (b .args .run))) (l .out) (l .size) × P → Begins (b .args .out .now) (traceLines (readCharts (now (b .args .s))) (trace (m t) (whole-cycle (b .args .events)) (runOf (b .args .run)))) (l .out) (l .size) × P
+in-model t h =
+    let b = t .before .before .before .before in
+    let l = t .before .loop in
+    (subst (λ x. Begins (b .args .out .now) x (l .out) (l .size)) (trace-text (readCharts (now (b .args .s))) (trace (m t) (whole-cycle (b .args .events)) (runOf (b .args .run)))) (h .0), h .1)
+
+enum-told : tie.Need-enum-told Inv-loop μ-loop
 enum-told c = search needs
 
-refused-requires : tie.Need-refused-requires
-refused-requires c κs = search needs
+same-length : tie.Need-same-length Inv-loop μ-loop
+same-length c = c .before .before .before .before .loop .inv .1
 
-enum-told-2 : tie.Need-enum-told-2
-enum-told-2 c = search needs
-
-refused-requires-2 : tie.Need-refused-requires-2
-refused-requires-2 c κs = search needs
-
-enum-told-3 : tie.Need-enum-told-3
-enum-told-3 c = search needs
-
-refused-requires-3 : tie.Need-refused-requires-3
-refused-requires-3 c κs = search needs
-
-enum-told-4 : tie.Need-enum-told-4
-enum-told-4 c = search needs
-
-give-requires : tie.Need-give-requires
-give-requires c κs = search needs
-
-passed : (c : tie.After-enum-told4) →
-    let b = c .before .before .before .before .before in
-    checked (charts (readCharts (now (b .args .s)))) (b .args .events) (runOf (b .args .run)) ≡ val tt
-passed c = sym (c .before .before .before-turn .ensures) ∙ ap beforeOf (c .enum-told4 .given .1)
-
-turns-into-requires : tie.Need-turns-into-requires
-turns-into-requires c κs =
-    let d = c .before .before in
-    let b = d .before .before .before .before .before in
-    (b .pre, subst (Ready (b .args .shape .charts)) (sym (c .before .give .ensures)) (ready (now (b .args .s)) (b .args .shape) (b .pre .accepted .shape) (b .args .events) (runOf (b .args .run)) (passed d)))
-
--- a call that is refused writes nothing and changes nothing
-module _ (s : List ℕ) (events : ℕ) (run : declared-run.Run) (w : declared-refusal.Refusal) (p : Lined) where
-  refused-call : checked (charts (readCharts s)) events (runOf run) ≡ fault (refusalOf w) → (p .size ≡ 0) × (p .answer ≡ declared-ending.the-variants.Refused w) × (p .run ≡ run) →
-      (before : List ℕ) → Begins before (traceLines (readCharts s) (trace (charts (readCharts s)) (whole-cycle events) (runOf run))) before (p .size)
-      × ((p .size ≤ 3856) × (linedOf p ≡ settled (runOf run) (cycle (charts (readCharts s)) events (runOf run))))
-  refused-call e h before =
-      let m = charts (readCharts s) in
-      let r = runOf run in (
-        subst (λ t. Begins before t before (p .size)) (trace-text (readCharts s) (trace m (whole-cycle events) r)) (refused-text m events r (refusalOf w) e before (p .size) (h .0)),
-        (omega (arith, h .0), (λ i. record { answer = endingOf (h .1 i); lent = runOf (h .2 i) }) ∙ refused-end m events r (refusalOf w) e),
-      )
-
-returns : tie.Need-returns
+returns : tie.Need-returns Inv-loop μ-loop
 returns c =
-    let b = c .before .before .before .before .before .before in
-    refused-call (now (b .args .s)) (b .args .events) (b .args .run) Impossible (c .refused .result)
-    (sym (c .before .before .before .before-turn .ensures) ∙ ap beforeOf (c .before .enum-told .given .1)) (c .refused .ensures) (b .args .out .now)
+    let t = c .before .before .before in
+    let l = t .before .loop in
+    in-model t (finished (m t) (steady t) (l .given) (runOf (l .present)) (turnOf (t .turn .result)) (t .turn .ensures) (l .inv .0) (ap answerOf (c .enum-told .given .1)))
 
-returns-2 : tie.Need-returns-2
+enum-known-answer : tie.Need-enum-known-answer Inv-loop μ-loop
+enum-known-answer c = search needs
+
+same-length-2 : tie.Need-same-length-2 Inv-loop μ-loop
+same-length-2 c = c .before .before .before .before .before .loop .inv .1
+
+returns-2 : tie.Need-returns-2 Inv-loop μ-loop
 returns-2 c =
-    let b = c .before .before .before .before .before .before in
-    refused-call (now (b .args .s)) (b .args .events) (b .args .run) Misplaced (c .refused2 .result)
-    (sym (c .before .before .before .before-turn .ensures) ∙ ap beforeOf (c .before .enum-told2 .given .1)) (c .refused2 .ensures) (b .args .out .now)
+    let t = c .before .before .before .before in
+    let l = t .before .loop in
+    let g = c .before .answer .given in
+    in-model t (failed (m t) (steady t) (l .given) (runOf (l .present)) (turnOf (t .turn .result)) (t .turn .ensures) (l .inv .0) (reasonOf (g .0 .0)) (ap answerOf (g .1)))
 
-returns-3 : tie.Need-returns-3
+enum-known-answer-2 : tie.Need-enum-known-answer-2 Inv-loop μ-loop
+enum-known-answer-2 c = search needs
+
+same-length-3 : tie.Need-same-length-3 Inv-loop μ-loop
+same-length-3 c = c .before .before .before .before .before .loop .inv .1
+
+returns-3 : tie.Need-returns-3 Inv-loop μ-loop
 returns-3 c =
-    let b = c .before .before .before .before .before .before in
-    refused-call (now (b .args .s)) (b .args .events) (b .args .run) Finished (c .refused3 .result)
-    (sym (c .before .before .before .before-turn .ensures) ∙ ap beforeOf (c .before .enum-told3 .given .1)) (c .refused3 .ensures) (b .args .out .now)
-
-same-length : tie.Need-same-length
-same-length c = search needs
-
-returns-4 : tie.Need-returns-4
-returns-4 c =
-    let called = c .before .before .turns-into in
-    let g = c .before .before .before .before in
-    let b = g .before .before .before .before .before .before in
-    let s = now (b .args .s) in
-    let is = b .pre .accepted .shape in
-    let m = charts (readCharts s) in
-    let r = runOf (b .args .run) in (
-      subst (λ t. Begins (b .args .out .now) t (called .last .1 .1 .1 .1 .1 .1 .1 .0) (called .result .size))
-          (sym (given-lines m (b .args .events) r (b .args .shape .charts) (length-initial s (b .args .shape) is) (runOf (g .give .result)) (passed (g .before)) (g .give .ensures)) ∙ trace-text (readCharts s) (trace m (whole-cycle (b .args .events)) r))
-          (called .ensures .0),
-      (
-        called .ensures .1 .0,
-        called .ensures .1 .1 ∙ sym (ap (settled r) (cycle-given (charts (readCharts s)) (b .args .shape .charts) (length-initial s (b .args .shape) is) (b .args .events) r (runOf (g .give .result)) (passed (g .before)) (g .give .ensures))),
-      ),
-    )
+    let t = c .before .before .before .before in
+    let l = t .before .loop in
+    let g = c .before .answer2 .given in
+    in-model t (failed (m t) (steady t) (l .given) (runOf (l .present)) (turnOf (t .turn .result)) (t .turn .ensures) (l .inv .0) (refusalOf (g .0 .0)) (ap answerOf (g .1)))
 
 pub cycle-into-spec : {M : Type 1} → statement M
 cycle-into-spec =
     tie.close
     (tie.spec
-    before-turn-requires
+    Inv-loop
+    μ-loop
+    loop-holds
+    turn-requires
+    sub-chart
+    tell-requires
+    loop-less
+    loop-again
     enum-told
-    refused-requires
-    enum-told-2
-    refused-requires-2
-    enum-told-3
-    refused-requires-3
-    enum-told-4
-    give-requires
-    turns-into-requires
-    returns
-    returns-2
-    returns-3
     same-length
-    returns-4)
+    returns
+    enum-known-answer
+    same-length-2
+    returns-2
+    enum-known-answer-2
+    same-length-3
+    returns-3)
