@@ -118,9 +118,10 @@ returns c =
     let l = c .before .loop in
     let source = sourceAt (now (x .s)) (x .shape) in
     let priority = priorityAt (now (x .s)) (x .shape) in
-    let e : l .t ≡ 0 = omega (arith, c .loop-test .left) in
-    (rows-are (now (x .s)) (x .shape) (a .pre .0) (l .rows) (subst (Rows source priority (x .shape .transitions) 128 (l .rows)) e (l .inv .0)),
-      ends-are (now (x .s)) (x .shape) (a .pre .0) (l .rows) (l .ends) (subst (Ended source priority (x .shape .transitions) (l .rows) (l .ends)) e (l .inv .1)))
+    let e : l .t ≡ 0 = omega (arith, c .loop-test .left) in (
+      rows-are (now (x .s)) (x .shape) (a .pre .0) (l .rows) (subst (Rows source priority (x .shape .transitions) 128 (l .rows)) e (l .inv .0)),
+      ends-are (now (x .s)) (x .shape) (a .pre .0) (l .rows) (l .ends) (subst (Ended source priority (x .shape .transitions) (l .rows) (l .ends)) e (l .inv .1)),
+    )
 
 pub fill-rows-spec : {M : Type 1} → statement M
 fill-rows-spec =
