@@ -24,11 +24,11 @@ use Rattle.model.proofs.Demand3.{translated}
 use Rattle.model.proofs.TwinAccepted.{twin-accepted}
 use Rattle.model.proofs.TwinPath.{twin-path-back}
 use Rattle.charts.specs.declared.runs.Run as charts-run
-use Rattle.charts.specs.declared.turns.Called as charts-called
+use Rattle.charts.specs.declared.cycles.Called as charts-called
 use Rattle.charts.specs.RunOf as C-run
 use Rattle.charts.specs.TurnOf as C
 use Rattle.automata.specs.declared.runs.Run as automata-run
-use Rattle.automata.specs.declared.turns.Called as automata-called
+use Rattle.automata.specs.declared.cycles.Called as automata-called
 use Rattle.automata.specs.RunOf as A-run
 use Rattle.automata.specs.TurnOf as A
 use Rattle.translation.specs.declared.Translated.{Translated}

@@ -12,12 +12,13 @@ use Rattle.model.specs.Translation.{translate}
 use Rattle.model.specs.Calls.{chartSets, automataTables, startCall, turnCall, cycleCall}
 use Rattle.model.specs.Correspondence.{AnswersMatch, OutsMatch, MoveAlike}
 use Rattle.model.proofs.Demand3.{demand-3}
+use Rattle.machines.specs.Answers.{answerOf, endingOf}
 use Rattle.charts.specs.declared.runs.Run as charts-run
-use Rattle.charts.specs.declared.turns.Called as charts-called
+use Rattle.charts.specs.declared.cycles.Called as charts-called
 use Rattle.charts.specs.RunOf as C-run
 use Rattle.charts.specs.TurnOf as C
 use Rattle.automata.specs.declared.runs.Run as automata-run
-use Rattle.automata.specs.declared.turns.Called as automata-called
+use Rattle.automata.specs.declared.cycles.Called as automata-called
 use Rattle.automata.specs.RunOf as A-run
 use Rattle.automata.specs.TurnOf as A
 use Rattle.translation.specs.declared.Translated.{Translated}
@@ -37,14 +38,14 @@ module _ (s t : List ℕ) where
       let R = C-run.runOf r in
       let Q = A-run.runOf q in (
         h .0,
-        subst (λ b. OutsMatch (AnswersMatch (readAutomata t) (give events R) (give events Q)) (C.answerOf (x .answer)) b) (sym (ap (λ z. z .answer) (p .0 .1)))
+        subst (λ b. OutsMatch (AnswersMatch (readAutomata t) (give events R) (give events Q)) (answerOf (x .answer)) b) (sym (ap (λ z. z .answer) (p .0 .1)))
             (subst (λ a. OutsMatch (AnswersMatch (readAutomata t) (give events R) (give events Q)) a (turnCall automataTables t events Q .answer)) (sym (ap (λ z. z .answer) (p .0 .0))) (h .1)),
         alike ps (x .run) (y .run) (p .1) (moved-to s t (map callOf ps) (sym (ap (λ z. z .lent) (p .0 .0))) (sym (ap (λ z. z .lent) (p .0 .1))) (h .2)),
       )
   alike (cycle-play events x y ∷ ps) r q p h = (
     h .0,
     (
-      subst (λ b. OutsMatch (λ _ _. Unit) (C.endingOf (x .answer)) b) (sym (ap (λ z. z .answer) (p .0 .1)))
+      subst (λ b. OutsMatch (λ _ _. Unit) (endingOf (x .answer)) b) (sym (ap (λ z. z .answer) (p .0 .1)))
           (subst (λ a. OutsMatch (λ _ _. Unit) a (cycleCall automataTables t events (A-run.runOf q) .answer)) (sym (ap (λ z. z .answer) (p .0 .0))) (h .1 .0)),
       h .1 .1,
     ),
@@ -57,7 +58,7 @@ pub runs-alike : (s buffer : List ℕ) → T (all (λ b. ltb b 256) s) → (x : 
     (lent : charts-run.Run) (lent′ : automata-run.Run) (r₀ : charts-called.Called) (q₀ : automata-called.Called) →
     C.calledOf r₀ ≡ startCall chartSets s (C-run.runOf lent) → A.calledOf q₀ ≡ startCall automataTables (take n out) (A-run.runOf lent′) →
     (ps : List Play) → Played s (take n out) ps (r₀ .run) (q₀ .run) →
-    (C.endingOf (r₀ .answer) ≡ val tt) × (A.endingOf (q₀ .answer) ≡ val tt) × RunAlike s (take n out) ps (r₀ .run) (q₀ .run)
+    (endingOf (r₀ .answer) ≡ val tt) × (endingOf (q₀ .answer) ≡ val tt) × RunAlike s (take n out) ps (r₀ .run) (q₀ .run)
 runs-alike s buffer bytes x out n made wrote lent lent′ r₀ q₀ c a ps p =
     let e : translate s buffer ≡ record { answer = val n; lent = out } = sym made ∙ ap (λ y. translatedOf y out) wrote in
     let d = demand-3 s buffer bytes n out e (map callOf ps) (C-run.runOf lent) (A-run.runOf lent′) in (

@@ -8,14 +8,15 @@ use Rattle.model.specs.ChartSet.{readCharts}
 use Rattle.model.specs.AutomataTable.{readAutomata}
 use Rattle.model.specs.Calls.{chartSets, automataTables, turnCall, cycleCall, callTrace}
 use Rattle.model.specs.Correspondence.{Corresponds, AnswersMatch, TracesMatch, OutsMatch}
+use Rattle.machines.specs.Answers.{answerOf, endingOf}
 use Rattle.charts.specs.declared.runs.Run as charts-run
 use Rattle.charts.specs.declared.turns.Turned as charts-turned
-use Rattle.charts.specs.declared.turns.Called as charts-called
+use Rattle.charts.specs.declared.cycles.Called as charts-called
 use Rattle.charts.specs.RunOf as C-run
 use Rattle.charts.specs.TurnOf as C
 use Rattle.automata.specs.declared.runs.Run as automata-run
 use Rattle.automata.specs.declared.turns.Turned as automata-turned
-use Rattle.automata.specs.declared.turns.Called as automata-called
+use Rattle.automata.specs.declared.cycles.Called as automata-called
 use Rattle.automata.specs.RunOf as A-run
 use Rattle.automata.specs.TurnOf as A
 
@@ -54,9 +55,9 @@ Played s t (p ∷ ps) r q = Meets s t p r q × Played s t ps (chartsLeft p) (aut
 -- the functions' answers; of a cycle its inner turns as well
 abbrev pub RepliesMatch : List ℕ → List ℕ → Play → charts-run.Run → automata-run.Run → Type 0
 RepliesMatch s t (turn-play events x y) r q =
-    OutsMatch (AnswersMatch (readAutomata t) (give events (C-run.runOf r)) (give events (A-run.runOf q))) (C.answerOf (x .answer)) (A.answerOf (y .answer))
+    OutsMatch (AnswersMatch (readAutomata t) (give events (C-run.runOf r)) (give events (A-run.runOf q))) (answerOf (x .answer)) (answerOf (y .answer))
 RepliesMatch s t (cycle-play events x y) r q =
-    OutsMatch (λ _ _. Unit) (C.endingOf (x .answer)) (A.endingOf (y .answer))
+    OutsMatch (λ _ _. Unit) (endingOf (x .answer)) (endingOf (y .answer))
     × TracesMatch (readCharts s) (readAutomata t) (callTrace chartSets s (whole-cycle events) (C-run.runOf r)) (callTrace automataTables t (whole-cycle events) (A-run.runOf q))
 
 -- the runs correspond at the start and after every call, and the answers match

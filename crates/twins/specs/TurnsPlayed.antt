@@ -6,6 +6,7 @@ use Rattle.records.specs.Refusal.{Out, val, fault}
 use Rattle.model.specs.Runs.{Run, Answer}
 use Rattle.model.specs.PathBack.{Row}
 use Rattle.model.specs.TakenPath.{markOf, rowOf}
+use Rattle.machines.specs.Answers.{answerOf}
 use Rattle.charts.specs.declared.runs.Run as charts-run
 use Rattle.charts.specs.declared.turns.Turned as charts-turned
 use Rattle.charts.specs.RunOf as C-run
@@ -32,10 +33,10 @@ pub record Step : Type 0 where
   pub left : Run
 
 abbrev pub chartsStep : TurnPlay → Step
-chartsStep p = record { events = p .events; answer = C.answerOf (p .ofCharts .answer); left = C-run.runOf (p .ofCharts .run) }
+chartsStep p = record { events = p .events; answer = answerOf (p .ofCharts .answer); left = C-run.runOf (p .ofCharts .run) }
 
 abbrev pub automataStep : TurnPlay → Step
-automataStep p = record { events = p .events; answer = A.answerOf (p .ofAutomata .answer); left = A-run.runOf (p .ofAutomata .run) }
+automataStep p = record { events = p .events; answer = answerOf (p .ofAutomata .answer); left = A-run.runOf (p .ofAutomata .run) }
 
 -- what an answer adds; a turn that is refused or faults adds nothing
 abbrev pub adds : {A : Type 0} → (Run → Answer → List A) → Run → Out Answer → List A
