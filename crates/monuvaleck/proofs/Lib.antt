@@ -4,3 +4,5 @@ pub mod PassingAlone
 pub mod PassingEvents
 pub mod PassingMasks
 pub mod TwinLengths
+mod Settled
+mod Claims

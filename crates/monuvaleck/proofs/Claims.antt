@@ -1,0 +1,106 @@
+-- The claims. Demands 1 to 3 and the path led back, each stated in full in the terms of the definitions that the exported functions' contracts cite, and proved by citing the work. Who believes the definitions
+-- (specs/ of records, expressions, model, and `Playing` of machines) and this file needs no other proof. Assumes nothing.
+use mathlib.Core.Path.{_≡_, ap}
+use mathlib.Core.Option.{some, none}
+use mathlib.Core.List.{List, _∷_}
+use Prim.Native.Nat.{ℕ, _<_}
+use lib.Dec.{T, ltb}
+use lib.ListN.{length, take}
+use Rattle.records.specs.Lists.{all}
+use Rattle.records.specs.Refusal.{Refusal, val, fault, _>>=_, unless-refused}
+use Rattle.model.specs.Outcome.{Outcome, settled}
+use Rattle.model.specs.Runs.{Run, Call, start, turn, cycle}
+use Rattle.model.specs.ChartSet.{readCharts}
+use Rattle.model.specs.Charts.{charts}
+use Rattle.model.specs.ChartFile.{chartsRefusal}
+use Rattle.model.specs.AutomataTable.{readAutomata}
+use Rattle.model.specs.Automata.{automata}
+use Rattle.model.specs.AutomataFile.{automataRefusal}
+use Rattle.model.specs.Translation.{twin, twinBytes, written, translate}
+use Rattle.model.specs.PathBack.{walkStart, ledBack, rowsWritten, pathBack}
+use Rattle.model.specs.Calls.{Format, startCall, turnCall, cycleCall}
+use Rattle.model.specs.Correspondence.{Demand₃}
+use Rattle.model.specs.TakenPath.{takenPath, takenRows}
+use Rattle.model.proofs.Demand3.{demand-3}
+use Rattle.model.proofs.TwinFits.{twin-back}
+use Rattle.model.proofs.TwinAccepted.{twin-accepted}
+use Rattle.model.proofs.TwinPath.{twin-path-back}
+use Rattle.model.proofs.CyclesByTurns.{after-turn, charts-cycle-by-turns, table-cycle-by-turns}
+use Rattle.machines.specs.Playing.{playing, playCall}
+use Rattle.machines.proofs.PlayCalls.{callsLeave, CallsDone, StopsAt, played-as-calls, refused-as-call}
+use Rattle.monuvaleck.proofs.Settled.{settled-kept}
+
+-- ---- demand 1: "A bad set, table, state or path gets the refusal number the paper fixes, and nothing lent has changed."
+-- That each function answers by these definitions, for any bytes, runs, events and buffers, is its contract in src/.
+
+-- whatever refuses or faults, everything lent keeps its contents
+module _ (f : Format) (s : List ℕ) (r : Run) (w : Refusal) where
+  start-kept : startCall f s r .answer ≡ fault w → startCall f s r .lent ≡ r
+  start-kept = settled-kept r (unless-refused (f .refusal s) (val (tt, start (f .machine s)))) w
+
+  turn-kept : (events : ℕ) → turnCall f s events r .answer ≡ fault w → turnCall f s events r .lent ≡ r
+  turn-kept events = settled-kept r (unless-refused (f .refusal s) (turn (f .machine s) events r)) w
+
+  cycle-kept : (events : ℕ) → cycleCall f s events r .answer ≡ fault w → cycleCall f s events r .lent ≡ r
+  cycle-kept events = settled-kept r (unless-refused (f .refusal s) (cycle (f .machine s) events r)) w
+
+  play-kept : (masks : List ℕ) → playCall f s masks r .answer ≡ fault w → playCall f s masks r .lent ≡ r
+  play-kept masks = settled-kept r (unless-refused (f .refusal s) (playing (f .machine s) masks r)) w
+
+translate-kept : (s buffer : List ℕ) (w : Refusal) → translate s buffer .answer ≡ fault w → translate s buffer .lent ≡ buffer
+translate-kept s buffer = settled-kept buffer (unless-refused (chartsRefusal s) (written (twinBytes s) buffer))
+
+path-kept : (s path rows : List ℕ) (w : Refusal) → pathBack s path rows .answer ≡ fault w → pathBack s path rows .lent ≡ rows
+path-kept s path rows = settled-kept rows (unless-refused (chartsRefusal s) (ledBack (readCharts s) path (walkStart (readCharts s)) >>= λ led. rowsWritten led rows))
+
+-- a file's refusal comes first, whatever else is lent
+module _ (f : Format) (s : List ℕ) (w : Refusal) (refused : f .refusal s ≡ some w) (r : Run) where
+  start-refused : startCall f s r ≡ record { answer = fault w; lent = r }
+  start-refused = ap (λ o. settled r (unless-refused o (val (tt, start (f .machine s))))) refused
+
+  turn-refused : (events : ℕ) → turnCall f s events r ≡ record { answer = fault w; lent = r }
+  turn-refused events = ap (λ o. settled r (unless-refused o (turn (f .machine s) events r))) refused
+
+  cycle-refused : (events : ℕ) → cycleCall f s events r ≡ record { answer = fault w; lent = r }
+  cycle-refused events = ap (λ o. settled r (unless-refused o (cycle (f .machine s) events r))) refused
+
+  play-refused : (masks : List ℕ) → playCall f s masks r ≡ record { answer = fault w; lent = r }
+  play-refused masks = ap (λ o. settled r (unless-refused o (playing (f .machine s) masks r))) refused
+
+-- ---- demand 2: the translation is the one its rules give, record for record; a cycle is its turns; many cycles are as many calls
+
+-- the twin's file, read back, is the twin, and a reader of tables accepts it
+module _ (s : List ℕ) (bytes : T (all (λ b. ltb b 256) s)) (accepted : chartsRefusal s ≡ none) where
+  twin-read : readAutomata (twinBytes s) ≡ twin (readCharts s)
+  twin-read = twin-back s bytes accepted
+
+  twin-unrefused : automataRefusal (twinBytes s) ≡ none
+  twin-unrefused = twin-accepted s bytes accepted
+
+-- a cycle of an accepted file is a turn with the events, and then, unless that was time's, a cycle without any
+charts-cycle : (s : List ℕ) → chartsRefusal s ≡ none → (events : ℕ) (r : Run) → cycle (charts (readCharts s)) events r ≡ (turn (charts (readCharts s)) events r >>= after-turn (charts (readCharts s)))
+charts-cycle = charts-cycle-by-turns
+
+automata-cycle : (s : List ℕ) → automataRefusal s ≡ none → (events : ℕ) (r : Run) → cycle (automata (readAutomata s)) events r ≡ (turn (automata (readAutomata s)) events r >>= after-turn (automata (readAutomata s)))
+automata-cycle = table-cycle-by-turns
+
+-- so many cycles played are as many cycle calls, each done, and leave the same run; where masks are left, the next call would be refused or fault
+cycles-played : (f : Format) (s masks : List ℕ) (r : Run) (n : ℕ) → playCall f s masks r .answer ≡ val n →
+    CallsDone f s (take n masks) r × (playCall f s masks r .lent ≡ callsLeave f s (take n masks) r) × ((n < length masks) → (w : Refusal) × StopsAt f s masks n r w)
+cycles-played = played-as-calls
+
+none-played : (f : Format) (s : List ℕ) (events : ℕ) (masks : List ℕ) (r : Run) (w : Refusal) → playCall f s (events ∷ masks) r .answer ≡ fault w →
+    (cycleCall f s events r .answer ≡ fault w) × (playCall f s (events ∷ masks) r .lent ≡ r)
+none-played = refused-as-call
+
+-- ---- demand 3: twin and charts move alike in every crawl (specs/Correspondence says it in full)
+
+twin-and-charts-move-alike : Demand₃
+twin-and-charts-move-alike = demand-3
+
+-- ---- a path of the twin is led back to exactly the transitions it came from
+
+-- For every accepted set and every list of turns and cycles from the start: the path that the twin takes, led back into any lent rows, gives the rows that the charts' transitions make, or 21 where they have no room.
+path-led-back : (s : List ℕ) → T (all (λ b. ltb b 256) s) → chartsRefusal s ≡ none → (calls : List Call) (lent : List ℕ) →
+    pathBack s (takenPath (twinBytes s) calls (start (automata (readAutomata (twinBytes s))))) lent ≡ settled lent (rowsWritten (takenRows s calls (start (charts (readCharts s)))) lent)
+path-led-back = twin-path-back
