@@ -11,7 +11,7 @@ use Rattle.model.specs.Runs.{World, Run, Answer, taken, idle, moved}
 use Rattle.model.specs.ChartSet.{ChartSet}
 use Rattle.model.specs.Charts.{chartStep}
 use Rattle.machines.specs.Answers.{reasonOf}
-use Rattle.machines.specs.Worlds.{coded}
+use Rattle.machines.specs.Worlds.{coded, IsCode}
 use Rattle.charts.specs.declared.plays.Progress as declared-progress
 use Rattle.charts.specs.RunOf.{runIn}
 
@@ -21,6 +21,7 @@ choiceBy code = coded code >>= λ t. val (cond (eqb t 65535) none (some t))
 
 -- a transition chosen is one of so many
 pub record ChoiceOf (n code : ℕ) : Type 0 where
+  pub exact : IsCode code
   pub small : code ≤ 4_294_967_295 → code ≤ 65535
   pub known : code < 65535 → code < n
 

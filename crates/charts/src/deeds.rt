@@ -4,7 +4,7 @@ ghost use Prim.Native.Nat.{ℕ, _<_};
 ghost use Rattle.model.specs.Runs.{deed};
 ghost use Rattle.model.specs.ChartSet.{readCharts};
 ghost use Rattle.chart_files.specs.Places.{firstAction, actionAt};
-ghost use Rattle.machines.specs.Worlds.{worldIn, worldBy};
+ghost use Rattle.machines.specs.Worlds.{worldIn, worldBy, IsCode};
 ghost use Rattle.charts.specs.Accepted.{Accepted};
 ghost use Rattle.charts.specs.Tables.{HasActions, deedsOfThree};
 use super::values::values_of;
@@ -23,7 +23,7 @@ fn first_action(shape: Shape) -> usize
 // Code 2 raises, another assigns.
 fn do_deed(s: &[u8], shape: Shape, a: u16, vars: &mut [i16; 64], events: u32) -> u64
     requires { ⌜ Accepted (now s) shape × (a < shape .actions) ⌝ }
-    ensures { λ r. ⌜ ((p c : ℕ) → worldBy r (now (vars .exit)) p c ≡ deed (readCharts (now (s .entry)) .nodes) (readCharts (now (s .entry)) .variables) (actionAt (now (s .entry)) shape a .1) (worldIn (now (vars .entry)) events p c)) ⌝ }
+    ensures { λ r. ⌜ ((p c : ℕ) → worldBy r (now (vars .exit)) p c ≡ deed (readCharts (now (s .entry)) .nodes) (readCharts (now (s .entry)) .variables) (actionAt (now (s .entry)) shape a .1) (worldIn (now (vars .entry)) events p c)) × IsCode r ⌝ }
 {
     let at = 16 * (first_action(shape) + (a as usize));
     let x = s[at + 5];
@@ -47,7 +47,7 @@ pub fn do_deeds(
     events: u32,
 ) -> u64
     requires { ⌜ Accepted (now s) shape × HasActions (now s) shape (now first) (now next) × (leaving < 512) × (crossing < 512) × (entering < 512) ⌝ }
-    ensures { λ r. ⌜ ((p c : ℕ) → worldBy r (now (vars .exit)) p c ≡ deedsOfThree (now (s .entry)) shape leaving crossing entering (worldIn (now (vars .entry)) events p c)) ⌝ }
+    ensures { λ r. ⌜ ((p c : ℕ) → worldBy r (now (vars .exit)) p c ≡ deedsOfThree (now (s .entry)) shape leaving crossing entering (worldIn (now (vars .entry)) events p c)) × IsCode r ⌝ }
 {
     let mut present = events;
     let mut k: u8 = 0;

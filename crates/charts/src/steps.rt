@@ -9,7 +9,7 @@ ghost use mathlib.Core.Option.{some};
 ghost use Rattle.charts.specs.Accepted.{Accepted};
 ghost use Rattle.charts.specs.Tables.{HasRows, HasEnds, HasActions};
 ghost use Rattle.charts.specs.RunOf.{runIn};
-ghost use Rattle.machines.specs.Worlds.{worldIn, worldBy, bareWorld};
+ghost use Rattle.machines.specs.Worlds.{worldIn, worldBy, bareWorld, IsCode};
 ghost use Rattle.charts.specs.StepOf.{choiceBy, ChoiceOf, slotHolds, answerBy, movedBy, chartTurns};
 ghost use Rattle.charts.specs.TurnOf.{Known};
 use super::deeds::do_deeds;
@@ -79,7 +79,7 @@ fn act(
     events: u32,
 ) -> u64
     requires { ⌜ Accepted (now s) shape × HasActions (now s) shape (now first) (now next) × (t < shape .transitions) ⌝ }
-    ensures { λ r. ⌜ ((p c : ℕ) → worldBy r (now (vars .exit)) p c ≡ acted (readCharts (now (s .entry))) t (worldIn (now (vars .entry)) events p c)) ⌝ }
+    ensures { λ r. ⌜ ((p c : ℕ) → worldBy r (now (vars .exit)) p c ≡ acted (readCharts (now (s .entry))) t (worldIn (now (vars .entry)) events p c)) × IsCode r ⌝ }
 {
     let leaving = 128 + source_of(s, shape, t);
     let crossing = 256 + t;
@@ -111,7 +111,7 @@ fn follow(
     events: u32,
 ) -> u64
     requires { ⌜ Accepted (now s) shape × HasActions (now s) shape (now first) (now next) × (chart < 8) × (t < shape .transitions) ⌝ }
-    ensures { λ r. ⌜ ((p c : ℕ) → movedBy r (taken t) (now (states .exit)) (now (ages .exit)) (now (vars .exit)) p c ≡ followed (readCharts (now (s .entry))) chart (runIn (now (states .entry)) (now (ages .entry)) (now (vars .entry)) events p c) (some t)) ⌝ }
+    ensures { λ r. ⌜ ((p c : ℕ) → movedBy r (taken t) (now (states .exit)) (now (ages .exit)) (now (vars .exit)) p c ≡ followed (readCharts (now (s .entry))) chart (runIn (now (states .entry)) (now (ages .entry)) (now (vars .entry)) events p c) (some t)) × IsCode r ⌝ }
 {
     let after = act(s, shape, first, next, t, vars, events);
     if 4294967295 < after {
@@ -139,7 +139,7 @@ fn step_in_place(
     chosen: &mut u16,
 ) -> u64
     requires { ⌜ Known (now s) shape (now rows) (now ends) (now first) (now next) × (chart < shape .charts) ⌝ }
-    ensures { λ r. ⌜ ((p c : ℕ) → movedBy r (answerBy (now (chosen .exit))) (now (states .exit)) (now (ages .exit)) (now (vars .exit)) p c ≡ chartStep (readCharts (now (s .entry))) chart (runIn (now (states .entry)) (now (ages .entry)) (now (vars .entry)) events p c)) ⌝ }
+    ensures { λ r. ⌜ ((p c : ℕ) → movedBy r (answerBy (now (chosen .exit))) (now (states .exit)) (now (ages .exit)) (now (vars .exit)) p c ≡ chartStep (readCharts (now (s .entry))) chart (runIn (now (states .entry)) (now (ages .entry)) (now (vars .entry)) events p c)) × IsCode r ⌝ }
 {
     let i = chart as usize;
     let state = states[i];
@@ -184,7 +184,7 @@ pub fn turns_in_place(
 ) -> u64
     requires { ⌜ Known (now s) shape (now rows) (now ends) (now first) (now next) × (from ≤ to) × (to ≤ shape .charts) ⌝ }
     ensures { λ r. ⌜ ((p c : ℕ) → movedBy r (answerBy (now (chosen .exit))) (now (states .exit)) (now (ages .exit)) (now (vars .exit)) (p + (to - from)) c
-        ≡ chartTurns (readCharts (now (s .entry))) from (to - from) (answerBy (now (chosen .entry)), runIn (now (states .entry)) (now (ages .entry)) (now (vars .entry)) events p c)) ⌝ }
+        ≡ chartTurns (readCharts (now (s .entry))) from (to - from) (answerBy (now (chosen .entry)), runIn (now (states .entry)) (now (ages .entry)) (now (vars .entry)) events p c)) × IsCode r ⌝ }
 {
     let mut present = events;
     let mut chart = from;

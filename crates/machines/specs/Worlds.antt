@@ -1,10 +1,11 @@
 -- The answers of deeds, as the model's outcomes. Assumes nothing: these are definitions.
 use mathlib.Core.Bool.{cond}
 use mathlib.Core.List.{List}
-use Prim.Native.Nat.{ℕ}
+use mathlib.Core.Path.{_≡_}
+use Prim.Native.Nat.{ℕ, _+_}
 use lib.Dec.{leb, eqb}
 use lib.IntN.{ℤ}
-use Rattle.records.specs.Refusal.{Refusal, out-of-range, zero-divisor, out-of-bounds, Out, val, fault, _>>=_}
+use Rattle.records.specs.Refusal.{Refusal, refusalNumber, out-of-range, zero-divisor, out-of-bounds, Out, val, fault, _>>=_}
 use Rattle.model.specs.Runs.{World}
 use Rattle.machines.specs.declared.deeds.Done as declared-done
 use Rattle.machines.specs.Answers.{reasonOf}
@@ -24,6 +25,14 @@ codedFault n = cond (eqb n 4_294_967_311) out-of-range (cond (eqb n 4_294_967_31
 
 abbrev pub coded : ℕ → Out ℕ
 coded n = cond (leb n 4_294_967_295) (val n) (fault (codedFault n))
+
+-- and the number of each: exactly one stands for each outcome
+abbrev pub codeOf : Out ℕ → ℕ
+codeOf (val n) = n
+codeOf (fault w) = 4_294_967_296 + refusalNumber w
+
+abbrev pub IsCode : ℕ → Type 0
+IsCode n = codeOf (coded n) ≡ n
 
 -- the same of events
 abbrev pub worldBy : ℕ → List ℤ → ℕ → ℕ → Out World

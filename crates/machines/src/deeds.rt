@@ -11,7 +11,7 @@ ghost use Rattle.expressions.specs.Answers as expressions-answers;
 ghost use Rattle.model.specs.Runs.{within, noVariable, present, raised, assign, deed};
 ghost use Rattle.machines.specs.Files.{variablesIn, nodesIn, HasValues};
 ghost use Rattle.machines.specs.Answers.{reasonOf};
-ghost use Rattle.machines.specs.Worlds.{worldIn, worldAfter, codedFault, coded, worldBy};
+ghost use Rattle.machines.specs.Worlds.{worldIn, worldAfter, codedFault, coded, IsCode, worldBy};
 use super::answers::Reason;
 use super::values::Values;
 use super::values::bound_within;
@@ -69,7 +69,7 @@ fn is_within(s: &[u8], values: Values, v: u8, z: i32) -> bool
 
 // Answers as one number: events are below 2^32, and a fault is 2^32 and its number in the refusal table. It stays in a register, where an enum goes through memory.
 pub fn fault_code(w: expressions::arithmetic::Reason) -> u64
-    ensures { λ r. ⌜ (4294967295 < r) × (coded r ≡ fault (expressions-answers.reasonOf w)) ⌝ }
+    ensures { λ r. ⌜ (4294967295 < r) × (coded r ≡ fault (expressions-answers.reasonOf w)) × IsCode r ⌝ }
 {
     match w {
         expressions::arithmetic::Reason::Range => 4294967311,
@@ -90,7 +90,7 @@ pub fn reason_by(code: u64) -> Reason
 }
 
 fn done_by(code: u64) -> Done
-    ensures { λ r. ⌜ ((vars : List ℤ) (p c : ℕ) → worldAfter r vars p c ≡ worldBy code vars p c) ⌝ }
+    ensures { λ r. ⌜ ((vars : List ℤ) (p c : ℕ) → worldAfter r vars p c ≡ worldBy code vars p c) × ((w : Reason) → r ≡ Done.Fault w → 4_294_967_295 < code) ⌝ }
 {
     if 4294967295 < code {
         Done::Fault(reason_by(code))
@@ -99,7 +99,7 @@ fn done_by(code: u64) -> Done
     }
 }
 
-// Node n assigned to variable v: the events afterwards, or the fault, as one number.
+// Node n assigned to variable v: the events afterwards, or the fault, as one number. A fault assigns nothing.
 pub fn assign_code(
     s: &[u8],
     values: Values,
@@ -109,7 +109,8 @@ pub fn assign_code(
     events: u32,
 ) -> u64
     requires { ⌜ HasValues (now s) values × (v < values .variables) ⌝ }
-    ensures { λ r. ⌜ ((p c : ℕ) → worldBy r (now (vars .exit)) p c ≡ deed (nodesIn (now (s .entry)) values) (variablesIn (now (s .entry)) values) (assign v n) (worldIn (now (vars .entry)) events p c)) ⌝ }
+    ensures { λ r. ⌜ ((p c : ℕ) → worldBy r (now (vars .exit)) p c ≡ deed (nodesIn (now (s .entry)) values) (variablesIn (now (s .entry)) values) (assign v n) (worldIn (now (vars .entry)) events p c))
+        × IsCode r × (4_294_967_295 < r → now (vars .exit) ≡ now (vars .entry)) ⌝ }
 {
     match number_at(s, values, vars, n) {
         Number::Fault(w) => fault_code(w),
@@ -127,7 +128,8 @@ pub fn assign_code(
 
 pub fn assign(s: &[u8], values: Values, v: u8, n: u16, vars: &mut [i16; 64], events: u32) -> Done
     requires { ⌜ HasValues (now s) values × (v < values .variables) ⌝ }
-    ensures { λ r. ⌜ ((p c : ℕ) → worldAfter r (now (vars .exit)) p c ≡ deed (nodesIn (now (s .entry)) values) (variablesIn (now (s .entry)) values) (assign v n) (worldIn (now (vars .entry)) events p c)) ⌝ }
+    ensures { λ r. ⌜ ((p c : ℕ) → worldAfter r (now (vars .exit)) p c ≡ deed (nodesIn (now (s .entry)) values) (variablesIn (now (s .entry)) values) (assign v n) (worldIn (now (vars .entry)) events p c))
+        × ((w : Reason) → r ≡ Done.Fault w → now (vars .exit) ≡ now (vars .entry)) ⌝ }
 {
     done_by(assign_code(s, values, v, n, vars, events))
 }

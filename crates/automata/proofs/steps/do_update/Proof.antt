@@ -85,7 +85,7 @@ returns-2 c = λ p q.
     let s = now (x .s) in
     let v = c .before .before .before .values-of in
     let w = worldIn (now (x .vars)) (x .events) p q in
-    c .assign .ensures p q
+    c .assign .ensures .0 p q
     ∙ (λ i. deed (nodes-in s (x .shape) (a .pre .0 .shape) (v .result) (v .ensures) i) (variables-in s (x .shape) (a .pre .0 .shape) (v .result) (v .ensures) i) (assign (c .before .before .before .before .before .byte-of2 .ensures i) (c .before .before .two-of .ensures i)) w)
     ∙ ap (λ d. deed (readAutomata s .nodes) (readAutomata s .variables) d w) (sym (is-assign (c .before .before .before .before)))
 

@@ -1,5 +1,5 @@
 -- `steps::first_that` meets its contract: none of the places before j holds, and from the end on they name none. Assumes nothing.
-use mathlib.Core.Path.{_≡_, sym, ap, _∙_}
+use mathlib.Core.Path.{_≡_, refl, sym, ap, _∙_}
 use mathlib.Core.List.{[]}
 use mathlib.Core.Bool.{true, cond}
 use mathlib.Core.Option.{some, none}
@@ -16,6 +16,7 @@ use Rattle.model.specs.ChartSet.{readCharts}
 use Rattle.model.specs.Charts.{firstThat, transitionHolds}
 use Rattle.chart_files.proofs.Readings.{most-states, most-transitions}
 use Rattle.machines.specs.Worlds.{bareWorld}
+use Rattle.machines.proofs.Codes.{is-code}
 use Rattle.charts.specs.Tables.{slotAt}
 use Rattle.charts.specs.StepOf.{ChoiceOf, slotHolds}
 use Rattle.charts.proofs.StepLaws.{choice-some, Tried, tried-none, tried-more, tried-found, tried-fault, tried-end, holds-named, named-one, unnamed, row-outside}
@@ -29,7 +30,7 @@ abbrev μ-loop : tie.MeasureT-loop
 μ-loop s shape rows ends vars events age state i end j₀ j = 16 - j
 
 none-chosen : (n : ℕ) → ChoiceOf n 65535
-none-chosen n = record { small = λ h. omega arith; known = λ h. absurd (omega arith) }
+none-chosen n = record { exact = refl; small = λ h. omega arith; known = λ h. absurd (omega arith) }
 
 returns : tie.Need-returns Inv-loop μ-loop
 unfolding firstThat
@@ -93,7 +94,7 @@ returns-2 c =
       ap (λ o. o >>= λ t. val (cond (eqb t 65535) none (some t))) (c .fault-code .ensures .1)
           ∙ tried-fault (readCharts (now (x .s))) (x .state) (transitionHolds (readCharts (now (x .s))) (bareWorld (now (x .vars)) (x .events)) (x .age)) (l .j) (t-of (c .before .before .before .before .before)) (l .inv) (in-row (c .before .before .before .before .before .before)) (slot-here (c .before .before .before .before .before)) (expressions-answers.reasonOf (c .before .before .w .given .0 .0))
           (ap truthOf (sym (c .before .before .w .given .1)) ∙ c .before .before .before .before .slot-holds .ensures),
-      record { small = λ h. absurd (omega (arith, c .fault-code .ensures .0)); known = λ h. absurd (omega (arith, c .fault-code .ensures .0)) },
+      record { exact = c .fault-code .ensures .2; small = λ h. absurd (omega (arith, c .fault-code .ensures .0)); known = λ h. absurd (omega (arith, c .fault-code .ensures .0)) },
     )
 
 enum-known-holding : tie.Need-enum-known-holding Inv-loop μ-loop
@@ -125,7 +126,7 @@ returns-3 c =
     let few = most-transitions (now (x .s)) (x .shape) (a .pre .0 .shape) in (
       choice-some (t-of (c .before .before .before .before .before)) (omega (arith, holding-one c, few))
           ∙ tried-found (readCharts (now (x .s))) (x .state) (transitionHolds (readCharts (now (x .s))) (bareWorld (now (x .vars)) (x .events)) (x .age)) (l .j) (t-of (c .before .before .before .before .before)) (l .inv) (in-row (c .before .before .before .before .before .before)) (slot-here (c .before .before .before .before .before)) (holding c),
-      record { small = λ h. omega (arith, holding-one c, few); known = λ h. holding-one c },
+      record { exact = is-code (t-of (c .before .before .before .before .before)) (omega (arith, holding-one c, few)); small = λ h. omega (arith, holding-one c, few); known = λ h. holding-one c },
     )
 
 add-j : tie.Need-add-j Inv-loop μ-loop

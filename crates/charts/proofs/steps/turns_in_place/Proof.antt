@@ -6,6 +6,7 @@ use Rattle.model.specs.ChartSet.{readCharts}
 use Rattle.chart_files.proofs.Readings.{most-charts}
 use Rattle.charts.specs.StepOf.{answerBy}
 use Rattle.charts.proofs.ChartTurns.{LeftTurns, left-all, left-more, left-fault, left-none}
+use Rattle.machines.proofs.Codes.{is-code}
 use Rattle.charts.proofs.steps.turns_in_place.Statement.{statement}
 use Rattle.charts.proofs.steps.turns_in_place.Tie as tie
 
@@ -27,13 +28,13 @@ step-in-place-requires c κs =
     (b .pre .0, omega (arith, more, b .pre .2))
 
 returns : tie.Need-returns Inv-loop μ-loop
-returns c = λ p q.
+returns c = (λ p q.
     let x = c .before .before .before .before .before .before .before .before .before .args in
     let l = c .before .before .before .before .before .before .before .loop in
     let f = c .before .step-in-place in
     let more = c .before .before .before .before .before .before .loop-test .taken in
     left-fault (readCharts (now (x .s))) (x .from) (x .to) (answerBy (now (x .chosen))) (now (x .states)) (now (x .ages)) (now (x .vars)) (x .events) (l .chart) (answerBy (l .chosen)) (l .states) (l .ages) (l .vars) (l .present) (l .inv .3)
-    (f .result) (answerBy (f .last .1 .1 .1 .1 .1 .1 .1 .1 .1 .1 .1 .0)) (f .last .1 .1 .1 .1 .1 .1 .1 .0) (f .last .1 .1 .1 .1 .1 .1 .1 .1 .0) (f .last .1 .1 .1 .1 .1 .1 .1 .1 .1 .0) (f .ensures) more (c .if1 .taken) p (p + (x .to - x .from)) q
+    (f .result) (answerBy (f .last .1 .1 .1 .1 .1 .1 .1 .1 .1 .1 .1 .0)) (f .last .1 .1 .1 .1 .1 .1 .1 .0) (f .last .1 .1 .1 .1 .1 .1 .1 .1 .0) (f .last .1 .1 .1 .1 .1 .1 .1 .1 .1 .0) (f .ensures .0) more (c .if1 .taken) p (p + (x .to - x .from)) q, c .before .step-in-place .ensures .1)
 
 cast-present : tie.Need-cast-present Inv-loop μ-loop
 cast-present c = let fine = c .if1 .left in omega (arith, fine)
@@ -55,7 +56,7 @@ loop-again c =
     let more = c .before .before .before .before .before .before .loop-test .taken in
     let fine = c .if1 .left in
     let begun = l .inv .1 in
-    (fine, omega (arith, begun), omega (arith, more), left-more (readCharts (now (x .s))) (x .from) (x .to) (answerBy (now (x .chosen))) (now (x .states)) (now (x .ages)) (now (x .vars)) (x .events) (l .chart) (answerBy (l .chosen)) (l .states) (l .ages) (l .vars) (l .present) (l .inv .3) (f .result) (answerBy (f .last .1 .1 .1 .1 .1 .1 .1 .1 .1 .1 .1 .0)) (f .last .1 .1 .1 .1 .1 .1 .1 .0) (f .last .1 .1 .1 .1 .1 .1 .1 .1 .0) (f .last .1 .1 .1 .1 .1 .1 .1 .1 .1 .0) (f .ensures) more begun fine)
+    (fine, omega (arith, begun), omega (arith, more), left-more (readCharts (now (x .s))) (x .from) (x .to) (answerBy (now (x .chosen))) (now (x .states)) (now (x .ages)) (now (x .vars)) (x .events) (l .chart) (answerBy (l .chosen)) (l .states) (l .ages) (l .vars) (l .present) (l .inv .3) (f .result) (answerBy (f .last .1 .1 .1 .1 .1 .1 .1 .1 .1 .1 .1 .0)) (f .last .1 .1 .1 .1 .1 .1 .1 .0) (f .last .1 .1 .1 .1 .1 .1 .1 .1 .0) (f .last .1 .1 .1 .1 .1 .1 .1 .1 .1 .0) (f .ensures .0) more begun fine)
 
 cast-result : tie.Need-cast-result Inv-loop μ-loop
 cast-result c = let h = c .before .loop .inv .0 in omega (arith, h)
@@ -65,7 +66,7 @@ returns-2 c =
     let x = c .before .before .before .args in
     let l = c .before .loop in
     let past = c .loop-test .left in
-    left-none (readCharts (now (x .s))) (x .from) (x .to) (answerBy (now (x .chosen))) (now (x .states)) (now (x .ages)) (now (x .vars)) (x .events) (l .chart) (answerBy (l .chosen)) (l .states) (l .ages) (l .vars) (l .present) (l .inv .3) (omega (arith, past, l .inv .2)) (l .inv .0)
+    (left-none (readCharts (now (x .s))) (x .from) (x .to) (answerBy (now (x .chosen))) (now (x .states)) (now (x .ages)) (now (x .vars)) (x .events) (l .chart) (answerBy (l .chosen)) (l .states) (l .ages) (l .vars) (l .present) (l .inv .3) (omega (arith, past, l .inv .2)) (l .inv .0), is-code (l .present) (l .inv .0))
 
 pub turns-in-place-spec : {M : Type 1} → statement M
 turns-in-place-spec =

@@ -41,7 +41,7 @@ returns c =
     let f = c .before .turns-in-place in
     c .chart-turned .ensures
     ∙ ap (settled (runOf (x .lent)))
-    (alone-turn (readCharts (now (x .s))) (x .run .position - 1) (answerBy 65535) (runOf (x .run)) (f .result) (answerBy (f .last .1 .1 .1 .1 .1 .1 .1 .1 .1 .1 .1 .1 .0)) (f .last .1 .1 .1 .1 .1 .1 .1 .1 .0) (f .last .1 .1 .1 .1 .1 .1 .1 .1 .1 .0) (f .last .1 .1 .1 .1 .1 .1 .1 .1 .1 .1 .0) (x .run .position) (x .run .cycles) (f .ensures (x .run .position) (x .run .cycles))
+    (alone-turn (readCharts (now (x .s))) (x .run .position - 1) (answerBy 65535) (runOf (x .run)) (f .result) (answerBy (f .last .1 .1 .1 .1 .1 .1 .1 .1 .1 .1 .1 .1 .0)) (f .last .1 .1 .1 .1 .1 .1 .1 .1 .0) (f .last .1 .1 .1 .1 .1 .1 .1 .1 .1 .0) (f .last .1 .1 .1 .1 .1 .1 .1 .1 .1 .1 .0) (x .run .position) (x .run .cycles) (f .ensures .0 (x .run .position) (x .run .cycles))
     ∙ sym (at-part (charts (readCharts (now (x .s)))) (x .shape .charts) (length-initial (now (x .s)) (x .shape) (b .pre .0 .accepted .shape)) (runOf (x .run)) (b .pre .1 .1)))
 
 pub chart-turn-spec : {M : Type 1} → statement M

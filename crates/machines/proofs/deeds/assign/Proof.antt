@@ -10,7 +10,8 @@ done-by-requires : tie.Need-done-by-requires
 done-by-requires c κs = tt
 
 returns : tie.Need-returns
-returns c = λ p q. c .done-by .ensures (c .before .assign-code .last .1 .1 .1 .1 .0) p q ∙ c .before .assign-code .ensures p q
+returns c =
+    (λ p q. c .done-by .ensures .0 (c .before .assign-code .last .1 .1 .1 .1 .0) p q ∙ c .before .assign-code .ensures .0 p q, λ w e. c .before .assign-code .ensures .2 (c .done-by .ensures .1 w e))
 
 pub assign-spec : {M : Type 1} → statement M
 assign-spec = tie.close (tie.spec assign-code-requires done-by-requires returns)

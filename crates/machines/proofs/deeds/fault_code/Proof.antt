@@ -1,5 +1,5 @@
 -- `deeds::fault_code` meets its contract. Assumes nothing.
-use mathlib.Core.Path.{sym, ap}
+use mathlib.Core.Path.{refl, sym, ap}
 use native.Mathlib.Omega.{arith}
 use borrow.Author.Needs.{needs}
 use Rattle.records.specs.Refusal.{fault}
@@ -14,10 +14,10 @@ enum-told-2 : tie.Need-enum-told-2
 enum-told-2 c = search needs
 
 returns : tie.Need-returns
-returns c = (omega arith, ap (λ w. fault (reasonOf w)) (sym (c .enum-told .given .1)))
+returns c = (omega arith, ap (λ w. fault (reasonOf w)) (sym (c .enum-told .given .1)), refl)
 
 returns-2 : tie.Need-returns-2
-returns-2 c = (omega arith, ap (λ w. fault (reasonOf w)) (sym (c .enum-told2 .given .1)))
+returns-2 c = (omega arith, ap (λ w. fault (reasonOf w)) (sym (c .enum-told2 .given .1)), refl)
 
 pub fault-code-spec : {M : Type 1} → statement M
 fault-code-spec = tie.close (tie.spec enum-told enum-told-2 returns returns-2)
