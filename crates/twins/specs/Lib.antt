@@ -1,2 +1,4 @@
+pub mod Alike
+pub mod Compared
 pub mod Played
 pub mod TurnsPlayed

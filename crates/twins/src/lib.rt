@@ -1,1 +1,106 @@
-// No code: what demand 3 says of the functions of charts, automata, translation and paths stands in specs/ and proofs/.
+// Demand 3 of what the functions really answer and leave: the same calls on a set and on its twin, compared.
+ghost use mathlib.Core.Path.{_≡_};
+ghost use lib.ListN.{length};
+ghost use Rattle.model.specs.ChartSet.{readCharts};
+ghost use Rattle.model.specs.AutomataTable.{readAutomata};
+ghost use Rattle.model.specs.Translation.{twin as twin-of, twinBytes, translate as translation};
+ghost use Rattle.charts.specs.Accepted as of-charts;
+ghost use Rattle.automata.specs.Accepted as of-automata;
+ghost use Rattle.twins.specs.Compared.{verdictOf, verdict};
+
+pub mod answers;
+pub mod both;
+pub mod runs;
+
+use both::call_both;
+use both::is_turn;
+use records::refusals::Refusal;
+use runs::runs_alike;
+use translation::Translated;
+
+// All of so many calls were alike; why there was nothing to compare; the first call that was not alike.
+pub enum Compared {
+    Alike(usize),
+    Refused(Refusal),
+    Differ(usize),
+}
+
+// The calls, from fresh runs on, which are compared too.
+fn calls_compared(
+    s: &[u8],
+    shape: chart_files::Shape,
+    t: &[u8],
+    table: automata_files::Shape,
+    kinds: &[u8],
+    masks: &[u32],
+) -> Compared
+    requires { ⌜ of-charts.Accepted (now s) shape × of-automata.Accepted (now t) table × (readAutomata (now t) ≡ twin-of (readCharts (now s))) ⌝ }
+    ensures { λ r. ⌜ r ≡ Compared.Alike (length (now (masks .entry))) ⌝ }
+{
+    let mut run = charts::runs::start(s, shape);
+    let mut twin = automata::runs::start(t, table);
+    if !runs_alike(t, table, run, twin) {
+        return Compared::Differ(0);
+    }
+    let mut k: usize = 0;
+    while k < masks.len() {
+        let turn = is_turn(kinds, k);
+        let events = masks[k];
+        let both = call_both(s, shape, t, table, run, twin, turn, events);
+        if !both.alike {
+            return Compared::Differ(k);
+        }
+        let left = both.run;
+        let twin_left = both.twin;
+        run = left;
+        twin = twin_left;
+        k += 1;
+    }
+    Compared::Alike(k)
+}
+
+// The twin's file is read back first.
+fn twin_compared(
+    s: &[u8],
+    shape: chart_files::Shape,
+    t: &[u8],
+    kinds: &[u8],
+    masks: &[u32],
+) -> Compared
+    requires { ⌜ of-charts.Accepted (now s) shape × (now t ≡ twinBytes (now s)) ⌝ }
+    ensures { λ r. ⌜ r ≡ Compared.Alike (length (now (masks .entry))) ⌝ }
+{
+    match automata_files::check(t) {
+        automata_files::Checked::Refused(w) => Compared::Refused(w),
+        automata_files::Checked::Accepted(table) => {
+            calls_compared(s, shape, t, table, kinds, masks)
+        }
+    }
+}
+
+fn set_compared(
+    s: &[u8],
+    shape: chart_files::Shape,
+    kinds: &[u8],
+    masks: &[u32],
+    twin: &mut [u8],
+) -> Compared
+    requires { ⌜ of-charts.Accepted (now s) shape ⌝ }
+    ensures { λ r. ⌜ (verdictOf r ≡ verdict (translation (now (s .entry)) (now (twin .entry)) .answer) (length (now (masks .entry)))) × (now (twin .exit) ≡ translation (now (s .entry)) (now (twin .entry)) .lent) ⌝ }
+{
+    match translation::translate(s, shape, twin) {
+        Translated::Refused(w) => Compared::Refused(w),
+        Translated::Written(n) => twin_compared(s, shape, &twin[..n], kinds, masks),
+    }
+}
+
+// A set, its translation into a lent buffer, and the same calls on both, from fresh runs on. Call k has the events of masks[k]; it is a turn where kinds[k]
+// is 0, else a cycle.
+pub fn compare(s: &[u8], kinds: &[u8], masks: &[u32], twin: &mut [u8]) -> Compared
+    ensures { λ r. ⌜ (verdictOf r ≡ verdict (translation (now (s .entry)) (now (twin .entry)) .answer) (length (now (masks .entry)))) × (now (twin .exit) ≡ translation (now (s .entry)) (now (twin .entry)) .lent) ⌝ }
+{
+    match chart_files::check(s) {
+        chart_files::Checked::Refused(w) => Compared::Refused(w),
+        chart_files::Checked::Accepted(shape) => set_compared(s, shape, kinds, masks, twin),
+    }
+}

@@ -1,0 +1,42 @@
+-- `both::cycle_both` meets its contract. Assumes nothing.
+use Rattle.twins.specs.Alike.{outsAlike, runsAlike}
+use Rattle.twins.proofs.BothLaws.{unrefused}
+use Rattle.automata.specs.RunOf as automata-run
+use Rattle.charts.specs.RunOf as charts-run
+use Rattle.model.specs.Calls.{chartSets, automataTables}
+use Rattle.model.specs.Automata.{automata}
+use Rattle.model.specs.AutomataTable.{readAutomata}
+use Rattle.model.specs.Charts.{charts}
+use Rattle.model.specs.ChartSet.{readCharts}
+use Rattle.model.specs.Runs.{turn, cycle}
+use denote.Ref.{now}
+use mathlib.Core.Bool.{true, _&&_}
+use mathlib.Core.Path.{_≡_, refl, sym, ap, _∙_}
+use borrow.Author.Needs.{needs}
+use Rattle.twins.proofs.both.cycle_both.Statement.{statement}
+use Rattle.twins.proofs.both.cycle_both.Tie as tie
+
+cycle-by-turns-requires : tie.Need-cycle-by-turns-requires
+cycle-by-turns-requires c κs = search needs
+
+cycle-by-turns-requires-2 : tie.Need-cycle-by-turns-requires-2
+cycle-by-turns-requires-2 c κs = search needs
+
+endings-alike-requires : tie.Need-endings-alike-requires
+endings-alike-requires c κs = search needs
+
+runs-alike-requires : tie.Need-runs-alike-requires
+runs-alike-requires c κs = search needs
+
+returns : tie.Need-returns
+returns c = let b = c .before .before .before .before .before .before .before .before in let a = b .args in let x = unrefused chartSets (now (a .s)) (b .pre .0 .unrefused) (charts-run.runOf (a .run)) (cycle (charts (readCharts (now (a .s)))) (a .events) (charts-run.runOf (a .run))) (c .before .before .before .before .before .cycle-by-turns .ensures) in let y = unrefused automataTables (now (a .t)) (b .pre .1 .unrefused) (automata-run.runOf (a .twin)) (cycle (automata (readAutomata (now (a .t)))) (a .events) (automata-run.runOf (a .twin))) (c .before .before .before .before .cycle-by-turns2 .ensures) in λ i. record { alike = (c .before .endings-alike .ensures ∙ (λ j. outsAlike (λ _ _. true) (x j .answer) (y j .answer))) i && (c .runs-alike .ensures ∙ (λ j. runsAlike (now (a .t)) (a .table) (x j .lent) (y j .lent))) i; run = x i .lent; twin = y i .lent }
+
+pub cycle-both-spec : {M : Type 1} → statement M
+cycle-both-spec =
+    tie.close
+    (tie.spec
+    cycle-by-turns-requires
+    cycle-by-turns-requires-2
+    endings-alike-requires
+    runs-alike-requires
+    returns)

@@ -1,0 +1,86 @@
+-- `runs::literal_alike` meets its contract. Assumes nothing.
+use Rattle.automata_files.specs.Places.{literalAt}
+use lib.ListN.{getD}
+use Rattle.twins.proofs.AlikeLaws.{literal-by, automaton-in, clock-in}
+use Rattle.twins.specs.Alike.{causeAlike}
+use Rattle.automata_files.specs.Parts.{causeFor}
+use borrow.Author.Tests.{eq-eqb, ne-eqb}
+use mathlib.Core.Bool.{true, cond}
+use denote.Ref.{now}
+use mathlib.Core.Path.{_≡_, refl, sym, ap, _∙_}
+use borrow.Author.Needs.{needs}
+use Rattle.twins.proofs.runs.literal_alike.Statement.{statement}
+use Rattle.twins.proofs.runs.literal_alike.Tie as tie
+
+literal-edge-requires : tie.Need-literal-edge-requires
+literal-edge-requires c κs = search needs
+
+automaton-of-requires : tie.Need-automaton-of-requires
+automaton-of-requires c κs = search needs
+
+cast-a : tie.Need-cast-a
+cast-a c = search needs
+
+mul-if1 : tie.Need-mul-if1
+mul-if1 c = search needs
+
+array-read-if1 : tie.Need-array-read-if1
+array-read-if1 c = let b = c .before .before .before in automaton-in (now (b .args .t)) (b .args .shape) (b .args .l) _ _ (c .before .literal-edge .ensures) (c .automaton-of .ensures) (b .pre .0) (b .pre .1)
+
+source-of-requires : tie.Need-source-of-requires
+source-of-requires c κs = search needs
+
+returns : tie.Need-returns
+returns c = let a = c .before .before .before .before .before .args in sym (literal-by (now (a .t)) (a .shape) (a .l) _ _ (c .before .before .before .literal-edge .ensures) (c .before .before .automaton-of .ensures) (a .t3) (a .t4) (a .clocks) _ (c .before .source-of .ensures) ∙ ap (λ b. cond b (causeAlike (now (a .t)) (a .shape) (a .clocks) (getD (a .t3) (c .before .before .automaton-of .result) 0) (literalAt (now (a .t)) (a .shape) (a .l) .1 .cause)) true) (ne-eqb _ _ (c .if1 .taken)))
+
+cause-of-requires : tie.Need-cause-of-requires
+cause-of-requires c κs = search needs
+
+enum-told : tie.Need-enum-told
+enum-told c = search needs
+
+enum-told-2 : tie.Need-enum-told-2
+enum-told-2 c = search needs
+
+enum-known-k : tie.Need-enum-known-k
+enum-known-k c = search needs
+
+mul-clock-alike : tie.Need-mul-clock-alike
+mul-clock-alike c = search needs
+
+array-read-clock-alike : tie.Need-array-read-clock-alike
+array-read-clock-alike c = let b = c .before .before .before .before .before .before .before .before .before in automaton-in (now (b .args .t)) (b .args .shape) (b .args .l) _ _ (c .before .before .before .before .before .before .before .literal-edge .ensures) (c .before .before .before .before .before .before .automaton-of .ensures) (b .pre .0) (b .pre .1)
+
+clock-alike-requires : tie.Need-clock-alike-requires
+clock-alike-requires c κs = let b = c .before .before .before .before .before .before .before .before .before in (b .pre .0, clock-in (now (b .args .t)) (b .args .shape) (b .pre .0) (b .args .l) (b .pre .1) (c .before .k .given .0 .0) (sym (ap causeFor (c .before .k .given .1)) ∙ c .before .before .before .cause-of .ensures))
+
+returns-2 : tie.Need-returns-2
+returns-2 c = let a = c .before .before .before .before .before .before .before .before .args in sym (literal-by (now (a .t)) (a .shape) (a .l) _ _ (c .before .before .before .before .before .before .literal-edge .ensures) (c .before .before .before .before .before .automaton-of .ensures) (a .t3) (a .t4) (a .clocks) _ (c .before .before .before .before .source-of .ensures) ∙ (λ i. cond (eq-eqb _ _ (c .before .before .before .if1 .left) i) (causeAlike (now (a .t)) (a .shape) (a .clocks) (getD (a .t3) (c .before .before .before .before .before .automaton-of .result) 0) ((sym (c .before .before .cause-of .ensures) ∙ ap causeFor (c .enum-told .given .1)) i)) true))
+
+returns-3 : tie.Need-returns-3
+returns-3 c = let a = c .before .before .before .before .before .before .before .before .args in sym (literal-by (now (a .t)) (a .shape) (a .l) _ _ (c .before .before .before .before .before .before .literal-edge .ensures) (c .before .before .before .before .before .automaton-of .ensures) (a .t3) (a .t4) (a .clocks) _ (c .before .before .before .before .source-of .ensures) ∙ (λ i. cond (eq-eqb _ _ (c .before .before .before .if1 .left) i) (causeAlike (now (a .t)) (a .shape) (a .clocks) (getD (a .t3) (c .before .before .before .before .before .automaton-of .result) 0) ((sym (c .before .before .cause-of .ensures) ∙ ap causeFor (c .enum-told2 .given .1)) i)) true))
+
+returns-4 : tie.Need-returns-4
+returns-4 c = let a = c .before .before .before .before .before .before .before .before .before .before .args in c .clock-alike .ensures ∙ sym (literal-by (now (a .t)) (a .shape) (a .l) _ _ (c .before .before .before .before .before .before .before .before .literal-edge .ensures) (c .before .before .before .before .before .before .before .automaton-of .ensures) (a .t3) (a .t4) (a .clocks) _ (c .before .before .before .before .before .before .source-of .ensures) ∙ (λ i. cond (eq-eqb _ _ (c .before .before .before .before .before .if1 .left) i) (causeAlike (now (a .t)) (a .shape) (a .clocks) (getD (a .t3) (c .before .before .before .before .before .before .before .automaton-of .result) 0) ((sym (c .before .before .before .before .cause-of .ensures) ∙ ap causeFor (c .before .before .k .given .1)) i)) true))
+
+pub literal-alike-spec : {M : Type 1} → statement M
+literal-alike-spec =
+    tie.close
+    (tie.spec
+    literal-edge-requires
+    automaton-of-requires
+    cast-a
+    mul-if1
+    array-read-if1
+    source-of-requires
+    returns
+    cause-of-requires
+    enum-told
+    enum-told-2
+    enum-known-k
+    mul-clock-alike
+    array-read-clock-alike
+    clock-alike-requires
+    returns-2
+    returns-3
+    returns-4)
