@@ -1,3 +1,27 @@
+-- The model: what document 01 means, with no code. A map, in the paper's order; the lower crates' specs hold the rest of it.
+--
+--   section of document 01      file                            definitions to look for
+--   Records                     records/specs/Bytes             byte, two, four, two±, four±, records, ofKind
+--                               ChartSet, AutomataTable         readCharts, readAutomata, writeAutomata
+--                               Owned                           of: what an owner has, in file order
+--   Values                      expressions/specs/Nodes, Values readNode, compute, compare, number, truth
+--   A chart's turn              Runs                            World, Run, deed, Machine, start, possible, checked, turn, cycle, Trace
+--                               Charts                          ticks, afterHolds, everyHolds, row, transitionHolds, acted, follow, chartStep
+--   The translation             Translation                     twin, twinBytes, translate
+--                               Automata                        top, grown, literalHolds, openEdges, theOne, edgeStep
+--                               Correspondence                  clockFor, Corresponds, AnswersMatch, CallMatches, MoveAlike, Demand₃
+--   Refusal table               records/specs/Refusal, Framing  refusalNumber, lowest, framing (1 to 3)
+--                               ChartFile                       chartLimits, unused (4), inCode (5), allNamed (6), .. chartsRefusal
+--                               AutomataFile                    automataLimits, automataRefusal (11)
+--                               Runs                            possible (12), checked (12 to 14)
+--   every refusal keeps what    Outcome, Calls                  settled, startCall, turnCall, cycleCall, callTrace, numbered, answerCode
+--   is lent
+--   Leading a path back         PathBack, TakenPath             stepFits, ledBack, pathBack; takenPath, takenRows
+--   The zero-watch set          Replay                          line, replay; its examples are in proofs/MarkedExamples
+--
+-- Notation. `cond b x y` is x where b is true, else y. `getD xs k d` is what stands at k in xs, d past its end. `x .0`, `x .1` are the parts of a pair. An `abbrev` is its text wherever it stands; an
+-- `unfoldable` one is opened by name. `T b` is the fact that b is true. `Out A` is a value or the first refusal or fault met, and `>>=` goes on with a value. `of k xs` are the things that xs gives the owner k.
+-- What is asked of a file or a run is named by what holds where it passes; the comment above quotes the refusal that it answers where it does not.
 pub mod Owned
 pub mod Runs
 pub mod Outcome

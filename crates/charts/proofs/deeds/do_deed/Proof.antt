@@ -97,25 +97,31 @@ assign-code-requires c κs =
     (has-values (now (x .s)) (x .shape) (a .pre .0 .shape) (v .result) (v .ensures), rw (v .ensures) (subst (Doable (x .shape .variables)) (assigns (c .before .before .before)) (deed-doable (now (x .s)) (x .shape) (a .pre .0) (x .a) (a .pre .1))))
 
 returns : tie.Need-returns
-returns c = (λ p q.
-    let x = c .before .before .before .before .before .before .args in
-    world-value (c .raised .result) (now (x .vars)) p q (omega arith)
-    ∙ ap (λ n. val (worldIn (now (x .vars)) n p q)) (c .raised .ensures)
-    ∙ ap (λ d. deed (readCharts (now (x .s)) .nodes) (readCharts (now (x .s)) .variables) d (worldIn (now (x .vars)) (x .events) p q)) (sym (raises (c .before))), is-code (c .raised .result) (omega arith))
+returns c = (
+  λ p q.
+      let x = c .before .before .before .before .before .before .args in
+      world-value (c .raised .result) (now (x .vars)) p q (omega arith)
+      ∙ ap (λ n. val (worldIn (now (x .vars)) n p q)) (c .raised .ensures)
+      ∙ ap (λ d. deed (readCharts (now (x .s)) .nodes) (readCharts (now (x .s)) .variables) d (worldIn (now (x .vars)) (x .events) p q)) (sym (raises (c .before))),
+  is-code (c .raised .result) (omega arith),
+)
 
 returns-2 : tie.Need-returns-2
-returns-2 c = (λ p q.
-    let a = c .before .before .before .before .before .before .before .before .before in
-    let x = a .args in
-    let s = now (x .s) in
-    let v = c .before .before .before .values-of in
-    let f = c .before .before .before .before .before .before .before in
-    let w = worldIn (now (x .vars)) (x .events) p q in
-    let d : Deed = assign (byte s (16 * (f .first-action .result + x .a) + 5)) (c .before .before .u16-within .result) in
-    c .assign-code .ensures .0 p q
-    ∙ (λ i. deed (nodes-in s (x .shape) (a .pre .0 .shape) (v .result) (v .ensures) i) (variables-in s (x .shape) (a .pre .0 .shape) (v .result) (v .ensures) i) d w)
-    ∙ ap (λ d. deed (readCharts s .nodes) (readCharts s .variables) d w)
-    (ap (assign (byte s (16 * (f .first-action .result + x .a) + 5))) (c .before .before .u16-within .ensures) ∙ sym (assigns (c .before .before .before .before))), c .assign-code .ensures .1)
+returns-2 c = (
+  λ p q.
+      let a = c .before .before .before .before .before .before .before .before .before in
+      let x = a .args in
+      let s = now (x .s) in
+      let v = c .before .before .before .values-of in
+      let f = c .before .before .before .before .before .before .before in
+      let w = worldIn (now (x .vars)) (x .events) p q in
+      let d : Deed = assign (byte s (16 * (f .first-action .result + x .a) + 5)) (c .before .before .u16-within .result) in
+      c .assign-code .ensures .0 p q
+      ∙ (λ i. deed (nodes-in s (x .shape) (a .pre .0 .shape) (v .result) (v .ensures) i) (variables-in s (x .shape) (a .pre .0 .shape) (v .result) (v .ensures) i) d w)
+      ∙ ap (λ d. deed (readCharts s .nodes) (readCharts s .variables) d w)
+      (ap (assign (byte s (16 * (f .first-action .result + x .a) + 5))) (c .before .before .u16-within .ensures) ∙ sym (assigns (c .before .before .before .before))),
+  c .assign-code .ensures .1,
+)
 
 pub do-deed-spec : {M : Type 1} → statement M
 do-deed-spec =

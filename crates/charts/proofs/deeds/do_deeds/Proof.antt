@@ -56,14 +56,17 @@ cast-result : tie.Need-cast-result Inv-loop μ-loop
 cast-result c = let h = c .before .before .loop .inv .0 in omega (arith, h)
 
 returns : tie.Need-returns Inv-loop μ-loop
-returns c = (λ p q.
-    let b = c .before .before .before .before .before in
-    let x = b .args in
-    let l = c .before .before .loop in
-    world-value (l .present) (l .vars) p q (l .inv .0)
-    ∙ left-none (now (x .s)) (x .shape) (x .leaving) (x .crossing) (x .entering) (now (x .vars)) (x .events) (l .k) _ (l .vars) (l .present) (l .inv .3)
-    (chain-done (withKey (keyAt (now (x .s)) (x .shape)) (keyAfter (now (x .s)) (x .shape) (x .leaving) (x .crossing) (x .entering) (l .k))) (x .shape .actions) (l .a) (c .before .if1 .taken))
-    (c .if2 .taken) p q, is-code (c .before .before .loop .present) (c .before .before .loop .inv .0))
+returns c = (
+  λ p q.
+      let b = c .before .before .before .before .before in
+      let x = b .args in
+      let l = c .before .before .loop in
+      world-value (l .present) (l .vars) p q (l .inv .0)
+      ∙ left-none (now (x .s)) (x .shape) (x .leaving) (x .crossing) (x .entering) (now (x .vars)) (x .events) (l .k) _ (l .vars) (l .present) (l .inv .3)
+      (chain-done (withKey (keyAt (now (x .s)) (x .shape)) (keyAfter (now (x .s)) (x .shape) (x .leaving) (x .crossing) (x .entering) (l .k))) (x .shape .actions) (l .a) (c .before .if1 .taken))
+      (c .if2 .taken) p q,
+  is-code (c .before .before .loop .present) (c .before .before .loop .inv .0),
+)
 
 add-k : tie.Need-add-k Inv-loop μ-loop
 add-k c = let h = c .before .before .loop .inv .1 in omega (arith, h)
@@ -128,16 +131,19 @@ do-deed-requires : tie.Need-do-deed-requires Inv-loop μ-loop
 do-deed-requires c κs = (c .before .before .before .before .before .pre .0, c .before .before .loop .inv .2 .known (c .before .if1 .left) .0)
 
 returns-2 : tie.Need-returns-2 Inv-loop μ-loop
-returns-2 c = (λ p q.
-    let b = c .before .before .before .before .before .before .before in
-    let x = b .args in
-    let l = c .before .before .before .before .loop in
-    let f = c .before .do-deed in
-    let wrong = c .if4 .taken in
-    world-fault (f .result) (f .last .1 .1 .1 .0) p q wrong
-    ∙ left-fault (now (x .s)) (x .shape) (x .leaving) (x .crossing) (x .entering) (now (x .vars)) (x .events) (l .k) _ (l .vars) (l .present) (l .inv .3) (l .a) _
-    (chain-one (keyAt (now (x .s)) (x .shape)) 512 (x .shape .actions) (now (x .first)) (now (x .next)) (chains b) (few b) (keyAfter (now (x .s)) (x .shape) (x .leaving) (x .crossing) (x .entering) (l .k)) (one-key b (l .k)) (l .a) _ (l .inv .2) (c .before .before .before .if1 .left) refl)
-    (codedFault (f .result)) (λ p q. sym (world-fault (f .result) (f .last .1 .1 .1 .0) p q wrong) ∙ f .ensures .0 p q) p q, c .before .do-deed .ensures .1)
+returns-2 c = (
+  λ p q.
+      let b = c .before .before .before .before .before .before .before in
+      let x = b .args in
+      let l = c .before .before .before .before .loop in
+      let f = c .before .do-deed in
+      let wrong = c .if4 .taken in
+      world-fault (f .result) (f .last .1 .1 .1 .0) p q wrong
+      ∙ left-fault (now (x .s)) (x .shape) (x .leaving) (x .crossing) (x .entering) (now (x .vars)) (x .events) (l .k) _ (l .vars) (l .present) (l .inv .3) (l .a) _
+      (chain-one (keyAt (now (x .s)) (x .shape)) 512 (x .shape .actions) (now (x .first)) (now (x .next)) (chains b) (few b) (keyAfter (now (x .s)) (x .shape) (x .leaving) (x .crossing) (x .entering) (l .k)) (one-key b (l .k)) (l .a) _ (l .inv .2) (c .before .before .before .if1 .left) refl)
+      (codedFault (f .result)) (λ p q. sym (world-fault (f .result) (f .last .1 .1 .1 .0) p q wrong) ∙ f .ensures .0 p q) p q,
+  c .before .do-deed .ensures .1,
+)
 
 cast-present : tie.Need-cast-present Inv-loop μ-loop
 cast-present c = let fine = c .if4 .left in omega (arith, fine)

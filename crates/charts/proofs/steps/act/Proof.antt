@@ -42,11 +42,14 @@ do-deeds-requires c κs =
     (a .pre .0, a .pre .1, omega (arith, source-small (c .before .before)), omega (arith, few-transitions a), omega (arith, target-small (c .before)))
 
 returns : tie.Need-returns
-returns c = (λ p q.
-    let a = c .before .before .before .before .before in
-    let x = a .args in
-    c .do-deeds .ensures .0 p q
-    ∙ sym (acted-by-keys (now (x .s)) (x .shape) (a .pre .0) (x .t) (c .before .before .before .source-of .result) (c .before .before .target-of .result) (a .pre .2) (c .before .before .before .source-of .ensures) (c .before .before .target-of .ensures) (worldIn (now (x .vars)) (x .events) p q)), c .do-deeds .ensures .1)
+returns c = (
+  λ p q.
+      let a = c .before .before .before .before .before in
+      let x = a .args in
+      c .do-deeds .ensures .0 p q
+      ∙ sym (acted-by-keys (now (x .s)) (x .shape) (a .pre .0) (x .t) (c .before .before .before .source-of .result) (c .before .before .target-of .result) (a .pre .2) (c .before .before .before .source-of .ensures) (c .before .before .target-of .ensures) (worldIn (now (x .vars)) (x .events) p q)),
+  c .do-deeds .ensures .1,
+)
 
 pub act-spec : {M : Type 1} → statement M
 act-spec =

@@ -17,13 +17,16 @@ act-requires : tie.Need-act-requires
 act-requires c κs = search needs
 
 returns : tie.Need-returns
-returns c = (λ p q.
-    let x = c .before .before .before .before .args in
-    let f = c .before .act in
-    let wrong = c .if1 .taken in
-    moved-fault (f .result) (taken (x .t)) (now (x .states)) (now (x .ages)) (f .last .1 .1 .1 .1 .1 .0) p q wrong
-    ∙ follow-fault (readCharts (now (x .s))) (x .chart) (runIn (now (x .states)) (now (x .ages)) (now (x .vars)) (x .events) p q) (x .t) (codedFault (f .result))
-    (sym (world-fault (f .result) (f .last .1 .1 .1 .1 .1 .0) p q wrong) ∙ f .ensures .0 p q), c .before .act .ensures .1)
+returns c = (
+  λ p q.
+      let x = c .before .before .before .before .args in
+      let f = c .before .act in
+      let wrong = c .if1 .taken in
+      moved-fault (f .result) (taken (x .t)) (now (x .states)) (now (x .ages)) (f .last .1 .1 .1 .1 .1 .0) p q wrong
+      ∙ follow-fault (readCharts (now (x .s))) (x .chart) (runIn (now (x .states)) (now (x .ages)) (now (x .vars)) (x .events) p q) (x .t) (codedFault (f .result))
+      (sym (world-fault (f .result) (f .last .1 .1 .1 .1 .1 .0) p q wrong) ∙ f .ensures .0 p q),
+  c .before .act .ensures .1,
+)
 
 target-of-requires : tie.Need-target-of-requires
 target-of-requires c κs = search needs
@@ -41,18 +44,21 @@ element-write-ages : tie.Need-element-write-ages
 element-write-ages c = search needs
 
 returns-2 : tie.Need-returns-2
-returns-2 c = (λ p q.
-    let a = c .before .before .before .before .before in
-    let x = a .args in
-    let f = c .before .before .act in
-    let fine = c .before .if1 .left in
-    let w = worldIn (f .last .1 .1 .1 .1 .1 .0) (f .result) p q in
-    let r = runIn (now (x .states)) (now (x .ages)) (now (x .vars)) (x .events) p q in
-    moved-value (f .result) (taken (x .t)) (entered r (x .chart) (c .target-of .result) w .at) (entered r (x .chart) (c .target-of .result) w .timers) (f .last .1 .1 .1 .1 .1 .0) p q fine
-    ∙ follow-taken (readCharts (now (x .s))) (x .chart) r (x .t) w
-    (sym (world-value (f .result) (f .last .1 .1 .1 .1 .1 .0) p q fine) ∙ f .ensures .0 p q)
-    (c .target-of .result) (c .target-of .ensures ∙ sym (ap (λ u. u .target) (transition-is (now (x .s)) (x .shape) (a .pre .0 .shape) (x .t) (a .pre .3))))
-    (entered r (x .chart) (c .target-of .result) w) refl, c .before .before .act .ensures .1)
+returns-2 c = (
+  λ p q.
+      let a = c .before .before .before .before .before in
+      let x = a .args in
+      let f = c .before .before .act in
+      let fine = c .before .if1 .left in
+      let w = worldIn (f .last .1 .1 .1 .1 .1 .0) (f .result) p q in
+      let r = runIn (now (x .states)) (now (x .ages)) (now (x .vars)) (x .events) p q in
+      moved-value (f .result) (taken (x .t)) (entered r (x .chart) (c .target-of .result) w .at) (entered r (x .chart) (c .target-of .result) w .timers) (f .last .1 .1 .1 .1 .1 .0) p q fine
+      ∙ follow-taken (readCharts (now (x .s))) (x .chart) r (x .t) w
+      (sym (world-value (f .result) (f .last .1 .1 .1 .1 .1 .0) p q fine) ∙ f .ensures .0 p q)
+      (c .target-of .result) (c .target-of .ensures ∙ sym (ap (λ u. u .target) (transition-is (now (x .s)) (x .shape) (a .pre .0 .shape) (x .t) (a .pre .3))))
+      (entered r (x .chart) (c .target-of .result) w) refl,
+  c .before .before .act .ensures .1,
+)
 
 pub follow-spec : {M : Type 1} → statement M
 follow-spec =

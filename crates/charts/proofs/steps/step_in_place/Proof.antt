@@ -34,12 +34,15 @@ first-that-requires : tie.Need-first-that-requires
 first-that-requires c κs = let a = c .before .before .before .before in (a .pre .0 .accepted, a .pre .0 .has-rows, a .pre .0 .has-ends)
 
 returns : tie.Need-returns
-returns c = (λ p q.
-    let x = c .before .before .before .before .before .before .args in
-    let f = c .before .first-that in
-    let wrong = c .if1 .taken in
-    moved-fault (f .result) (answerBy (now (x .chosen))) (now (x .states)) (now (x .ages)) (now (x .vars)) p q wrong
-    ∙ ap (λ o. o >>= follow (readCharts (now (x .s))) (x .chart) (runIn (now (x .states)) (now (x .ages)) (now (x .vars)) (x .events) p q)) (sym (choice-fault (f .result) wrong) ∙ f .ensures .0), c .before .first-that .ensures .1 .exact)
+returns c = (
+  λ p q.
+      let x = c .before .before .before .before .before .before .args in
+      let f = c .before .first-that in
+      let wrong = c .if1 .taken in
+      moved-fault (f .result) (answerBy (now (x .chosen))) (now (x .states)) (now (x .ages)) (now (x .vars)) p q wrong
+      ∙ ap (λ o. o >>= follow (readCharts (now (x .s))) (x .chart) (runIn (now (x .states)) (now (x .ages)) (now (x .vars)) (x .events) p q)) (sym (choice-fault (f .result) wrong) ∙ f .ensures .0),
+  c .before .first-that .ensures .1 .exact,
+)
 
 -- a transition, or none
 small : (c : tie.Else1) → c .before .first-that .result ≤ 65535
@@ -49,13 +52,16 @@ cast-chosen : tie.Need-cast-chosen
 cast-chosen c = omega (arith, small c)
 
 returns-2 : tie.Need-returns-2
-returns-2 c = (λ p q.
-    let x = c .before .before .before .before .before .before .before .args in
-    let f = c .before .before .first-that in
-    let none-holds = c .if2 .taken in
-    moved-value (x .events) (answerBy (f .result)) (now (x .states)) (now (x .ages)) (now (x .vars)) p q (omega arith)
-    ∙ ap (λ n. val (answerBy n, runIn (now (x .states)) (now (x .ages)) (now (x .vars)) (x .events) p q)) none-holds
-    ∙ ap (λ o. o >>= follow (readCharts (now (x .s))) (x .chart) (runIn (now (x .states)) (now (x .ages)) (now (x .vars)) (x .events) p q)) (sym (choice-none (f .result) none-holds) ∙ f .ensures .0), is-code (c .before .before .before .before .before .before .before .args .events) (omega arith))
+returns-2 c = (
+  λ p q.
+      let x = c .before .before .before .before .before .before .before .args in
+      let f = c .before .before .first-that in
+      let none-holds = c .if2 .taken in
+      moved-value (x .events) (answerBy (f .result)) (now (x .states)) (now (x .ages)) (now (x .vars)) p q (omega arith)
+      ∙ ap (λ n. val (answerBy n, runIn (now (x .states)) (now (x .ages)) (now (x .vars)) (x .events) p q)) none-holds
+      ∙ ap (λ o. o >>= follow (readCharts (now (x .s))) (x .chart) (runIn (now (x .states)) (now (x .ages)) (now (x .vars)) (x .events) p q)) (sym (choice-none (f .result) none-holds) ∙ f .ensures .0),
+  is-code (c .before .before .before .before .before .before .before .args .events) (omega arith),
+)
 
 one-chosen : (c : tie.Else2) → c .before .before .first-that .result < 65535
 one-chosen c = let holds = c .if2 .left in omega (arith, holds, small (c .before))
@@ -69,13 +75,16 @@ follow-requires c κs =
     (a .pre .0 .accepted, a .pre .0 .has-actions, few-charts a, c .before .before .before .before .before .first-that .ensures .1 .known (one-chosen (c .before .before .before)))
 
 returns-3 : tie.Need-returns-3
-returns-3 c = (λ p q.
-    let x = c .before .before .before .before .before .before .before .before .before .before .before .args in
-    let f = c .before .before .before .before .before .before .first-that in
-    let one = one-chosen (c .before .before .before .before) in
-    ap (λ a. movedBy (c .follow .result) a (c .follow .last .1 .1 .1 .1 .1 .1 .0) (c .follow .last .1 .1 .1 .1 .1 .1 .1 .0) (c .follow .last .1 .1 .1 .1 .1 .1 .1 .1 .0) p q) (answer-taken (f .result) one)
-    ∙ c .follow .ensures .0 p q
-    ∙ ap (λ o. o >>= follow (readCharts (now (x .s))) (x .chart) (runIn (now (x .states)) (now (x .ages)) (now (x .vars)) (x .events) p q)) (sym (choice-some (f .result) one) ∙ f .ensures .0), c .follow .ensures .1)
+returns-3 c = (
+  λ p q.
+      let x = c .before .before .before .before .before .before .before .before .before .before .before .args in
+      let f = c .before .before .before .before .before .before .first-that in
+      let one = one-chosen (c .before .before .before .before) in
+      ap (λ a. movedBy (c .follow .result) a (c .follow .last .1 .1 .1 .1 .1 .1 .0) (c .follow .last .1 .1 .1 .1 .1 .1 .1 .0) (c .follow .last .1 .1 .1 .1 .1 .1 .1 .1 .0) p q) (answer-taken (f .result) one)
+      ∙ c .follow .ensures .0 p q
+      ∙ ap (λ o. o >>= follow (readCharts (now (x .s))) (x .chart) (runIn (now (x .states)) (now (x .ages)) (now (x .vars)) (x .events) p q)) (sym (choice-some (f .result) one) ∙ f .ensures .0),
+  c .follow .ensures .1,
+)
 
 pub step-in-place-spec : {M : Type 1} → statement M
 step-in-place-spec =

@@ -28,13 +28,16 @@ step-in-place-requires c κs =
     (b .pre .0, omega (arith, more, b .pre .2))
 
 returns : tie.Need-returns Inv-loop μ-loop
-returns c = (λ p q.
-    let x = c .before .before .before .before .before .before .before .before .before .args in
-    let l = c .before .before .before .before .before .before .before .loop in
-    let f = c .before .step-in-place in
-    let more = c .before .before .before .before .before .before .loop-test .taken in
-    left-fault (readCharts (now (x .s))) (x .from) (x .to) (answerBy (now (x .chosen))) (now (x .states)) (now (x .ages)) (now (x .vars)) (x .events) (l .chart) (answerBy (l .chosen)) (l .states) (l .ages) (l .vars) (l .present) (l .inv .3)
-    (f .result) (answerBy (f .last .1 .1 .1 .1 .1 .1 .1 .1 .1 .1 .1 .0)) (f .last .1 .1 .1 .1 .1 .1 .1 .0) (f .last .1 .1 .1 .1 .1 .1 .1 .1 .0) (f .last .1 .1 .1 .1 .1 .1 .1 .1 .1 .0) (f .ensures .0) more (c .if1 .taken) p (p + (x .to - x .from)) q, c .before .step-in-place .ensures .1)
+returns c = (
+  λ p q.
+      let x = c .before .before .before .before .before .before .before .before .before .args in
+      let l = c .before .before .before .before .before .before .before .loop in
+      let f = c .before .step-in-place in
+      let more = c .before .before .before .before .before .before .loop-test .taken in
+      left-fault (readCharts (now (x .s))) (x .from) (x .to) (answerBy (now (x .chosen))) (now (x .states)) (now (x .ages)) (now (x .vars)) (x .events) (l .chart) (answerBy (l .chosen)) (l .states) (l .ages) (l .vars) (l .present) (l .inv .3)
+      (f .result) (answerBy (f .last .1 .1 .1 .1 .1 .1 .1 .1 .1 .1 .1 .0)) (f .last .1 .1 .1 .1 .1 .1 .1 .0) (f .last .1 .1 .1 .1 .1 .1 .1 .1 .0) (f .last .1 .1 .1 .1 .1 .1 .1 .1 .1 .0) (f .ensures .0) more (c .if1 .taken) p (p + (x .to - x .from)) q,
+  c .before .step-in-place .ensures .1,
+)
 
 cast-present : tie.Need-cast-present Inv-loop μ-loop
 cast-present c = let fine = c .if1 .left in omega (arith, fine)

@@ -43,31 +43,43 @@ element-set-from-vars : tie.Need-element-set-from-vars
 element-set-from-vars c = search needs
 
 returns : tie.Need-returns
-returns c = (λ p q.
-    let x = c .before .before .before .before .before .before .before .args in
-    ap (λ o. o >>= λ events. val (worldIn (now (x .vars)) events p q)) (c .fault-code .ensures .1)
-    ∙ assign-fault (nodesIn (now (x .s)) (x .values)) (variablesIn (now (x .s)) (x .values)) (now (x .vars)) (x .events) (x .v) (x .n) p q (expressions-answers.reasonOf (c .before .before .w .given .0 .0))
-    (ap numberOf (sym (c .before .before .w .given .1)) ∙ c .before .before .before .before .number-at .ensures), c .fault-code .ensures .2, λ h. refl)
+returns c = (
+  λ p q.
+      let x = c .before .before .before .before .before .before .before .args in
+      ap (λ o. o >>= λ events. val (worldIn (now (x .vars)) events p q)) (c .fault-code .ensures .1)
+      ∙ assign-fault (nodesIn (now (x .s)) (x .values)) (variablesIn (now (x .s)) (x .values)) (now (x .vars)) (x .events) (x .v) (x .n) p q (expressions-answers.reasonOf (c .before .before .w .given .0 .0))
+      (ap numberOf (sym (c .before .before .w .given .1)) ∙ c .before .before .before .before .number-at .ensures),
+  c .fault-code .ensures .2,
+  λ h. refl,
+)
 
 returns-2 : tie.Need-returns-2
-returns-2 c = (λ p q.
-    let x = c .before .before .before .before .before .before .before .before .args in
-    let z = c .before .before .before .z .given .0 .0 in
-    let e : toZ w32 (ofZ w32 z) ≡ z = search needs in
-    world-value (x .events) _ p q (omega arith)
-    ∙ ap (λ u. val (worldIn (set (now (x .vars)) (x .v) u) (x .events) p q)) (toZ-ofZ (cast-vars c) ∙ e)
-    ∙ assign-within (nodesIn (now (x .s)) (x .values)) (variablesIn (now (x .s)) (x .values)) (now (x .vars)) (x .events) (x .v) (x .n) p q z
-    (ap numberOf (sym (c .before .before .before .z .given .1)) ∙ c .before .before .before .before .before .number-at .ensures)
-    (ap (within (getD (variablesIn (now (x .s)) (x .values)) (x .v) noVariable)) (sym e) ∙ sym (c .before .is-within .ensures .0) ∙ c .if1 .taken), is-code (c .before .before .before .before .before .before .before .before .args .events) (omega arith), λ h. absurd (omega (arith, h)))
+returns-2 c = (
+  λ p q.
+      let x = c .before .before .before .before .before .before .before .before .args in
+      let z = c .before .before .before .z .given .0 .0 in
+      let e : toZ w32 (ofZ w32 z) ≡ z = search needs in
+      world-value (x .events) _ p q (omega arith)
+      ∙ ap (λ u. val (worldIn (set (now (x .vars)) (x .v) u) (x .events) p q)) (toZ-ofZ (cast-vars c) ∙ e)
+      ∙ assign-within (nodesIn (now (x .s)) (x .values)) (variablesIn (now (x .s)) (x .values)) (now (x .vars)) (x .events) (x .v) (x .n) p q z
+      (ap numberOf (sym (c .before .before .before .z .given .1)) ∙ c .before .before .before .before .before .number-at .ensures)
+      (ap (within (getD (variablesIn (now (x .s)) (x .values)) (x .v) noVariable)) (sym e) ∙ sym (c .before .is-within .ensures .0) ∙ c .if1 .taken),
+  is-code (c .before .before .before .before .before .before .before .before .args .events) (omega arith),
+  λ h. absurd (omega (arith, h)),
+)
 
 returns-3 : tie.Need-returns-3
-returns-3 c = (λ p q.
-    let x = c .before .before .before .before .before .before .before .before .args in
-    let z = c .before .before .before .z .given .0 .0 in
-    let e : toZ w32 (ofZ w32 z) ≡ z = search needs in
-    assign-outside (nodesIn (now (x .s)) (x .values)) (variablesIn (now (x .s)) (x .values)) (now (x .vars)) (x .events) (x .v) (x .n) p q z
-    (ap numberOf (sym (c .before .before .before .z .given .1)) ∙ c .before .before .before .before .before .number-at .ensures)
-    (ap (within (getD (variablesIn (now (x .s)) (x .values)) (x .v) noVariable)) (sym e) ∙ sym (c .before .is-within .ensures .0) ∙ c .if1 .left), refl, λ h. refl)
+returns-3 c = (
+  λ p q.
+      let x = c .before .before .before .before .before .before .before .before .args in
+      let z = c .before .before .before .z .given .0 .0 in
+      let e : toZ w32 (ofZ w32 z) ≡ z = search needs in
+      assign-outside (nodesIn (now (x .s)) (x .values)) (variablesIn (now (x .s)) (x .values)) (now (x .vars)) (x .events) (x .v) (x .n) p q z
+      (ap numberOf (sym (c .before .before .before .z .given .1)) ∙ c .before .before .before .before .before .number-at .ensures)
+      (ap (within (getD (variablesIn (now (x .s)) (x .values)) (x .v) noVariable)) (sym e) ∙ sym (c .before .is-within .ensures .0) ∙ c .if1 .left),
+  refl,
+  λ h. refl,
+)
 
 pub assign-code-spec : {M : Type 1} → statement M
 assign-code-spec =
