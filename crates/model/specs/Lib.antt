@@ -5,7 +5,9 @@
 --                               ChartSet, AutomataTable         readCharts, readAutomata, writeAutomata
 --                               Owned                           of: what an owner has, in file order
 --   Values                      expressions/specs/Nodes, Values readNode, compute, compare, number, truth
---   A chart's turn              Runs                            World, Run, deed, Machine, start, possible, checked, turn, cycle, Trace
+--   A chart's turn              World                           Variable, World, Run, Deed, deed, deeds, guardHolds
+--                               Machine                         Answer, Machine, give, start
+--                               Turns                           timePassed, stepped, turn, Call, Trace, cycle
 --                               Charts                          ticks, afterHolds, everyHolds, row, transitionHolds, acted, follow, chartStep
 --   The translation             Translation                     twin, twinBytes, translate
 --                               Automata                        top, grown, literalHolds, openEdges, theOne, edgeStep
@@ -13,7 +15,7 @@
 --   Refusal table               records/specs/Refusal, Framing  refusalNumber, lowest, framing (1 to 3)
 --                               ChartFile                       chartLimits, unused (4), inCode (5), allNamed (6), .. chartsRefusal
 --                               AutomataFile                    automataLimits, automataRefusal (11)
---                               Runs                            possible (12), checked (12 to 14)
+--                               Checks                          possible (12), checked (12 to 14)
 --   every refusal keeps what    Outcome, Calls                  settled, startCall, turnCall, cycleCall, callTrace, numbered, answerCode
 --   is lent
 --   Leading a path back         PathBack, TakenPath             stepFits, ledBack, pathBack; takenPath, takenRows
@@ -23,6 +25,10 @@
 -- `unfoldable` one is opened by name. `T b` is the fact that b is true. `Out A` is a value or the first refusal or fault met, and `>>=` goes on with a value. `of k xs` are the things that xs gives the owner k.
 -- What is asked of a file or a run is named by what holds where it passes; the comment above quotes the refusal that it answers where it does not.
 pub mod Owned
+pub mod World
+pub mod Machine
+pub mod Checks
+pub mod Turns
 pub mod Runs
 pub mod Outcome
 pub mod ChartSet
