@@ -53,6 +53,13 @@ value-itself : (z : ℤ) → valuesAlike z z ≡ true
 value-itself (pos n) = λ i. le-leb n n (omega arith) i && le-leb n n (omega arith) i
 value-itself (negsuc n) = λ i. le-leb n n (omega arith) i && le-leb n n (omega arith) i
 
+-- what matches passes the test
+pub outs : {A : Type 0} (match : A → A → Type 0) (alike : A → A → Bool) → ((a b : A) → match a b → alike a b ≡ true) → (o p : Out A) → OutsMatch match o p → outsAlike alike o p ≡ true
+outs match alike f (val a) (val b) m = f a b m
+outs match alike f (fault w) (fault v) m = eq-eqb (refusalNumber w) (refusalNumber v) m
+outs match alike f (val a) (fault v) m = absurd m
+outs match alike f (fault w) (val b) m = absurd m
+
 -- ---- runs
 
 module _ (s t : List ℕ) (sh : Shape) (ok : Accepted t sh) where
@@ -135,12 +142,6 @@ module _ (s t : List ℕ) (sh : Shape) (ok : Accepted t sh) where
   answers r q idle idle m = absurd m
   answers r q idle time m = absurd m
   answers r q time idle m = absurd m
-
-  outs : {A : Type 0} (match : A → A → Type 0) (alike : A → A → Bool) → ((a b : A) → match a b → alike a b ≡ true) → (o p : Out A) → OutsMatch match o p → outsAlike alike o p ≡ true
-  outs match alike f (val a) (val b) m = f a b m
-  outs match alike f (fault w) (fault v) m = eq-eqb (refusalNumber w) (refusalNumber v) m
-  outs match alike f (val a) (fault v) m = absurd m
-  outs match alike f (fault w) (val b) m = absurd m
 
   replies : (c : Call) (r q : Run) → CallMatches s t c r q → repliesAlike s t sh c r q ≡ true
   replies (one-turn given) r q m =

@@ -1,4 +1,4 @@
--- `compare` meets its contract. Assumes nothing.
+-- `file_compared` meets its contract. Assumes nothing.
 use Rattle.twins.specs.Compared.{verdict}
 use Rattle.charts.proofs.Checking.{accepted-of, refused-of}
 use Rattle.model.specs.Translation.{twinBytes, written, translate}
@@ -9,8 +9,8 @@ use lib.ListN.{length}
 use denote.Ref.{now}
 use mathlib.Core.Path.{_≡_, refl, sym, ap, _∙_}
 use borrow.Author.Needs.{needs}
-use Rattle.twins.proofs.compare.Statement.{statement}
-use Rattle.twins.proofs.compare.Tie as tie
+use Rattle.twins.proofs.file_compared.Statement.{statement}
+use Rattle.twins.proofs.file_compared.Tie as tie
 
 check-requires : tie.Need-check-requires
 check-requires c κs = search needs
@@ -33,8 +33,8 @@ same-length c = search needs
 returns-2 : tie.Need-returns-2
 returns-2 c = search needs
 
-pub compare-spec : {M : Type 1} → statement M
-compare-spec =
+pub file-compared-spec : {M : Type 1} → statement M
+file-compared-spec =
     tie.close
     (tie.spec
     check-requires
