@@ -12,7 +12,7 @@ use Rattle.model.specs.Runs.{Run, Call, start}
 use Rattle.model.specs.AutomataFile.{automataRefusal}
 use Rattle.model.specs.AutomataTable.{readAutomata}
 use Rattle.model.specs.Automata.{automata}
-use Rattle.model.specs.Translation.{translate, twinBytes}
+use Rattle.model.specs.Translation.{translate}
 use Rattle.model.specs.PathBack.{rowsWritten, pathBack}
 use Rattle.model.specs.Calls.{Format, chartSets, automataTables, startCall}
 use Rattle.model.specs.TakenPath.{takenPath, takenRows}

@@ -1,16 +1,16 @@
 -- Many cycles of two runs that any calls move alike: as many are done, and they leave runs that any calls move alike. Assumes nothing.
-use mathlib.Core.Path.{_≡_, refl, sym, ap, _∙_, subst}
+use mathlib.Core.Path.{_≡_, refl, ap, subst}
 use mathlib.Core.Bool.{Bool, true, false, cond}
 use mathlib.Core.Option.{none}
 use mathlib.Core.List.{List, [], _∷_}
 use Prim.Native.Nat.{ℕ, _+_}
 use lib.Dec.{eqb}
-use Rattle.records.specs.Refusal.{Out, val, fault, refusalNumber, unless-refused}
-use Rattle.model.specs.Outcome.{Outcome, settled}
+use Rattle.records.specs.Refusal.{Out, val, fault, unless-refused}
+use Rattle.model.specs.Outcome.{settled}
 use Rattle.model.specs.Runs.{Run, Machine, Call, whole-cycle, cycle}
 use Rattle.model.specs.Calls.{Format, chartSets, automataTables, cycleCall}
-use Rattle.model.specs.Correspondence.{OutsMatch, CallMatches, lentAfter, MoveAlike}
-use Rattle.machines.specs.Playing.{Played, later, onwards, played, stoppedAt, playing}
+use Rattle.model.specs.Correspondence.{OutsMatch, MoveAlike}
+use Rattle.machines.specs.Playing.{Played, onwards, played, stoppedAt, playing}
 
 module _ (s t : List ℕ) (ok : chartSets .refusal s ≡ none) (ok′ : automataTables .refusal t ≡ none) where
   abbrev pub Alike : Run → Run → Type 0

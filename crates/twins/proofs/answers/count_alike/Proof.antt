@@ -3,7 +3,7 @@ use Rattle.twins.specs.Alike.{outsAlike}
 use Rattle.machines.specs.Answers.{cyclesOf}
 use Rattle.records.specs.Refusal.{val}
 use lib.Dec.{eqb}
-use mathlib.Core.Path.{_≡_, refl, sym, ap, _∙_}
+use mathlib.Core.Path.{sym, ap}
 use borrow.Author.Needs.{needs}
 use Rattle.twins.proofs.answers.count_alike.Statement.{statement}
 use Rattle.twins.proofs.answers.count_alike.Tie as tie

@@ -2,7 +2,7 @@
 use Rattle.twins.specs.Alike.{failsAs, outsAlike}
 use Rattle.machines.specs.Answers.{cyclesOf}
 use lib.Dec.{eqb}
-use mathlib.Core.Path.{_≡_, refl, sym, ap, _∙_}
+use mathlib.Core.Path.{sym, ap, _∙_}
 use borrow.Author.Needs.{needs}
 use Rattle.twins.proofs.answers.counts_alike.Statement.{statement}
 use Rattle.twins.proofs.answers.counts_alike.Tie as tie
@@ -32,13 +32,21 @@ count-fails-requires-2 : tie.Need-count-fails-requires-2
 count-fails-requires-2 c κs = search needs
 
 returns : tie.Need-returns
-returns c = c .count-alike .ensures ∙ ap (λ o. outsAlike eqb (cyclesOf o) (cyclesOf (c .before .before .before .before .args .other))) (sym (c .before .before .count .given .1))
+returns c =
+    c .count-alike .ensures
+    ∙ ap (λ o. outsAlike eqb (cyclesOf o) (cyclesOf (c .before .before .before .before .args .other))) (sym (c .before .before .count .given .1))
 
 returns-2 : tie.Need-returns-2
-returns-2 c = c .count-fails .ensures ∙ ap (λ n. failsAs n (cyclesOf (c .before .before .before .before .before .args .other))) (c .before .reason-number .ensures) ∙ ap (λ o. outsAlike eqb (cyclesOf o) (cyclesOf (c .before .before .before .before .before .args .other))) (sym (c .before .before .before .count2 .given .1))
+returns-2 c =
+    c .count-fails .ensures
+    ∙ ap (λ n. failsAs n (cyclesOf (c .before .before .before .before .before .args .other))) (c .before .reason-number .ensures)
+    ∙ ap (λ o. outsAlike eqb (cyclesOf o) (cyclesOf (c .before .before .before .before .before .args .other))) (sym (c .before .before .before .count2 .given .1))
 
 returns-3 : tie.Need-returns-3
-returns-3 c = c .count-fails2 .ensures ∙ ap (λ n. failsAs n (cyclesOf (c .before .before .before .before .before .args .other))) (c .before .refusal-number .ensures) ∙ ap (λ o. outsAlike eqb (cyclesOf o) (cyclesOf (c .before .before .before .before .before .args .other))) (sym (c .before .before .before .count3 .given .1))
+returns-3 c =
+    c .count-fails2 .ensures
+    ∙ ap (λ n. failsAs n (cyclesOf (c .before .before .before .before .before .args .other))) (c .before .refusal-number .ensures)
+    ∙ ap (λ o. outsAlike eqb (cyclesOf o) (cyclesOf (c .before .before .before .before .before .args .other))) (sym (c .before .before .before .count3 .given .1))
 
 pub counts-alike-spec : {M : Type 1} → statement M
 counts-alike-spec =
