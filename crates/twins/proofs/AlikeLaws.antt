@@ -9,7 +9,7 @@ use lib.ListN.{getD}
 use Rattle.automata_files.specs.declared.Shape.{Shape}
 use Rattle.automata_files.specs.Places.{edgeAt, literalAt}
 use Rattle.automata_files.specs.Known.{CauseKnown}
-use Rattle.automata_files.proofs.Readings.{most-automata, most-clocks}
+use Rattle.automata_files.proofs.Readings.{most-automata}
 use Rattle.automata_files.proofs.Sound.{automaton-known, literal-edge-known, literal-cause-known}
 use Rattle.model.specs.AutomataTable.{clock}
 use Rattle.automata.specs.Accepted.{Accepted}

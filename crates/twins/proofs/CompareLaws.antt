@@ -1,5 +1,5 @@
 -- What a set's translation brings to a comparison: the twin's file is its translation's, and any calls move both alike. Assumes nothing.
-use mathlib.Core.Path.{_≡_, refl, sym, ap, _∙_, subst}
+use mathlib.Core.Path.{_≡_, sym, ap, _∙_, subst}
 use mathlib.Core.Bool.{Bool, true, false}
 use mathlib.Core.Option.{Option, some, none}
 use mathlib.Core.List.{List, [], _∷_, _++_}
@@ -8,7 +8,7 @@ use native.Mathlib.Omega.{arith}
 use borrow.Author.Tests.{lt-ltb}
 use lib.Dec.{T, ltb}
 use Rattle.model.proofs.BoolLaws.{of-true, both-of}
-use lib.ListN.{length, getD, take, drop}
+use lib.ListN.{length, getD, drop}
 use Rattle.records.specs.Lists.{all}
 use Rattle.records.specs.Refusal.{Refusal, short-buffer, Out, val, fault, _>>_, fault-if, unless-refused}
 use Rattle.model.specs.Outcome.{settled}

@@ -2,5 +2,5 @@ pub mod AlikeLaws
 pub mod Matched
 pub mod BothLaws
 pub mod CompareLaws
-pub mod RunsAlike
+pub mod PlaysAlike
 pub mod PathsAlike

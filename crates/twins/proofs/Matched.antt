@@ -1,21 +1,20 @@
 -- What demand 3 says of runs and answers, the tests find: corresponding runs are alike, and so are the answers of calls that match. Assumes nothing.
 use mathlib.Core.Path.{_≡_, refl, sym, ap, _∙_, subst}
 use mathlib.Core.Bool.{Bool, true, false, cond, _&&_, _||_}
-use mathlib.Core.List.{List, [], _∷_, map, _++_}
-use Prim.Native.Nat.{ℕ, zero, suc, _+_, _-_, _<_}
+use mathlib.Core.List.{List, [], _∷_, map}
+use Prim.Native.Nat.{ℕ, zero, suc, _<_}
 use native.Mathlib.Omega.{arith}
-use borrow.Author.Tests.{eq-eqb, lt-ltb, eqb-true, ltb-true, ltb-false, le-leb}
+use borrow.Author.Tests.{eq-eqb, eqb-true, ltb-true, ltb-false, le-leb}
 use lib.Dec.{T, eqb, ltb}
 use lib.IntN.{ℤ, pos, negsuc}
 use lib.ListN.{length, getD, List·getD-eq-default}
-use lib.Signed.{leZ}
 use Rattle.records.specs.Lists.{keep, gather, upto, mem}
 use Rattle.records.specs.Refusal.{Out, val, fault, refusalNumber}
 use Rattle.model.specs.Owned.{of}
-use Rattle.model.specs.Runs.{World, Run, give, Answer, taken, idle, time, Call, one-turn, whole-cycle}
+use Rattle.model.specs.Runs.{Run, give, Answer, taken, idle, time, Call, one-turn, whole-cycle}
 use Rattle.model.specs.ChartSet.{readCharts}
 use Rattle.model.specs.AutomataTable as M
-use Rattle.model.specs.AutomataTable.{Cause, always, event, clock, Literal, Edge, Clock, edge, noEdge, readAutomata}
+use Rattle.model.specs.AutomataTable.{Cause, always, event, clock, Literal, Edge, edge, noEdge, readAutomata}
 use Rattle.model.specs.Automata.{leaving}
 use Rattle.model.specs.Calls.{chartSets, automataTables, turnCall, cycleCall}
 use Rattle.model.specs.Correspondence.{clockFor, clockRead, clocksRead, Corresponds, AnswersMatch, OutsMatch, CallMatches, lentAfter, MoveAlike}
@@ -23,11 +22,11 @@ use Rattle.model.proofs.BoolLaws.{of-true, both-of, clash}
 use Rattle.model.proofs.ListLaws.{mem-left, mem-right, mem-gather, mem-kept, mem-from}
 use Rattle.chart_files.proofs.Numbers.{all-by}
 use Rattle.automata_files.specs.declared.Shape.{Shape}
-use Rattle.automata_files.specs.Places.{edgeAt, literalAt, clockAt}
+use Rattle.automata_files.specs.Places.{edgeAt, literalAt}
 use Rattle.automata_files.proofs.Readings.{length-edges, length-literals, edge-is, literal-is, clock-is}
-use Rattle.automata_files.proofs.Sound.{automaton-known, literal-edge-known, literal-cause-known}
+use Rattle.automata_files.proofs.Sound.{automaton-known, literal-edge-known}
 use Rattle.automata.specs.Accepted.{Accepted}
-use Rattle.twins.specs.Alike.{valuesAlike, variablesAlike, placesAlike, causeAlike, literalAlike, timersAlike, runsAlike, idleAt, answersAlike, failsAs, outsAlike, stateAt, repliesAlike, callAlike}
+use Rattle.twins.specs.Alike.{valuesAlike, variablesAlike, placesAlike, causeAlike, literalAlike, timersAlike, runsAlike, idleAt, answersAlike, outsAlike, stateAt, repliesAlike, callAlike}
 use Rattle.twins.proofs.AlikeLaws.{clock-in}
 
 -- ---- the clocks that a location's literals read
@@ -52,6 +51,13 @@ literal-read (x ∷ xs) d (suc l) k h e = go (eqb (x .0) (getD xs l d .0)) (lite
 value-itself : (z : ℤ) → valuesAlike z z ≡ true
 value-itself (pos n) = λ i. le-leb n n (omega arith) i && le-leb n n (omega arith) i
 value-itself (negsuc n) = λ i. le-leb n n (omega arith) i && le-leb n n (omega arith) i
+
+-- what matches passes the test
+pub outs : {A : Type 0} (match : A → A → Type 0) (alike : A → A → Bool) → ((a b : A) → match a b → alike a b ≡ true) → (o p : Out A) → OutsMatch match o p → outsAlike alike o p ≡ true
+outs match alike f (val a) (val b) m = f a b m
+outs match alike f (fault w) (fault v) m = eq-eqb (refusalNumber w) (refusalNumber v) m
+outs match alike f (val a) (fault v) m = absurd m
+outs match alike f (fault w) (val b) m = absurd m
 
 -- ---- runs
 
@@ -135,12 +141,6 @@ module _ (s t : List ℕ) (sh : Shape) (ok : Accepted t sh) where
   answers r q idle idle m = absurd m
   answers r q idle time m = absurd m
   answers r q time idle m = absurd m
-
-  outs : {A : Type 0} (match : A → A → Type 0) (alike : A → A → Bool) → ((a b : A) → match a b → alike a b ≡ true) → (o p : Out A) → OutsMatch match o p → outsAlike alike o p ≡ true
-  outs match alike f (val a) (val b) m = f a b m
-  outs match alike f (fault w) (fault v) m = eq-eqb (refusalNumber w) (refusalNumber v) m
-  outs match alike f (val a) (fault v) m = absurd m
-  outs match alike f (fault w) (val b) m = absurd m
 
   replies : (c : Call) (r q : Run) → CallMatches s t c r q → repliesAlike s t sh c r q ≡ true
   replies (one-turn given) r q m =

@@ -1,4 +1,2 @@
 pub mod Alike
 pub mod Compared
-pub mod Played
-pub mod TurnsPlayed

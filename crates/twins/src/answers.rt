@@ -2,16 +2,18 @@
 ghost use mathlib.Core.Path.{_≡_};
 ghost use mathlib.Core.Bool.{true};
 ghost use Prim.Native.Nat.{_-_};
+ghost use lib.Dec.{eqb};
 ghost use lib.ListN.{getD};
 ghost use Rattle.records.specs.Refusal.{val};
 ghost use Rattle.model.specs.Runs.{taken, idle, time};
-ghost use Rattle.machines.specs.Answers.{answerOf, endingOf};
+ghost use Rattle.machines.specs.Answers.{answerOf, endingOf, cyclesOf};
 ghost use Rattle.twins.specs.Alike.{idleAt, answersAlike, failsAs, outsAlike};
 use automata_files::Shape;
 use automata_files::fields::idles;
 use automata_files::fields::source_of;
 use automata_files::fields::target_of;
 use machines::answers::Answer;
+use machines::answers::Cycles;
 use machines::answers::Ending;
 use machines::answers::reason_number;
 use records::refusals::refusal_number;
@@ -126,5 +128,35 @@ pub fn endings_alike(ending: Ending, other: Ending) -> bool
         Ending::Done => done_alike(other),
         Ending::Fault(w) => ending_fails(reason_number(w), other),
         Ending::Refused(w) => ending_fails(refusal_number(w), other),
+    }
+}
+
+fn count_fails(n: u8, count: Cycles) -> bool
+    ensures { λ r. ⌜ r ≡ failsAs n (cyclesOf count) ⌝ }
+{
+    match count {
+        Cycles::Done(_) => false,
+        Cycles::Fault(w) => n == reason_number(w),
+        Cycles::Refused(w) => n == refusal_number(w),
+    }
+}
+
+fn count_alike(n: u32, other: Cycles) -> bool
+    ensures { λ r. ⌜ r ≡ outsAlike eqb (val n) (cyclesOf other) ⌝ }
+{
+    match other {
+        Cycles::Done(k) => n == k,
+        Cycles::Fault(_) => false,
+        Cycles::Refused(_) => false,
+    }
+}
+
+pub fn counts_alike(count: Cycles, other: Cycles) -> bool
+    ensures { λ r. ⌜ r ≡ outsAlike eqb (cyclesOf count) (cyclesOf other) ⌝ }
+{
+    match count {
+        Cycles::Done(n) => count_alike(n, other),
+        Cycles::Fault(w) => count_fails(reason_number(w), other),
+        Cycles::Refused(w) => count_fails(refusal_number(w), other),
     }
 }

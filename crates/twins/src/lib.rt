@@ -12,6 +12,7 @@ pub mod answers;
 pub mod both;
 pub mod runs;
 
+use answers::counts_alike;
 use both::call_both;
 use both::is_turn;
 use records::refusals::Refusal;
@@ -59,11 +60,58 @@ fn calls_compared(
     Compared::Alike(k)
 }
 
+// Many cycles on both sides, from fresh runs on.
+fn plays_compared(
+    s: &[u8],
+    shape: chart_files::Shape,
+    t: &[u8],
+    table: automata_files::Shape,
+    masks: &[u32],
+) -> Compared
+    requires { ⌜ of-charts.Accepted (now s) shape × of-automata.Accepted (now t) table × (readAutomata (now t) ≡ twin-of (readCharts (now s))) ⌝ }
+    ensures { λ r. ⌜ r ≡ Compared.Alike (length (now (masks .entry))) ⌝ }
+{
+    let run = charts::runs::start(s, shape);
+    let twin = automata::runs::start(t, table);
+    let played = charts::plays::play_in_place(s, shape, run, masks);
+    let other = automata::plays::play_in_place(t, table, twin, masks);
+    let count = played.answer;
+    let reply = other.answer;
+    let left = played.run;
+    let twin_left = other.run;
+    if counts_alike(count, reply) & runs_alike(t, table, left, twin_left) {
+        Compared::Alike(masks.len())
+    } else {
+        Compared::Differ(0)
+    }
+}
+
+// Cycles played, or calls one by one.
+fn table_compared(
+    s: &[u8],
+    shape: chart_files::Shape,
+    t: &[u8],
+    table: automata_files::Shape,
+    plays: bool,
+    kinds: &[u8],
+    masks: &[u32],
+) -> Compared
+    requires { ⌜ of-charts.Accepted (now s) shape × of-automata.Accepted (now t) table × (readAutomata (now t) ≡ twin-of (readCharts (now s))) ⌝ }
+    ensures { λ r. ⌜ r ≡ Compared.Alike (length (now (masks .entry))) ⌝ }
+{
+    if plays {
+        plays_compared(s, shape, t, table, masks)
+    } else {
+        calls_compared(s, shape, t, table, kinds, masks)
+    }
+}
+
 // The twin's file is read back first.
 fn twin_compared(
     s: &[u8],
     shape: chart_files::Shape,
     t: &[u8],
+    plays: bool,
     kinds: &[u8],
     masks: &[u32],
 ) -> Compared
@@ -73,7 +121,7 @@ fn twin_compared(
     match automata_files::check(t) {
         automata_files::Checked::Refused(w) => Compared::Refused(w),
         automata_files::Checked::Accepted(table) => {
-            calls_compared(s, shape, t, table, kinds, masks)
+            table_compared(s, shape, t, table, plays, kinds, masks)
         }
     }
 }
@@ -81,6 +129,7 @@ fn twin_compared(
 fn set_compared(
     s: &[u8],
     shape: chart_files::Shape,
+    plays: bool,
     kinds: &[u8],
     masks: &[u32],
     twin: &mut [u8],
@@ -90,7 +139,16 @@ fn set_compared(
 {
     match translation::translate(s, shape, twin) {
         Translated::Refused(w) => Compared::Refused(w),
-        Translated::Written(n) => twin_compared(s, shape, &twin[..n], kinds, masks),
+        Translated::Written(n) => twin_compared(s, shape, &twin[..n], plays, kinds, masks),
+    }
+}
+
+fn file_compared(s: &[u8], plays: bool, kinds: &[u8], masks: &[u32], twin: &mut [u8]) -> Compared
+    ensures { λ r. ⌜ (verdictOf r ≡ verdict (translation (now (s .entry)) (now (twin .entry)) .answer) (length (now (masks .entry)))) × (now (twin .exit) ≡ translation (now (s .entry)) (now (twin .entry)) .lent) ⌝ }
+{
+    match chart_files::check(s) {
+        chart_files::Checked::Refused(w) => Compared::Refused(w),
+        chart_files::Checked::Accepted(shape) => set_compared(s, shape, plays, kinds, masks, twin),
     }
 }
 
@@ -99,8 +157,13 @@ fn set_compared(
 pub fn compare(s: &[u8], kinds: &[u8], masks: &[u32], twin: &mut [u8]) -> Compared
     ensures { λ r. ⌜ (verdictOf r ≡ verdict (translation (now (s .entry)) (now (twin .entry)) .answer) (length (now (masks .entry)))) × (now (twin .exit) ≡ translation (now (s .entry)) (now (twin .entry)) .lent) ⌝ }
 {
-    match chart_files::check(s) {
-        chart_files::Checked::Refused(w) => Compared::Refused(w),
-        chart_files::Checked::Accepted(shape) => set_compared(s, shape, kinds, masks, twin),
-    }
+    file_compared(s, false, kinds, masks, twin)
+}
+
+// The same with cycles played, one for each mask: as many are done, or the first fails alike, and they leave runs that correspond.
+pub fn compare_plays(s: &[u8], masks: &[u32], twin: &mut [u8]) -> Compared
+    ensures { λ r. ⌜ (verdictOf r ≡ verdict (translation (now (s .entry)) (now (twin .entry)) .answer) (length (now (masks .entry)))) × (now (twin .exit) ≡ translation (now (s .entry)) (now (twin .entry)) .lent) ⌝ }
+{
+    let kinds = [1u8; 1];
+    file_compared(s, true, &kinds, masks, twin)
 }

@@ -11,11 +11,10 @@ use Rattle.model.specs.Runs.{Call}
 use lib.ListN.{length, getD}
 use denote.Ref.{now}
 use borrow.Author.Tests.{not-true}
-use borrow.Author.Needs.{needs}
 use native.Mathlib.Omega.{arith}
 use Prim.Native.Nat.{_-_, _≤_}
 use mathlib.Core.List.{List}
-use mathlib.Core.Path.{_≡_, refl, sym, ap, _∙_}
+use mathlib.Core.Path.{_≡_, sym, ap, _∙_}
 use Rattle.twins.proofs.calls_compared.Statement.{statement}
 use Rattle.twins.proofs.calls_compared.Tie as tie
 
@@ -35,37 +34,75 @@ runs-alike-requires : tie.Need-runs-alike-requires Inv-loop μ-loop
 runs-alike-requires c κs = c .before .before .before .before .before .before .pre .1
 
 returns : tie.Need-returns Inv-loop μ-loop
-returns c = let b = c .before .before .before .before .before .before .before .before in let s = now (b .args .s) in let t = now (b .args .t) in clash {b = c .before .runs-alike .result} (of-true (c .before .runs-alike .ensures ∙ corresponding-alike s t (b .args .table) (b .pre .1) (charts-are s t (b .args .table) (b .pre .1) (b .pre .2)) _ _ (now-corresponds s t (b .args .table) (b .pre .1) _ _ (fresh-alike s t (b .pre .0 .unrefused) (b .pre .1 .unrefused) (b .pre .2) (c .before .before .before .start .ensures) (c .before .before .start2 .ensures))))) (not-true _ (c .if1 .taken))
+returns c =
+    let b = c .before .before .before .before .before .before .before .before in
+    let s = now (b .args .s) in
+    let t = now (b .args .t) in
+    clash {b = c .before .runs-alike .result} (of-true (c .before .runs-alike .ensures ∙ corresponding-alike s t (b .args .table) (b .pre .1) (charts-are s t (b .args .table) (b .pre .1) (b .pre .2)) _ _ (now-corresponds s t (b .args .table) (b .pre .1) _ _ (fresh-alike s t (b .pre .0 .unrefused) (b .pre .1 .unrefused) (b .pre .2) (c .before .before .before .start .ensures) (c .before .before .start2 .ensures))))) (not-true _ (c .if1 .taken))
 
 loop-holds : tie.Need-loop-holds Inv-loop μ-loop
-loop-holds c = let b = c .before .before .before .before .before .before .before .before in (omega arith, fresh-alike (now (b .args .s)) (now (b .args .t)) (b .pre .0 .unrefused) (b .pre .1 .unrefused) (b .pre .2) (c .before .before .before .start .ensures) (c .before .before .start2 .ensures))
+loop-holds c =
+    let b = c .before .before .before .before .before .before .before .before in
+    (omega arith, fresh-alike (now (b .args .s)) (now (b .args .t)) (b .pre .0 .unrefused) (b .pre .1 .unrefused) (b .pre .2) (c .before .before .before .start .ensures) (c .before .before .start2 .ensures))
 
 is-turn-requires : tie.Need-is-turn-requires Inv-loop μ-loop
 is-turn-requires c κs = tt
 
 mul-events : tie.Need-mul-events Inv-loop μ-loop
-mul-events c = let b = c .before .before .before .before .before .before .before .before .before .before .before in let l = c .before .before .loop in omega (arith, b .good, l .inv .0)
+mul-events c =
+    let b = c .before .before .before .before .before .before .before .before .before .before .before in
+    let l = c .before .before .loop in
+    omega (arith, b .good, l .inv .0)
 
 shared-slice-read-events : tie.Need-shared-slice-read-events Inv-loop μ-loop
 shared-slice-read-events c = omega arith
 
 call-both-requires : tie.Need-call-both-requires Inv-loop μ-loop
-call-both-requires c κs = let b = c .before .before .before .before .before .before .before .before .before .before .before .before in (b .pre .0, b .pre .1)
+call-both-requires c κs =
+    let b = c .before .before .before .before .before .before .before .before .before .before .before .before in
+    (b .pre .0, b .pre .1)
 
 returns-2 : tie.Need-returns-2 Inv-loop μ-loop
-returns-2 c = let x = c .before .before in let b = c .before .before .before .before .before .before .before .before .before .before .before .before .before .before .before in let a = b .args in let l = c .before .before .before .before .before .before .loop in let s = now (a .s) in let t = now (a .t) in let back = b .pre .2 in let f = callFor (x .before .before .is-turn .result) (getD (now (a .masks)) (l .k) 0) in let r = charts-run.runOf (l .run) in let q = automata-run.runOf (l .twin) in clash {b = x .call-both .result .alike} (of-true (ap (λ z. z .alike) (x .call-both .ensures) ∙ next-alike s t (a .table) (b .pre .1) (charts-are s t (a .table) (b .pre .1) back) r q (l .inv .1) f)) (not-true _ (c .if2 .taken))
+returns-2 c =
+    let x = c .before .before in
+    let b = c .before .before .before .before .before .before .before .before .before .before .before .before .before .before .before in
+    let a = b .args in
+    let l = c .before .before .before .before .before .before .loop in
+    let s = now (a .s) in
+    let t = now (a .t) in
+    let back = b .pre .2 in
+    let f = callFor (x .before .before .is-turn .result) (getD (now (a .masks)) (l .k) 0) in
+    let r = charts-run.runOf (l .run) in
+    let q = automata-run.runOf (l .twin) in
+    clash {b = x .call-both .result .alike} (of-true (ap (λ z. z .alike) (x .call-both .ensures) ∙ next-alike s t (a .table) (b .pre .1) (charts-are s t (a .table) (b .pre .1) back) r q (l .inv .1) f)) (not-true _ (c .if2 .taken))
 
 add-k : tie.Need-add-k Inv-loop μ-loop
-add-k c = let b = c .before .before .before .before .before .before .before .before .before .before .before .before .before .before .before .before .before in omega (arith, b .good)
+add-k c =
+    let b = c .before .before .before .before .before .before .before .before .before .before .before .before .before .before .before .before .before in
+    omega (arith, b .good)
 
 loop-less : tie.Need-loop-less Inv-loop μ-loop
 loop-less c = omega arith
 
 loop-again : tie.Need-loop-again Inv-loop μ-loop
-loop-again c = let x = c .before .before .before .before in let b = c .before .before .before .before .before .before .before .before .before .before .before .before .before .before .before .before .before in let a = b .args in let l = c .before .before .before .before .before .before .before .before .loop in let s = now (a .s) in let t = now (a .t) in let back = b .pre .2 in let f = callFor (x .before .before .is-turn .result) (getD (now (a .masks)) (l .k) 0) in let r = charts-run.runOf (l .run) in let q = automata-run.runOf (l .twin) in (omega arith, λ calls. moved-to s t calls (sym (ap (λ z. z .run) (x .call-both .ensures))) (sym (ap (λ z. z .twin) (x .call-both .ensures))) (then-alike s t (a .table) (b .pre .1) r q (l .inv .1) f calls))
+loop-again c =
+    let x = c .before .before .before .before in
+    let b = c .before .before .before .before .before .before .before .before .before .before .before .before .before .before .before .before .before in
+    let a = b .args in
+    let l = c .before .before .before .before .before .before .before .before .loop in
+    let s = now (a .s) in
+    let t = now (a .t) in
+    let back = b .pre .2 in
+    let f = callFor (x .before .before .is-turn .result) (getD (now (a .masks)) (l .k) 0) in
+    let r = charts-run.runOf (l .run) in
+    let q = automata-run.runOf (l .twin) in
+    (omega arith, λ calls. moved-to s t calls (sym (ap (λ z. z .run) (x .call-both .ensures))) (sym (ap (λ z. z .twin) (x .call-both .ensures))) (then-alike s t (a .table) (b .pre .1) r q (l .inv .1) f calls))
 
 returns-3 : tie.Need-returns-3 Inv-loop μ-loop
-returns-3 c = let l = c .before .loop in let e : l .k ≡ length (now (c .before .before .before .before .before .before .before .before .before .before .args .masks)) = omega arith in ap Alike e
+returns-3 c =
+    let l = c .before .loop in
+    let e : l .k ≡ length (now (c .before .before .before .before .before .before .before .before .before .before .args .masks)) = omega arith in
+    ap Alike e
 
 pub calls-compared-spec : {M : Type 1} → statement M
 calls-compared-spec =

@@ -21,11 +21,19 @@ enum-known-w c = search needs
 enum-known-table : tie.Need-enum-known-table
 enum-known-table c = search needs
 
-calls-compared-requires : tie.Need-calls-compared-requires
-calls-compared-requires c κs = let b = c .before .before .before .before .before .before .before .before in let s = now (b .args .s) in let t = now (b .args .t) in (b .pre .0, accepted-of t _ (c .before .before .before .check .ensures) (c .before .table .given .0 .0) (c .before .table .given .1), twin-reads s t (bytes (c .before .before .before .before .before .before .before)) (b .pre .0 .unrefused) (b .pre .1))
+table-compared-requires : tie.Need-table-compared-requires
+table-compared-requires c κs =
+    let b = c .before .before .before .before .before .before .before .before in
+    let s = now (b .args .s) in
+    let t = now (b .args .t) in
+    (b .pre .0, accepted-of t _ (c .before .before .before .check .ensures) (c .before .table .given .0 .0) (c .before .table .given .1), twin-reads s t (bytes (c .before .before .before .before .before .before .before)) (b .pre .0 .unrefused) (b .pre .1))
 
 returns : tie.Need-returns
-returns c = let b = c .before .before .before .before .before .before .before .before in let s = now (b .args .s) in let t = now (b .args .t) in not-both (twin-unrefused s t (bytes (c .before .before .before .before .before .before .before)) (b .pre .0 .unrefused) (b .pre .1)) (refused-of t _ (c .before .before .before .check .ensures) (c .before .w .given .0 .0) (c .before .w .given .1))
+returns c =
+    let b = c .before .before .before .before .before .before .before .before in
+    let s = now (b .args .s) in
+    let t = now (b .args .t) in
+    not-both (twin-unrefused s t (bytes (c .before .before .before .before .before .before .before)) (b .pre .0 .unrefused) (b .pre .1)) (refused-of t _ (c .before .before .before .check .ensures) (c .before .w .given .0 .0) (c .before .w .given .1))
 
 returns-2 : tie.Need-returns-2
 returns-2 c = search needs
@@ -37,6 +45,6 @@ twin-compared-spec =
     check-requires
     enum-known-w
     enum-known-table
-    calls-compared-requires
+    table-compared-requires
     returns
     returns-2)

@@ -2,7 +2,7 @@
 use Rattle.twins.specs.Alike.{failsAs}
 use Rattle.machines.specs.Answers.{answerOf}
 use lib.Dec.{eqb}
-use mathlib.Core.Path.{_≡_, refl, sym, ap, _∙_}
+use mathlib.Core.Path.{sym, ap, _∙_}
 use borrow.Author.Needs.{needs}
 use Rattle.twins.proofs.answers.answer_fails.Statement.{statement}
 use Rattle.twins.proofs.answers.answer_fails.Tie as tie
@@ -38,10 +38,14 @@ returns-3 : tie.Need-returns-3
 returns-3 c = search needs
 
 returns-4 : tie.Need-returns-4
-returns-4 c = let n = c .before .before .before .before .args .n in ap (eqb n) (c .reason-number .ensures) ∙ ap (λ x. failsAs n (answerOf x)) (sym (c .before .before .answer .given .1))
+returns-4 c =
+    let n = c .before .before .before .before .args .n in
+    ap (eqb n) (c .reason-number .ensures) ∙ ap (λ x. failsAs n (answerOf x)) (sym (c .before .before .answer .given .1))
 
 returns-5 : tie.Need-returns-5
-returns-5 c = let n = c .before .before .before .before .args .n in ap (eqb n) (c .refusal-number .ensures) ∙ ap (λ x. failsAs n (answerOf x)) (sym (c .before .before .answer2 .given .1))
+returns-5 c =
+    let n = c .before .before .before .before .args .n in
+    ap (eqb n) (c .refusal-number .ensures) ∙ ap (λ x. failsAs n (answerOf x)) (sym (c .before .before .answer2 .given .1))
 
 pub answer-fails-spec : {M : Type 1} → statement M
 answer-fails-spec =

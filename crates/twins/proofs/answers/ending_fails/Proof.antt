@@ -2,7 +2,7 @@
 use Rattle.twins.specs.Alike.{failsAs}
 use Rattle.machines.specs.Answers.{endingOf}
 use lib.Dec.{eqb}
-use mathlib.Core.Path.{_≡_, refl, sym, ap, _∙_}
+use mathlib.Core.Path.{sym, ap, _∙_}
 use borrow.Author.Needs.{needs}
 use Rattle.twins.proofs.answers.ending_fails.Statement.{statement}
 use Rattle.twins.proofs.answers.ending_fails.Tie as tie
@@ -26,10 +26,14 @@ returns : tie.Need-returns
 returns c = search needs
 
 returns-2 : tie.Need-returns-2
-returns-2 c = let n = c .before .before .before .before .args .n in ap (eqb n) (c .reason-number .ensures) ∙ ap (λ x. failsAs n (endingOf x)) (sym (c .before .before .ending .given .1))
+returns-2 c =
+    let n = c .before .before .before .before .args .n in
+    ap (eqb n) (c .reason-number .ensures) ∙ ap (λ x. failsAs n (endingOf x)) (sym (c .before .before .ending .given .1))
 
 returns-3 : tie.Need-returns-3
-returns-3 c = let n = c .before .before .before .before .args .n in ap (eqb n) (c .refusal-number .ensures) ∙ ap (λ x. failsAs n (endingOf x)) (sym (c .before .before .ending2 .given .1))
+returns-3 c =
+    let n = c .before .before .before .before .args .n in
+    ap (eqb n) (c .refusal-number .ensures) ∙ ap (λ x. failsAs n (endingOf x)) (sym (c .before .before .ending2 .given .1))
 
 pub ending-fails-spec : {M : Type 1} → statement M
 ending-fails-spec =

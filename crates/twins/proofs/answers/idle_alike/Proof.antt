@@ -1,10 +1,10 @@
 -- `answers::idle_alike` meets its contract. Assumes nothing.
 use Rattle.twins.specs.Alike.{answersAlike, outsAlike}
 use Rattle.machines.specs.Answers.{answerOf}
-use Rattle.model.specs.Runs.{taken, idle, time}
+use Rattle.model.specs.Runs.{idle}
 use Rattle.records.specs.Refusal.{val}
 use denote.Ref.{now}
-use mathlib.Core.Path.{_≡_, refl, sym, ap, _∙_}
+use mathlib.Core.Path.{sym, ap, _∙_}
 use borrow.Author.Needs.{needs}
 use Rattle.twins.proofs.answers.idle_alike.Statement.{statement}
 use Rattle.twins.proofs.answers.idle_alike.Tie as tie
@@ -28,19 +28,25 @@ enum-told-4 : tie.Need-enum-told-4
 enum-told-4 c = search needs
 
 returns : tie.Need-returns
-returns c = c .idle-at .ensures ∙ ap (λ o. outsAlike (answersAlike (now (c .before .before .before .before .before .args .t)) (c .before .before .before .before .before .args .shape) (c .before .before .before .before .before .args .state)) (val idle) (answerOf o)) (sym (c .before .before .other .given .1))
+returns c =
+    c .idle-at .ensures
+    ∙ ap (λ o. outsAlike (answersAlike (now (c .before .before .before .before .before .args .t)) (c .before .before .before .before .before .args .shape) (c .before .before .before .before .before .args .state)) (val idle) (answerOf o)) (sym (c .before .before .other .given .1))
 
 returns-2 : tie.Need-returns-2
-returns-2 c = ap (λ o. outsAlike (answersAlike (now (c .before .before .before .args .t)) (c .before .before .before .args .shape) (c .before .before .before .args .state)) (val idle) (answerOf o)) (sym (c .enum-told .given .1))
+returns-2 c =
+    ap (λ o. outsAlike (answersAlike (now (c .before .before .before .args .t)) (c .before .before .before .args .shape) (c .before .before .before .args .state)) (val idle) (answerOf o)) (sym (c .enum-told .given .1))
 
 returns-3 : tie.Need-returns-3
-returns-3 c = ap (λ o. outsAlike (answersAlike (now (c .before .before .before .args .t)) (c .before .before .before .args .shape) (c .before .before .before .args .state)) (val idle) (answerOf o)) (sym (c .enum-told2 .given .1))
+returns-3 c =
+    ap (λ o. outsAlike (answersAlike (now (c .before .before .before .args .t)) (c .before .before .before .args .shape) (c .before .before .before .args .state)) (val idle) (answerOf o)) (sym (c .enum-told2 .given .1))
 
 returns-4 : tie.Need-returns-4
-returns-4 c = ap (λ o. outsAlike (answersAlike (now (c .before .before .before .args .t)) (c .before .before .before .args .shape) (c .before .before .before .args .state)) (val idle) (answerOf o)) (sym (c .enum-told3 .given .1))
+returns-4 c =
+    ap (λ o. outsAlike (answersAlike (now (c .before .before .before .args .t)) (c .before .before .before .args .shape) (c .before .before .before .args .state)) (val idle) (answerOf o)) (sym (c .enum-told3 .given .1))
 
 returns-5 : tie.Need-returns-5
-returns-5 c = ap (λ o. outsAlike (answersAlike (now (c .before .before .before .args .t)) (c .before .before .before .args .shape) (c .before .before .before .args .state)) (val idle) (answerOf o)) (sym (c .enum-told4 .given .1))
+returns-5 c =
+    ap (λ o. outsAlike (answersAlike (now (c .before .before .before .args .t)) (c .before .before .before .args .shape) (c .before .before .before .args .state)) (val idle) (answerOf o)) (sym (c .enum-told4 .given .1))
 
 pub idle-alike-spec : {M : Type 1} → statement M
 idle-alike-spec =

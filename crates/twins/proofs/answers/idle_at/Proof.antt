@@ -1,6 +1,6 @@
 -- `answers::idle_at` meets its contract. Assumes nothing.
 use lib.Dec.{ltb, eqb}
-use mathlib.Core.Bool.{Bool, true, false, cond, _&&_}
+use mathlib.Core.Bool.{_&&_}
 use borrow.Author.Needs.{needs}
 use Rattle.twins.proofs.answers.idle_at.Statement.{statement}
 use Rattle.twins.proofs.answers.idle_at.Tie as tie
@@ -15,7 +15,9 @@ target-of-requires : tie.Need-target-of-requires
 target-of-requires c κs = search needs
 
 returns : tie.Need-returns
-returns c = let a = c .before .before .before .before .before .args in λ i. ltb (a .e) (a .shape .edges) && c .before .before .idles .ensures i && eqb (c .before .source-of .ensures i) (a .location) && eqb (c .target-of .ensures i) (a .location)
+returns c =
+    let a = c .before .before .before .before .before .args in
+    λ i. ltb (a .e) (a .shape .edges) && c .before .before .idles .ensures i && eqb (c .before .source-of .ensures i) (a .location) && eqb (c .target-of .ensures i) (a .location)
 
 pub idle-at-spec : {M : Type 1} → statement M
 idle-at-spec = tie.close (tie.spec idles-requires source-of-requires target-of-requires returns)

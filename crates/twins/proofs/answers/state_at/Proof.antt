@@ -3,7 +3,7 @@ use lib.ListN.{length, getD}
 use Prim.Native.Nat.{ℕ, zero, suc, _-_, _≤_}
 use mathlib.Core.List.{List, [], _∷_}
 use native.Mathlib.Omega.{arith}
-use mathlib.Core.Path.{_≡_, refl, sym, ap, _∙_}
+use mathlib.Core.Path.{_≡_, refl, sym, ap}
 use borrow.Author.Needs.{needs}
 use Rattle.twins.proofs.answers.state_at.Statement.{statement}
 use Rattle.twins.proofs.answers.state_at.Tie as tie

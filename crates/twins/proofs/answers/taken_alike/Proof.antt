@@ -1,10 +1,10 @@
 -- `answers::taken_alike` meets its contract. Assumes nothing.
 use Rattle.twins.specs.Alike.{answersAlike, outsAlike}
 use Rattle.machines.specs.Answers.{answerOf}
-use Rattle.model.specs.Runs.{taken, idle, time}
+use Rattle.model.specs.Runs.{taken}
 use Rattle.records.specs.Refusal.{val}
 use denote.Ref.{now}
-use mathlib.Core.Path.{_≡_, refl, sym, ap, _∙_}
+use mathlib.Core.Path.{sym, ap}
 use borrow.Author.Needs.{needs}
 use Rattle.twins.proofs.answers.taken_alike.Statement.{statement}
 use Rattle.twins.proofs.answers.taken_alike.Tie as tie
@@ -25,7 +25,8 @@ enum-told-4 : tie.Need-enum-told-4
 enum-told-4 c = search needs
 
 returns : tie.Need-returns
-returns c = ap (λ o. outsAlike (answersAlike (now (c .before .before .before .args .t)) (c .before .before .before .args .shape) (c .before .before .before .args .state)) (val (taken (c .before .before .before .args .x))) (answerOf o)) (sym (c .before .other .given .1))
+returns c =
+    ap (λ o. outsAlike (answersAlike (now (c .before .before .before .args .t)) (c .before .before .before .args .shape) (c .before .before .before .args .state)) (val (taken (c .before .before .before .args .x))) (answerOf o)) (sym (c .before .other .given .1))
 
 returns-2 : tie.Need-returns-2
 returns-2 c = search needs

@@ -3,7 +3,7 @@ use Rattle.twins.specs.Alike.{called, callFor}
 use Rattle.automata.specs.RunOf as automata-run
 use Rattle.charts.specs.RunOf as charts-run
 use denote.Ref.{now}
-use mathlib.Core.Path.{_≡_, refl, sym, ap, _∙_}
+use mathlib.Core.Path.{sym, ap, _∙_}
 use borrow.Author.Needs.{needs}
 use Rattle.twins.proofs.both.call_both.Statement.{statement}
 use Rattle.twins.proofs.both.call_both.Tie as tie
@@ -15,10 +15,16 @@ cycle-both-requires : tie.Need-cycle-both-requires
 cycle-both-requires c κs = search needs
 
 returns : tie.Need-returns
-returns c = let a = c .before .before .before .before .args in c .turn-both .ensures ∙ ap (λ b. called (now (a .s)) (now (a .t)) (a .table) (callFor b (a .events)) (charts-run.runOf (a .run)) (automata-run.runOf (a .twin))) (sym (c .before .if1 .taken))
+returns c =
+    let a = c .before .before .before .before .args in
+    c .turn-both .ensures
+    ∙ ap (λ b. called (now (a .s)) (now (a .t)) (a .table) (callFor b (a .events)) (charts-run.runOf (a .run)) (automata-run.runOf (a .twin))) (sym (c .before .if1 .taken))
 
 returns-2 : tie.Need-returns-2
-returns-2 c = let a = c .before .before .before .before .args in c .cycle-both .ensures ∙ ap (λ b. called (now (a .s)) (now (a .t)) (a .table) (callFor b (a .events)) (charts-run.runOf (a .run)) (automata-run.runOf (a .twin))) (sym (c .before .if1 .left))
+returns-2 c =
+    let a = c .before .before .before .before .args in
+    c .cycle-both .ensures
+    ∙ ap (λ b. called (now (a .s)) (now (a .t)) (a .table) (callFor b (a .events)) (charts-run.runOf (a .run)) (automata-run.runOf (a .twin))) (sym (c .before .if1 .left))
 
 pub call-both-spec : {M : Type 1} → statement M
 call-both-spec = tie.close (tie.spec turn-both-requires cycle-both-requires returns returns-2)

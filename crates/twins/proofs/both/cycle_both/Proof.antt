@@ -8,10 +8,10 @@ use Rattle.model.specs.Automata.{automata}
 use Rattle.model.specs.AutomataTable.{readAutomata}
 use Rattle.model.specs.Charts.{charts}
 use Rattle.model.specs.ChartSet.{readCharts}
-use Rattle.model.specs.Runs.{turn, cycle}
+use Rattle.model.specs.Runs.{cycle}
 use denote.Ref.{now}
 use mathlib.Core.Bool.{true, _&&_}
-use mathlib.Core.Path.{_≡_, refl, sym, ap, _∙_}
+use mathlib.Core.Path.{_∙_}
 use borrow.Author.Needs.{needs}
 use Rattle.twins.proofs.both.cycle_both.Statement.{statement}
 use Rattle.twins.proofs.both.cycle_both.Tie as tie
@@ -29,7 +29,12 @@ runs-alike-requires : tie.Need-runs-alike-requires
 runs-alike-requires c κs = search needs
 
 returns : tie.Need-returns
-returns c = let b = c .before .before .before .before .before .before .before .before in let a = b .args in let x = unrefused chartSets (now (a .s)) (b .pre .0 .unrefused) (charts-run.runOf (a .run)) (cycle (charts (readCharts (now (a .s)))) (a .events) (charts-run.runOf (a .run))) (c .before .before .before .before .before .cycle-by-turns .ensures) in let y = unrefused automataTables (now (a .t)) (b .pre .1 .unrefused) (automata-run.runOf (a .twin)) (cycle (automata (readAutomata (now (a .t)))) (a .events) (automata-run.runOf (a .twin))) (c .before .before .before .before .cycle-by-turns2 .ensures) in λ i. record { alike = (c .before .endings-alike .ensures ∙ (λ j. outsAlike (λ _ _. true) (x j .answer) (y j .answer))) i && (c .runs-alike .ensures ∙ (λ j. runsAlike (now (a .t)) (a .table) (x j .lent) (y j .lent))) i; run = x i .lent; twin = y i .lent }
+returns c =
+    let b = c .before .before .before .before .before .before .before .before in
+    let a = b .args in
+    let x = unrefused chartSets (now (a .s)) (b .pre .0 .unrefused) (charts-run.runOf (a .run)) (cycle (charts (readCharts (now (a .s)))) (a .events) (charts-run.runOf (a .run))) (c .before .before .before .before .before .cycle-by-turns .ensures) in
+    let y = unrefused automataTables (now (a .t)) (b .pre .1 .unrefused) (automata-run.runOf (a .twin)) (cycle (automata (readAutomata (now (a .t)))) (a .events) (automata-run.runOf (a .twin))) (c .before .before .before .before .cycle-by-turns2 .ensures) in
+    λ i. record { alike = (c .before .endings-alike .ensures ∙ (λ j. outsAlike (λ _ _. true) (x j .answer) (y j .answer))) i && (c .runs-alike .ensures ∙ (λ j. runsAlike (now (a .t)) (a .table) (x j .lent) (y j .lent))) i; run = x i .lent; twin = y i .lent }
 
 pub cycle-both-spec : {M : Type 1} → statement M
 cycle-both-spec =

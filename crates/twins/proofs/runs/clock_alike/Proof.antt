@@ -3,10 +3,10 @@ use Rattle.automata_files.proofs.Sound.{ticks-known}
 use Rattle.automata_files.proofs.Readings.{most-clocks}
 use lib.ListN.{getD}
 use Rattle.model.specs.Correspondence.{clockFor}
-use lib.Dec.{ltb, eqb}
+use lib.Dec.{eqb}
 use denote.Ref.{now}
 use native.Mathlib.Omega.{arith}
-use mathlib.Core.Path.{_≡_, refl, sym, ap, _∙_}
+use mathlib.Core.Path.{ap, _∙_}
 use borrow.Author.Needs.{needs}
 use Rattle.twins.proofs.runs.clock_alike.Statement.{statement}
 use Rattle.twins.proofs.runs.clock_alike.Tie as tie
@@ -27,10 +27,14 @@ ticks-of-requires : tie.Need-ticks-of-requires
 ticks-of-requires c κs = search needs
 
 clock-for-requires : tie.Need-clock-for-requires
-clock-for-requires c κs = let b = c .before .before .before in omega (arith, c .ticks-of .ensures, ticks-known (now (b .args .t)) (b .args .shape) (b .pre .0 .shape) (b .pre .0 .unrefused) (b .args .k) (b .pre .1) .0)
+clock-for-requires c κs =
+    let b = c .before .before .before in
+    omega (arith, c .ticks-of .ensures, ticks-known (now (b .args .t)) (b .args .shape) (b .pre .0 .shape) (b .pre .0 .unrefused) (b .args .k) (b .pre .1) .0)
 
 returns : tie.Need-returns
-returns c = let a = c .before .before .before .before .args in ap (eqb (getD (a .t3) (a .k) 0)) (c .clock-for .ensures ∙ (λ i. clockFor (c .before .before .is-after .ensures i) (c .before .ticks-of .ensures i) (a .age)))
+returns c =
+    let a = c .before .before .before .before .args in
+    ap (eqb (getD (a .t3) (a .k) 0)) (c .clock-for .ensures ∙ (λ i. clockFor (c .before .before .is-after .ensures i) (c .before .ticks-of .ensures i) (a .age)))
 
 pub clock-alike-spec : {M : Type 1} → statement M
 clock-alike-spec =

@@ -7,7 +7,7 @@ use borrow.Author.Tests.{eq-eqb, ne-eqb}
 use Rattle.model.specs.AutomataTable.{after, every}
 use native.Mathlib.Nat.{mod-lt}
 use native.Mathlib.Omega.{arith}
-use mathlib.Core.Path.{_≡_, refl, sym, ap, _∙_}
+use mathlib.Core.Path.{_≡_, sym, ap, _∙_}
 use borrow.Author.Needs.{needs}
 use Rattle.twins.proofs.runs.clock_for.Statement.{statement}
 use Rattle.twins.proofs.runs.clock_for.Tie as tie
@@ -28,13 +28,22 @@ add-top : tie.Need-add-top
 add-top c = search needs
 
 returns : tie.Need-returns
-returns c = let a = c .before .before .args in after-young (a .ticks) (a .age) (omega arith) ∙ ap (λ b. clockFor (timingIf b) (a .ticks) (a .age)) (sym (c .before .if1 .taken))
+returns c =
+    let a = c .before .before .args in
+    after-young (a .ticks) (a .age) (omega arith)
+    ∙ ap (λ b. clockFor (timingIf b) (a .ticks) (a .age)) (sym (c .before .if1 .taken))
 
 returns-2 : tie.Need-returns-2
-returns-2 c = let a = c .before .before .args in after-old (a .ticks) (a .age) (omega arith) ∙ ap (λ b. clockFor (timingIf b) (a .ticks) (a .age)) (sym (c .before .if1 .taken))
+returns-2 c =
+    let a = c .before .before .args in
+    after-old (a .ticks) (a .age) (omega arith)
+    ∙ ap (λ b. clockFor (timingIf b) (a .ticks) (a .age)) (sym (c .before .if1 .taken))
 
 returns-3 : tie.Need-returns-3
-returns-3 c = let a = c .before .before .args in every-new (a .ticks) (a .age) (c .if3 .taken) ∙ ap (λ b. clockFor (timingIf b) (a .ticks) (a .age)) (sym (c .before .if1 .left))
+returns-3 c =
+    let a = c .before .before .args in
+    every-new (a .ticks) (a .age) (c .if3 .taken)
+    ∙ ap (λ b. clockFor (timingIf b) (a .ticks) (a .age)) (sym (c .before .if1 .left))
 
 sub-result : tie.Need-sub-result
 sub-result c = search needs
@@ -43,10 +52,16 @@ rem-result : tie.Need-rem-result
 rem-result c = search needs
 
 add-result : tie.Need-add-result
-add-result c = let a = c .before .before .args in let l : (a .age - 1) % a .ticks < a .ticks = mod-lt (a .age - 1) (omega (arith, c .before .before .pre)) in search (needs, l)
+add-result c =
+    let a = c .before .before .args in
+    let l : (a .age - 1) % a .ticks < a .ticks = mod-lt (a .age - 1) (omega (arith, c .before .before .pre)) in
+    search (needs, l)
 
 returns-4 : tie.Need-returns-4
-returns-4 c = let a = c .before .before .args in every-old (a .ticks) (a .age) (c .if3 .left) ∙ ap (λ b. clockFor (timingIf b) (a .ticks) (a .age)) (sym (c .before .if1 .left))
+returns-4 c =
+    let a = c .before .before .args in
+    every-old (a .ticks) (a .age) (c .if3 .left)
+    ∙ ap (λ b. clockFor (timingIf b) (a .ticks) (a .age)) (sym (c .before .if1 .left))
 
 pub clock-for-spec : {M : Type 1} → statement M
 clock-for-spec =

@@ -7,7 +7,7 @@ use Rattle.automata_files.specs.Parts.{causeFor}
 use borrow.Author.Tests.{eq-eqb, ne-eqb}
 use mathlib.Core.Bool.{true, cond}
 use denote.Ref.{now}
-use mathlib.Core.Path.{_≡_, refl, sym, ap, _∙_}
+use mathlib.Core.Path.{sym, ap, _∙_}
 use borrow.Author.Needs.{needs}
 use Rattle.twins.proofs.runs.literal_alike.Statement.{statement}
 use Rattle.twins.proofs.runs.literal_alike.Tie as tie
@@ -25,13 +25,17 @@ mul-if1 : tie.Need-mul-if1
 mul-if1 c = search needs
 
 array-read-if1 : tie.Need-array-read-if1
-array-read-if1 c = let b = c .before .before .before in automaton-in (now (b .args .t)) (b .args .shape) (b .args .l) _ _ (c .before .literal-edge .ensures) (c .automaton-of .ensures) (b .pre .0) (b .pre .1)
+array-read-if1 c =
+    let b = c .before .before .before in
+    automaton-in (now (b .args .t)) (b .args .shape) (b .args .l) _ _ (c .before .literal-edge .ensures) (c .automaton-of .ensures) (b .pre .0) (b .pre .1)
 
 source-of-requires : tie.Need-source-of-requires
 source-of-requires c κs = search needs
 
 returns : tie.Need-returns
-returns c = let a = c .before .before .before .before .before .args in sym (literal-by (now (a .t)) (a .shape) (a .l) _ _ (c .before .before .before .literal-edge .ensures) (c .before .before .automaton-of .ensures) (a .t3) (a .t4) (a .clocks) _ (c .before .source-of .ensures) ∙ ap (λ b. cond b (causeAlike (now (a .t)) (a .shape) (a .clocks) (getD (a .t3) (c .before .before .automaton-of .result) 0) (literalAt (now (a .t)) (a .shape) (a .l) .1 .cause)) true) (ne-eqb _ _ (c .if1 .taken)))
+returns c =
+    let a = c .before .before .before .before .before .args in
+    sym (literal-by (now (a .t)) (a .shape) (a .l) _ _ (c .before .before .before .literal-edge .ensures) (c .before .before .automaton-of .ensures) (a .t3) (a .t4) (a .clocks) _ (c .before .source-of .ensures) ∙ ap (λ b. cond b (causeAlike (now (a .t)) (a .shape) (a .clocks) (getD (a .t3) (c .before .before .automaton-of .result) 0) (literalAt (now (a .t)) (a .shape) (a .l) .1 .cause)) true) (ne-eqb _ _ (c .if1 .taken)))
 
 cause-of-requires : tie.Need-cause-of-requires
 cause-of-requires c κs = search needs
@@ -49,19 +53,30 @@ mul-clock-alike : tie.Need-mul-clock-alike
 mul-clock-alike c = search needs
 
 array-read-clock-alike : tie.Need-array-read-clock-alike
-array-read-clock-alike c = let b = c .before .before .before .before .before .before .before .before .before in automaton-in (now (b .args .t)) (b .args .shape) (b .args .l) _ _ (c .before .before .before .before .before .before .before .literal-edge .ensures) (c .before .before .before .before .before .before .automaton-of .ensures) (b .pre .0) (b .pre .1)
+array-read-clock-alike c =
+    let b = c .before .before .before .before .before .before .before .before .before in
+    automaton-in (now (b .args .t)) (b .args .shape) (b .args .l) _ _ (c .before .before .before .before .before .before .before .literal-edge .ensures) (c .before .before .before .before .before .before .automaton-of .ensures) (b .pre .0) (b .pre .1)
 
 clock-alike-requires : tie.Need-clock-alike-requires
-clock-alike-requires c κs = let b = c .before .before .before .before .before .before .before .before .before in (b .pre .0, clock-in (now (b .args .t)) (b .args .shape) (b .pre .0) (b .args .l) (b .pre .1) (c .before .k .given .0 .0) (sym (ap causeFor (c .before .k .given .1)) ∙ c .before .before .before .cause-of .ensures))
+clock-alike-requires c κs =
+    let b = c .before .before .before .before .before .before .before .before .before in
+    (b .pre .0, clock-in (now (b .args .t)) (b .args .shape) (b .pre .0) (b .args .l) (b .pre .1) (c .before .k .given .0 .0) (sym (ap causeFor (c .before .k .given .1)) ∙ c .before .before .before .cause-of .ensures))
 
 returns-2 : tie.Need-returns-2
-returns-2 c = let a = c .before .before .before .before .before .before .before .before .args in sym (literal-by (now (a .t)) (a .shape) (a .l) _ _ (c .before .before .before .before .before .before .literal-edge .ensures) (c .before .before .before .before .before .automaton-of .ensures) (a .t3) (a .t4) (a .clocks) _ (c .before .before .before .before .source-of .ensures) ∙ (λ i. cond (eq-eqb _ _ (c .before .before .before .if1 .left) i) (causeAlike (now (a .t)) (a .shape) (a .clocks) (getD (a .t3) (c .before .before .before .before .before .automaton-of .result) 0) ((sym (c .before .before .cause-of .ensures) ∙ ap causeFor (c .enum-told .given .1)) i)) true))
+returns-2 c =
+    let a = c .before .before .before .before .before .before .before .before .args in
+    sym (literal-by (now (a .t)) (a .shape) (a .l) _ _ (c .before .before .before .before .before .before .literal-edge .ensures) (c .before .before .before .before .before .automaton-of .ensures) (a .t3) (a .t4) (a .clocks) _ (c .before .before .before .before .source-of .ensures) ∙ (λ i. cond (eq-eqb _ _ (c .before .before .before .if1 .left) i) (causeAlike (now (a .t)) (a .shape) (a .clocks) (getD (a .t3) (c .before .before .before .before .before .automaton-of .result) 0) ((sym (c .before .before .cause-of .ensures) ∙ ap causeFor (c .enum-told .given .1)) i)) true))
 
 returns-3 : tie.Need-returns-3
-returns-3 c = let a = c .before .before .before .before .before .before .before .before .args in sym (literal-by (now (a .t)) (a .shape) (a .l) _ _ (c .before .before .before .before .before .before .literal-edge .ensures) (c .before .before .before .before .before .automaton-of .ensures) (a .t3) (a .t4) (a .clocks) _ (c .before .before .before .before .source-of .ensures) ∙ (λ i. cond (eq-eqb _ _ (c .before .before .before .if1 .left) i) (causeAlike (now (a .t)) (a .shape) (a .clocks) (getD (a .t3) (c .before .before .before .before .before .automaton-of .result) 0) ((sym (c .before .before .cause-of .ensures) ∙ ap causeFor (c .enum-told2 .given .1)) i)) true))
+returns-3 c =
+    let a = c .before .before .before .before .before .before .before .before .args in
+    sym (literal-by (now (a .t)) (a .shape) (a .l) _ _ (c .before .before .before .before .before .before .literal-edge .ensures) (c .before .before .before .before .before .automaton-of .ensures) (a .t3) (a .t4) (a .clocks) _ (c .before .before .before .before .source-of .ensures) ∙ (λ i. cond (eq-eqb _ _ (c .before .before .before .if1 .left) i) (causeAlike (now (a .t)) (a .shape) (a .clocks) (getD (a .t3) (c .before .before .before .before .before .automaton-of .result) 0) ((sym (c .before .before .cause-of .ensures) ∙ ap causeFor (c .enum-told2 .given .1)) i)) true))
 
 returns-4 : tie.Need-returns-4
-returns-4 c = let a = c .before .before .before .before .before .before .before .before .before .before .args in c .clock-alike .ensures ∙ sym (literal-by (now (a .t)) (a .shape) (a .l) _ _ (c .before .before .before .before .before .before .before .before .literal-edge .ensures) (c .before .before .before .before .before .before .before .automaton-of .ensures) (a .t3) (a .t4) (a .clocks) _ (c .before .before .before .before .before .before .source-of .ensures) ∙ (λ i. cond (eq-eqb _ _ (c .before .before .before .before .before .if1 .left) i) (causeAlike (now (a .t)) (a .shape) (a .clocks) (getD (a .t3) (c .before .before .before .before .before .before .before .automaton-of .result) 0) ((sym (c .before .before .before .before .cause-of .ensures) ∙ ap causeFor (c .before .before .k .given .1)) i)) true))
+returns-4 c =
+    let a = c .before .before .before .before .before .before .before .before .before .before .args in
+    c .clock-alike .ensures
+    ∙ sym (literal-by (now (a .t)) (a .shape) (a .l) _ _ (c .before .before .before .before .before .before .before .before .literal-edge .ensures) (c .before .before .before .before .before .before .before .automaton-of .ensures) (a .t3) (a .t4) (a .clocks) _ (c .before .before .before .before .before .before .source-of .ensures) ∙ (λ i. cond (eq-eqb _ _ (c .before .before .before .before .before .if1 .left) i) (causeAlike (now (a .t)) (a .shape) (a .clocks) (getD (a .t3) (c .before .before .before .before .before .before .before .automaton-of .result) 0) ((sym (c .before .before .before .before .cause-of .ensures) ∙ ap causeFor (c .before .before .k .given .1)) i)) true))
 
 pub literal-alike-spec : {M : Type 1} → statement M
 literal-alike-spec =

@@ -11,13 +11,17 @@ variables-alike-requires : tie.Need-variables-alike-requires
 variables-alike-requires c κs = search needs
 
 places-alike-requires : tie.Need-places-alike-requires
-places-alike-requires c κs = let b = c .before .before .before .before .before .before .before .before .before .before .before .before .before .before in most-automata (now (b .args .t)) (b .args .shape) (b .pre .shape)
+places-alike-requires c κs =
+    let b = c .before .before .before .before .before .before .before .before .before .before .before .before .before .before in
+    most-automata (now (b .args .t)) (b .args .shape) (b .pre .shape)
 
 timers-alike-requires : tie.Need-timers-alike-requires
 timers-alike-requires c κs = search needs
 
 returns : tie.Need-returns
-returns c = let a = c .before .before .before .before .before .before .before .before .before .before .before .before .before .before .before .before .args in λ i. c .before .before .before .before .before .before .before .before .variables-alike .ensures i && eqb (a .run .events) (a .twin .events) && eqb (a .run .position) (a .twin .position) && eqb (a .run .cycles) (a .twin .cycles) && c .before .places-alike .ensures i && c .timers-alike .ensures i
+returns c =
+    let a = c .before .before .before .before .before .before .before .before .before .before .before .before .before .before .before .before .args in
+    λ i. c .before .before .before .before .before .before .before .before .variables-alike .ensures i && eqb (a .run .events) (a .twin .events) && eqb (a .run .position) (a .twin .position) && eqb (a .run .cycles) (a .twin .cycles) && c .before .places-alike .ensures i && c .timers-alike .ensures i
 
 pub runs-alike-spec : {M : Type 1} → statement M
 runs-alike-spec =

@@ -17,25 +17,38 @@ abbrev μ-loop : tie.MeasureT-loop
 μ-loop t shape ages locations clocks l₀ l = shape .literals - l
 
 loop-holds : tie.Need-loop-holds Inv-loop μ-loop
-loop-holds c = let a = c .before .args in passed-none (literalAlike (now (a .t)) (a .shape) (a .ages) (a .locations) (a .clocks)) (a .shape .literals)
+loop-holds c =
+    let a = c .before .args in
+    passed-none (literalAlike (now (a .t)) (a .shape) (a .ages) (a .locations) (a .clocks)) (a .shape .literals)
 
 literal-alike-requires : tie.Need-literal-alike-requires Inv-loop μ-loop
 literal-alike-requires c κs = (c .before .before .before .before .pre, omega arith)
 
 returns : tie.Need-returns Inv-loop μ-loop
-returns c = let a = c .before .before .before .before .before .before .args in let l = c .before .before .before .before .loop in sym (passed-not (literalAlike (now (a .t)) (a .shape) (a .ages) (a .locations) (a .clocks)) (a .shape .literals) (l .l) (l .inv) (omega arith) (sym (c .before .literal-alike .ensures) ∙ not-true _ (c .if2 .taken)))
+returns c =
+    let a = c .before .before .before .before .before .before .args in
+    let l = c .before .before .before .before .loop in
+    sym (passed-not (literalAlike (now (a .t)) (a .shape) (a .ages) (a .locations) (a .clocks)) (a .shape .literals) (l .l) (l .inv) (omega arith) (sym (c .before .literal-alike .ensures) ∙ not-true _ (c .if2 .taken)))
 
 add-l : tie.Need-add-l Inv-loop μ-loop
-add-l c = let b = c .before .before .before .before .before .before in omega (arith, most-literals (now (b .args .t)) (b .args .shape) (b .pre .shape))
+add-l c =
+    let b = c .before .before .before .before .before .before in
+    omega (arith, most-literals (now (b .args .t)) (b .args .shape) (b .pre .shape))
 
 loop-less : tie.Need-loop-less Inv-loop μ-loop
 loop-less c = omega arith
 
 loop-again : tie.Need-loop-again Inv-loop μ-loop
-loop-again c = let a = c .before .before .before .before .before .before .args in let l = c .before .before .before .before .loop in passed-more (literalAlike (now (a .t)) (a .shape) (a .ages) (a .locations) (a .clocks)) (a .shape .literals) (l .l) (l .inv) (omega arith) (sym (c .before .literal-alike .ensures) ∙ not-false _ (c .if2 .left))
+loop-again c =
+    let a = c .before .before .before .before .before .before .args in
+    let l = c .before .before .before .before .loop in
+    passed-more (literalAlike (now (a .t)) (a .shape) (a .ages) (a .locations) (a .clocks)) (a .shape .literals) (l .l) (l .inv) (omega arith) (sym (c .before .literal-alike .ensures) ∙ not-false _ (c .if2 .left))
 
 returns-2 : tie.Need-returns-2 Inv-loop μ-loop
-returns-2 c = let a = c .before .before .before .before .args in let l = c .before .before .loop in sym (passed-all (literalAlike (now (a .t)) (a .shape) (a .ages) (a .locations) (a .clocks)) (a .shape .literals) (l .l) (l .inv) (omega arith))
+returns-2 c =
+    let a = c .before .before .before .before .args in
+    let l = c .before .before .loop in
+    sym (passed-all (literalAlike (now (a .t)) (a .shape) (a .ages) (a .locations) (a .clocks)) (a .shape .literals) (l .l) (l .inv) (omega arith))
 
 pub timers-alike-spec : {M : Type 1} → statement M
 timers-alike-spec =

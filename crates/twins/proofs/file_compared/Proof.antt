@@ -1,0 +1,53 @@
+-- `file_compared` meets its contract. Assumes nothing.
+use Rattle.twins.specs.Compared.{verdict}
+use Rattle.charts.proofs.Checking.{accepted-of, refused-of}
+use Rattle.model.specs.Translation.{twinBytes, written, translate}
+use Rattle.model.specs.Outcome.{settled}
+use Rattle.records.specs.RefusalOf.{refusalOf}
+use Rattle.records.specs.Refusal.{fault, unless-refused}
+use lib.ListN.{length}
+use denote.Ref.{now}
+use mathlib.Core.Path.{_≡_, sym, ap}
+use borrow.Author.Needs.{needs}
+use Rattle.twins.proofs.file_compared.Statement.{statement}
+use Rattle.twins.proofs.file_compared.Tie as tie
+
+check-requires : tie.Need-check-requires
+check-requires c κs = search needs
+
+enum-known-w : tie.Need-enum-known-w
+enum-known-w c = search needs
+
+enum-known-shape : tie.Need-enum-known-shape
+enum-known-shape c = search needs
+
+set-compared-requires : tie.Need-set-compared-requires
+set-compared-requires c κs =
+    let b = c .before .before .before .before .before .before .before .before .before in
+    accepted-of (now (b .args .s)) _ (c .before .before .before .before .check .ensures) (c .before .before .shape .given .0 .0) (c .before .before .shape .given .1)
+
+returns : tie.Need-returns
+returns c =
+    let b = c .before .before .before .before .before .before .before .before in
+    let s = now (b .args .s) in
+    let buffer = now (b .args .twin) in
+    let e : translate s buffer ≡ settled buffer (fault (refusalOf (c .before .w .given .0 .0))) = ap (λ o. settled buffer (unless-refused o (written (twinBytes s) buffer))) (refused-of s _ (c .before .before .before .check .ensures) (c .before .w .given .0 .0) (c .before .w .given .1)) in
+    (sym (ap (λ z. verdict (z .answer) (length (now (b .args .masks)))) e), sym (ap (λ z. z .lent) e))
+
+same-length : tie.Need-same-length
+same-length c = search needs
+
+returns-2 : tie.Need-returns-2
+returns-2 c = search needs
+
+pub file-compared-spec : {M : Type 1} → statement M
+file-compared-spec =
+    tie.close
+    (tie.spec
+    check-requires
+    enum-known-w
+    enum-known-shape
+    set-compared-requires
+    returns
+    same-length
+    returns-2)

@@ -1,0 +1,78 @@
+-- `plays_compared` meets its contract. Assumes nothing.
+use Rattle.twins.proofs.PlaysAlike.{plays-alike}
+use Rattle.twins.proofs.CompareLaws.{charts-are, fresh-alike}
+use Rattle.twins.proofs.Matched.{outs, corresponding-alike, now-corresponds}
+use Rattle.twins.specs.Alike.{outsAlike, runsAlike}
+use Rattle.model.proofs.BoolLaws.{clash, of-true}
+use Rattle.model.specs.Outcome.{settled}
+use Rattle.model.specs.ChartSet.{readCharts}
+use Rattle.model.specs.Charts.{charts}
+use Rattle.model.specs.AutomataTable.{readAutomata}
+use Rattle.model.specs.Automata.{automata}
+use Rattle.machines.specs.Playing.{playing}
+use Rattle.charts.specs.RunOf as charts-run
+use Rattle.automata.specs.RunOf as automata-run
+use lib.Dec.{eqb}
+use denote.Ref.{now}
+use borrow.Author.Tests.{eq-eqb}
+use mathlib.Core.Bool.{true, _&&_}
+use mathlib.Core.Path.{_≡_, _∙_}
+use borrow.Author.Needs.{needs}
+use Rattle.twins.proofs.plays_compared.Statement.{statement}
+use Rattle.twins.proofs.plays_compared.Tie as tie
+
+start-requires : tie.Need-start-requires
+start-requires c κs = search needs
+
+start-requires-2 : tie.Need-start-requires-2
+start-requires-2 c κs = search needs
+
+play-in-place-requires : tie.Need-play-in-place-requires
+play-in-place-requires c κs = search needs
+
+play-in-place-requires-2 : tie.Need-play-in-place-requires-2
+play-in-place-requires-2 c κs = search needs
+
+counts-alike-requires : tie.Need-counts-alike-requires
+counts-alike-requires c κs = search needs
+
+runs-alike-requires : tie.Need-runs-alike-requires
+runs-alike-requires c κs = search needs
+
+returns : tie.Need-returns
+returns c = search needs
+
+returns-2 : tie.Need-returns-2
+returns-2 c =
+    let b = c .before .before .before .before .before .before .before .before .before .before .before .before in
+    let a = b .args in
+    let s = now (a .s) in
+    let t = now (a .t) in
+    let table = a .table in
+    let r = charts-run.runOf (c .before .before .before .before .before .before .before .before .start .result) in
+    let q = automata-run.runOf (c .before .before .before .before .before .before .before .start2 .result) in
+    let counts = c .before .before .counts-alike in
+    let runs = c .before .runs-alike in
+    let x = c .before .before .before .before .before .before .play-in-place .ensures in
+    let y = c .before .before .before .before .before .play-in-place2 .ensures in
+    let fresh = fresh-alike s t (b .pre .0 .unrefused) (b .pre .1 .unrefused) (b .pre .2) (c .before .before .before .before .before .before .before .before .start .ensures) (c .before .before .before .before .before .before .before .start2 .ensures) in
+    let p = plays-alike s t (b .pre .0 .unrefused) (b .pre .1 .unrefused) (now (a .masks)) r q fresh in
+    let same : counts .result ≡ true = counts .ensures ∙ (λ i. outsAlike eqb (x i .answer) (y i .answer)) ∙ outs (λ n k. n ≡ k) eqb (λ n k e. eq-eqb n k e) (settled r (playing (charts (readCharts s)) (now (a .masks)) r) .answer) (settled q (playing (automata (readAutomata t)) (now (a .masks)) q) .answer) (p .0) in
+    let alike : runs .result ≡ true =
+    runs .ensures
+    ∙ (λ i. runsAlike t table (x i .lent) (y i .lent))
+    ∙ corresponding-alike s t table (b .pre .1) (charts-are s t table (b .pre .1) (b .pre .2)) _ _ (now-corresponds s t table (b .pre .1) _ _ (p .1)) in
+    clash {b = counts .result && runs .result} (of-true (λ i. same i && alike i)) (c .if1 .left)
+
+pub plays-compared-spec : {M : Type 1} → statement M
+plays-compared-spec =
+    tie.close
+    (tie.spec
+    start-requires
+    start-requires-2
+    play-in-place-requires
+    play-in-place-requires-2
+    counts-alike-requires
+    runs-alike-requires
+    returns
+    returns-2)
