@@ -4,6 +4,7 @@ use mathlib.Core.Bool.{true, cond}
 use mathlib.Core.List.{List}
 use Prim.Native.Nat.{ℕ, _<_}
 use native.Mathlib.Omega.{arith}
+use borrow.Author.Tests.{eq-eqb, ne-eqb}
 use lib.Dec.{eqb}
 use lib.ListN.{getD}
 use Rattle.automata_files.specs.declared.Shape.{Shape}
@@ -11,17 +12,28 @@ use Rattle.automata_files.specs.Places.{edgeAt, literalAt}
 use Rattle.automata_files.specs.Known.{CauseKnown}
 use Rattle.automata_files.proofs.Readings.{most-automata}
 use Rattle.automata_files.proofs.Sound.{automaton-known, literal-edge-known, literal-cause-known}
-use Rattle.model.specs.AutomataTable.{clock}
+use Rattle.model.specs.AutomataTable.{Cause, clock}
 use Rattle.automata.specs.Accepted.{Accepted}
 use Rattle.twins.specs.Alike.{causeAlike, literalAlike}
 
 module _ (t : List ℕ) (sh : Shape) (l e a : ℕ) (p : e ≡ literalAt t sh l .0) (q : a ≡ edgeAt t sh e .automaton) where
-  pub literal-by : (ages locations clocks : List ℕ) (source : ℕ) → source ≡ edgeAt t sh e .source →
+  literal-by : (ages locations clocks : List ℕ) (source : ℕ) → source ≡ edgeAt t sh e .source →
       literalAlike t sh ages locations clocks l ≡ cond (eqb (getD locations a 0) source) (causeAlike t sh clocks (getD ages a 0) (literalAt t sh l .1 .cause)) true
   literal-by ages locations clocks source r =
       let a′ : edgeAt t sh (literalAt t sh l .0) .automaton ≡ a = sym (q ∙ ap (λ z. edgeAt t sh z .automaton) p) in
       let s′ : edgeAt t sh (literalAt t sh l .0) .source ≡ source = sym (r ∙ ap (λ z. edgeAt t sh z .source) p) in
       λ i. cond (eqb (getD locations (a′ i) 0) (s′ i)) (causeAlike t sh clocks (getD ages (a′ i) 0) (literalAt t sh l .1 .cause)) true
+
+  -- where the literal's edge leaves another location
+  pub literal-away : (ages locations clocks : List ℕ) (source : ℕ) → source ≡ edgeAt t sh e .source → (getD locations a 0 ≡ source → ⊥) → true ≡ literalAlike t sh ages locations clocks l
+  literal-away ages locations clocks source r away =
+      sym (literal-by ages locations clocks source r ∙ ap (λ b. cond b (causeAlike t sh clocks (getD ages a 0) (literalAt t sh l .1 .cause)) true) (ne-eqb (getD locations a 0) source away))
+
+  -- where it leaves this one
+  pub literal-here : (ages locations clocks : List ℕ) (source : ℕ) → source ≡ edgeAt t sh e .source → getD locations a 0 ≡ source →
+      (c : Cause) → c ≡ literalAt t sh l .1 .cause → causeAlike t sh clocks (getD ages a 0) c ≡ literalAlike t sh ages locations clocks l
+  literal-here ages locations clocks source r here c d =
+      sym (literal-by ages locations clocks source r ∙ (λ i. cond (eq-eqb (getD locations a 0) source here i) (causeAlike t sh clocks (getD ages a 0) (sym d i)) true))
 
   pub automaton-in : Accepted t sh → l < sh .literals → a < 8
   automaton-in ok h =

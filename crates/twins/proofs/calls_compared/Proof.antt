@@ -13,6 +13,7 @@ use denote.Ref.{now}
 use borrow.Author.Tests.{not-true}
 use native.Mathlib.Omega.{arith}
 use Prim.Native.Nat.{_-_, _≤_}
+use mathlib.Core.Bool.{true}
 use mathlib.Core.List.{List}
 use mathlib.Core.Path.{_≡_, sym, ap, _∙_}
 use Rattle.twins.proofs.calls_compared.Statement.{statement}
@@ -38,7 +39,11 @@ returns c =
     let b = c .before .before .before .before .before .before .before .before in
     let s = now (b .args .s) in
     let t = now (b .args .t) in
-    clash {b = c .before .runs-alike .result} (of-true (c .before .runs-alike .ensures ∙ corresponding-alike s t (b .args .table) (b .pre .1) (charts-are s t (b .args .table) (b .pre .1) (b .pre .2)) _ _ (now-corresponds s t (b .args .table) (b .pre .1) _ _ (fresh-alike s t (b .pre .0 .unrefused) (b .pre .1 .unrefused) (b .pre .2) (c .before .before .before .start .ensures) (c .before .before .start2 .ensures))))) (not-true _ (c .if1 .taken))
+    let table = b .args .table in
+    let fresh = fresh-alike s t (b .pre .0 .unrefused) (b .pre .1 .unrefused) (b .pre .2) (c .before .before .before .start .ensures) (c .before .before .start2 .ensures) in
+    let alike : c .before .runs-alike .result ≡ true =
+    c .before .runs-alike .ensures ∙ corresponding-alike s t table (b .pre .1) (charts-are s t table (b .pre .1) (b .pre .2)) _ _ (now-corresponds s t table (b .pre .1) _ _ fresh) in
+    clash {b = c .before .runs-alike .result} (of-true alike) (not-true _ (c .if1 .taken))
 
 loop-holds : tie.Need-loop-holds Inv-loop μ-loop
 loop-holds c =

@@ -1,4 +1,6 @@
 -- `answers::answers_alike` meets its contract. Assumes nothing.
+use mathlib.Core.Bool.{Bool}
+use Rattle.machines.specs.declared.answers.Answer.{Answer}
 use Rattle.twins.specs.Alike.{answersAlike, failsAs, outsAlike}
 use Rattle.machines.specs.Answers.{answerOf}
 use denote.Ref.{now}
@@ -6,6 +8,10 @@ use mathlib.Core.Path.{sym, ap, _∙_}
 use borrow.Author.Needs.{needs}
 use Rattle.twins.proofs.answers.answers_alike.Statement.{statement}
 use Rattle.twins.proofs.answers.answers_alike.Tie as tie
+
+-- what is promised, by the first answer
+abbrev tested : tie.Start → Answer → Bool
+tested c o = let a = c .args in outsAlike (answersAlike (now (a .t)) (a .shape) (a .state)) (answerOf o) (answerOf (a .other))
 
 enum-known-answer : tie.Need-enum-known-answer
 enum-known-answer c = search needs
@@ -46,29 +52,23 @@ answer-fails-requires-2 c κs = search needs
 returns : tie.Need-returns
 returns c =
     c .taken-alike .ensures
-    ∙ ap (λ o. outsAlike (answersAlike (now (c .before .before .before .before .before .args .t)) (c .before .before .before .before .before .args .shape) (c .before .before .before .before .before .args .state)) (answerOf o) (answerOf (c .before .before .before .before .before .args .other))) (sym (c .before .before .answer .given .1))
+    ∙ ap (tested (c .before .before .before .before .before)) (sym (c .before .before .answer .given .1))
 
 returns-2 : tie.Need-returns-2
-returns-2 c =
-    c .idle-alike .ensures
-    ∙ ap (λ o. outsAlike (answersAlike (now (c .before .before .before .before .args .t)) (c .before .before .before .before .args .shape) (c .before .before .before .before .args .state)) (answerOf o) (answerOf (c .before .before .before .before .args .other))) (sym (c .before .enum-told .given .1))
+returns-2 c = c .idle-alike .ensures ∙ ap (tested (c .before .before .before .before)) (sym (c .before .enum-told .given .1))
 
 returns-3 : tie.Need-returns-3
-returns-3 c =
-    c .time-alike .ensures
-    ∙ ap (λ o. outsAlike (answersAlike (now (c .before .before .before .before .args .t)) (c .before .before .before .before .args .shape) (c .before .before .before .before .args .state)) (answerOf o) (answerOf (c .before .before .before .before .args .other))) (sym (c .before .enum-told2 .given .1))
+returns-3 c = c .time-alike .ensures ∙ ap (tested (c .before .before .before .before)) (sym (c .before .enum-told2 .given .1))
 
 returns-4 : tie.Need-returns-4
 returns-4 c =
-    c .answer-fails .ensures
-    ∙ ap (λ n. failsAs n (answerOf (c .before .before .before .before .before .before .args .other))) (c .before .reason-number .ensures)
-    ∙ ap (λ o. outsAlike (answersAlike (now (c .before .before .before .before .before .before .args .t)) (c .before .before .before .before .before .before .args .shape) (c .before .before .before .before .before .before .args .state)) (answerOf o) (answerOf (c .before .before .before .before .before .before .args .other))) (sym (c .before .before .before .answer2 .given .1))
+    let b = c .before .before .before .before .before .before in
+    c .answer-fails .ensures ∙ ap (λ n. failsAs n (answerOf (b .args .other))) (c .before .reason-number .ensures) ∙ ap (tested b) (sym (c .before .before .before .answer2 .given .1))
 
 returns-5 : tie.Need-returns-5
 returns-5 c =
-    c .answer-fails2 .ensures
-    ∙ ap (λ n. failsAs n (answerOf (c .before .before .before .before .before .before .args .other))) (c .before .refusal-number .ensures)
-    ∙ ap (λ o. outsAlike (answersAlike (now (c .before .before .before .before .before .before .args .t)) (c .before .before .before .before .before .before .args .shape) (c .before .before .before .before .before .before .args .state)) (answerOf o) (answerOf (c .before .before .before .before .before .before .args .other))) (sym (c .before .before .before .answer3 .given .1))
+    let b = c .before .before .before .before .before .before in
+    c .answer-fails2 .ensures ∙ ap (λ n. failsAs n (answerOf (b .args .other))) (c .before .refusal-number .ensures) ∙ ap (tested b) (sym (c .before .before .before .answer3 .given .1))
 
 pub answers-alike-spec : {M : Type 1} → statement M
 answers-alike-spec =

@@ -1,11 +1,7 @@
 -- `runs::literal_alike` meets its contract. Assumes nothing.
-use Rattle.automata_files.specs.Places.{literalAt}
-use lib.ListN.{getD}
-use Rattle.twins.proofs.AlikeLaws.{literal-by, automaton-in, clock-in}
-use Rattle.twins.specs.Alike.{causeAlike}
+use Rattle.model.specs.AutomataTable.{always, event, clock}
+use Rattle.twins.proofs.AlikeLaws.{literal-away, literal-here, automaton-in, clock-in}
 use Rattle.automata_files.specs.Parts.{causeFor}
-use borrow.Author.Tests.{eq-eqb, ne-eqb}
-use mathlib.Core.Bool.{true, cond}
 use denote.Ref.{now}
 use mathlib.Core.Path.{sym, ap, _∙_}
 use borrow.Author.Needs.{needs}
@@ -35,7 +31,7 @@ source-of-requires c κs = search needs
 returns : tie.Need-returns
 returns c =
     let a = c .before .before .before .before .before .args in
-    sym (literal-by (now (a .t)) (a .shape) (a .l) _ _ (c .before .before .before .literal-edge .ensures) (c .before .before .automaton-of .ensures) (a .t3) (a .t4) (a .clocks) _ (c .before .source-of .ensures) ∙ ap (λ b. cond b (causeAlike (now (a .t)) (a .shape) (a .clocks) (getD (a .t3) (c .before .before .automaton-of .result) 0) (literalAt (now (a .t)) (a .shape) (a .l) .1 .cause)) true) (ne-eqb _ _ (c .if1 .taken)))
+    literal-away (now (a .t)) (a .shape) (a .l) _ _ (c .before .before .before .literal-edge .ensures) (c .before .before .automaton-of .ensures) (a .t3) (a .t4) (a .clocks) _ (c .before .source-of .ensures) (c .if1 .taken)
 
 cause-of-requires : tie.Need-cause-of-requires
 cause-of-requires c κs = search needs
@@ -65,18 +61,18 @@ clock-alike-requires c κs =
 returns-2 : tie.Need-returns-2
 returns-2 c =
     let a = c .before .before .before .before .before .before .before .before .args in
-    sym (literal-by (now (a .t)) (a .shape) (a .l) _ _ (c .before .before .before .before .before .before .literal-edge .ensures) (c .before .before .before .before .before .automaton-of .ensures) (a .t3) (a .t4) (a .clocks) _ (c .before .before .before .before .source-of .ensures) ∙ (λ i. cond (eq-eqb _ _ (c .before .before .before .if1 .left) i) (causeAlike (now (a .t)) (a .shape) (a .clocks) (getD (a .t3) (c .before .before .before .before .before .automaton-of .result) 0) ((sym (c .before .before .cause-of .ensures) ∙ ap causeFor (c .enum-told .given .1)) i)) true))
+    literal-here (now (a .t)) (a .shape) (a .l) _ _ (c .before .before .before .before .before .before .literal-edge .ensures) (c .before .before .before .before .before .automaton-of .ensures) (a .t3) (a .t4) (a .clocks) _ (c .before .before .before .before .source-of .ensures) (c .before .before .before .if1 .left) always (sym (ap causeFor (c .enum-told .given .1)) ∙ c .before .before .cause-of .ensures)
 
 returns-3 : tie.Need-returns-3
 returns-3 c =
     let a = c .before .before .before .before .before .before .before .before .args in
-    sym (literal-by (now (a .t)) (a .shape) (a .l) _ _ (c .before .before .before .before .before .before .literal-edge .ensures) (c .before .before .before .before .before .automaton-of .ensures) (a .t3) (a .t4) (a .clocks) _ (c .before .before .before .before .source-of .ensures) ∙ (λ i. cond (eq-eqb _ _ (c .before .before .before .if1 .left) i) (causeAlike (now (a .t)) (a .shape) (a .clocks) (getD (a .t3) (c .before .before .before .before .before .automaton-of .result) 0) ((sym (c .before .before .cause-of .ensures) ∙ ap causeFor (c .enum-told2 .given .1)) i)) true))
+    literal-here (now (a .t)) (a .shape) (a .l) _ _ (c .before .before .before .before .before .before .literal-edge .ensures) (c .before .before .before .before .before .automaton-of .ensures) (a .t3) (a .t4) (a .clocks) _ (c .before .before .before .before .source-of .ensures) (c .before .before .before .if1 .left) (event (c .enum-told2 .given .0 .0)) (sym (ap causeFor (c .enum-told2 .given .1)) ∙ c .before .before .cause-of .ensures)
 
 returns-4 : tie.Need-returns-4
 returns-4 c =
     let a = c .before .before .before .before .before .before .before .before .before .before .args in
     c .clock-alike .ensures
-    ∙ sym (literal-by (now (a .t)) (a .shape) (a .l) _ _ (c .before .before .before .before .before .before .before .before .literal-edge .ensures) (c .before .before .before .before .before .before .before .automaton-of .ensures) (a .t3) (a .t4) (a .clocks) _ (c .before .before .before .before .before .before .source-of .ensures) ∙ (λ i. cond (eq-eqb _ _ (c .before .before .before .before .before .if1 .left) i) (causeAlike (now (a .t)) (a .shape) (a .clocks) (getD (a .t3) (c .before .before .before .before .before .before .before .automaton-of .result) 0) ((sym (c .before .before .before .before .cause-of .ensures) ∙ ap causeFor (c .before .before .k .given .1)) i)) true))
+    ∙ literal-here (now (a .t)) (a .shape) (a .l) _ _ (c .before .before .before .before .before .before .before .before .literal-edge .ensures) (c .before .before .before .before .before .before .before .automaton-of .ensures) (a .t3) (a .t4) (a .clocks) _ (c .before .before .before .before .before .before .source-of .ensures) (c .before .before .before .before .before .if1 .left) (clock (c .before .before .k .given .0 .0)) (sym (ap causeFor (c .before .before .k .given .1)) ∙ c .before .before .before .before .cause-of .ensures)
 
 pub literal-alike-spec : {M : Type 1} → statement M
 literal-alike-spec =

@@ -21,7 +21,12 @@ timers-alike-requires c κs = search needs
 returns : tie.Need-returns
 returns c =
     let a = c .before .before .before .before .before .before .before .before .before .before .before .before .before .before .before .before .args in
-    λ i. c .before .before .before .before .before .before .before .before .variables-alike .ensures i && eqb (a .run .events) (a .twin .events) && eqb (a .run .position) (a .twin .position) && eqb (a .run .cycles) (a .twin .cycles) && c .before .places-alike .ensures i && c .timers-alike .ensures i
+    λ i. c .before .before .before .before .before .before .before .before .variables-alike .ensures i
+    && eqb (a .run .events) (a .twin .events)
+    && eqb (a .run .position) (a .twin .position)
+    && eqb (a .run .cycles) (a .twin .cycles)
+    && c .before .places-alike .ensures i
+    && c .timers-alike .ensures i
 
 pub runs-alike-spec : {M : Type 1} → statement M
 runs-alike-spec =
