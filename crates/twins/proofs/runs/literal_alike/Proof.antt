@@ -31,7 +31,10 @@ source-of-requires c κs = search needs
 returns : tie.Need-returns
 returns c =
     let a = c .before .before .before .before .before .args in
-    literal-away (now (a .t)) (a .shape) (a .l) _ _ (c .before .before .before .literal-edge .ensures) (c .before .before .automaton-of .ensures) (a .t3) (a .t4) (a .clocks) _ (c .before .source-of .ensures) (c .if1 .taken)
+    let p = c .before .before .before .literal-edge .ensures in
+    let q = c .before .before .automaton-of .ensures in
+    let r = c .before .source-of .ensures in
+    literal-away (now (a .t)) (a .shape) (a .l) _ _ p q (a .t3) (a .t4) (a .clocks) _ r (c .if1 .taken)
 
 cause-of-requires : tie.Need-cause-of-requires
 cause-of-requires c κs = search needs
@@ -61,18 +64,30 @@ clock-alike-requires c κs =
 returns-2 : tie.Need-returns-2
 returns-2 c =
     let a = c .before .before .before .before .before .before .before .before .args in
-    literal-here (now (a .t)) (a .shape) (a .l) _ _ (c .before .before .before .before .before .before .literal-edge .ensures) (c .before .before .before .before .before .automaton-of .ensures) (a .t3) (a .t4) (a .clocks) _ (c .before .before .before .before .source-of .ensures) (c .before .before .before .if1 .left) always (sym (ap causeFor (c .enum-told .given .1)) ∙ c .before .before .cause-of .ensures)
+    let p = c .before .before .before .before .before .before .literal-edge .ensures in
+    let q = c .before .before .before .before .before .automaton-of .ensures in
+    let r = c .before .before .before .before .source-of .ensures in
+    let said = sym (ap causeFor (c .enum-told .given .1)) ∙ c .before .before .cause-of .ensures in
+    literal-here (now (a .t)) (a .shape) (a .l) _ _ p q (a .t3) (a .t4) (a .clocks) _ r (c .before .before .before .if1 .left) always said
 
 returns-3 : tie.Need-returns-3
 returns-3 c =
     let a = c .before .before .before .before .before .before .before .before .args in
-    literal-here (now (a .t)) (a .shape) (a .l) _ _ (c .before .before .before .before .before .before .literal-edge .ensures) (c .before .before .before .before .before .automaton-of .ensures) (a .t3) (a .t4) (a .clocks) _ (c .before .before .before .before .source-of .ensures) (c .before .before .before .if1 .left) (event (c .enum-told2 .given .0 .0)) (sym (ap causeFor (c .enum-told2 .given .1)) ∙ c .before .before .cause-of .ensures)
+    let p = c .before .before .before .before .before .before .literal-edge .ensures in
+    let q = c .before .before .before .before .before .automaton-of .ensures in
+    let r = c .before .before .before .before .source-of .ensures in
+    let said = sym (ap causeFor (c .enum-told2 .given .1)) ∙ c .before .before .cause-of .ensures in
+    literal-here (now (a .t)) (a .shape) (a .l) _ _ p q (a .t3) (a .t4) (a .clocks) _ r (c .before .before .before .if1 .left) (event (c .enum-told2 .given .0 .0)) said
 
 returns-4 : tie.Need-returns-4
 returns-4 c =
     let a = c .before .before .before .before .before .before .before .before .before .before .args in
+    let p = c .before .before .before .before .before .before .before .before .literal-edge .ensures in
+    let q = c .before .before .before .before .before .before .before .automaton-of .ensures in
+    let r = c .before .before .before .before .before .before .source-of .ensures in
+    let said = sym (ap causeFor (c .before .before .k .given .1)) ∙ c .before .before .before .before .cause-of .ensures in
     c .clock-alike .ensures
-    ∙ literal-here (now (a .t)) (a .shape) (a .l) _ _ (c .before .before .before .before .before .before .before .before .literal-edge .ensures) (c .before .before .before .before .before .before .before .automaton-of .ensures) (a .t3) (a .t4) (a .clocks) _ (c .before .before .before .before .before .before .source-of .ensures) (c .before .before .before .before .before .if1 .left) (clock (c .before .before .k .given .0 .0)) (sym (ap causeFor (c .before .before .k .given .1)) ∙ c .before .before .before .before .cause-of .ensures)
+    ∙ literal-here (now (a .t)) (a .shape) (a .l) _ _ p q (a .t3) (a .t4) (a .clocks) _ r (c .before .before .before .before .before .if1 .left) (clock (c .before .before .k .given .0 .0)) said
 
 pub literal-alike-spec : {M : Type 1} → statement M
 literal-alike-spec =
