@@ -4,8 +4,8 @@ ghost use Prim.Native.Nat.{_+_, _*_, _<_, _^_};
 ghost use Rattle.records.specs.Bytes.{two};
 ghost use Rattle.chart_files.specs.Parts.{guardFor, deedFor};
 ghost use Rattle.automata_files.specs.Shape.{IsShape};
-ghost use Rattle.automata_files.specs.Places.{firstLocation, firstEdge, firstLiteral, firstClock, firstVariable, firstNode, firstUpdate, firstReset, causeBy, timingBy, homeAt, edgeAt, literalAt, clockAt, updateAt, resetAt, nodePart};
-ghost use Rattle.automata_files.specs.Parts.{causeFor, timingFor};
+ghost use Rattle.automata_files.specs.Places.{firstLocation, firstEdge, firstLiteral, firstClock, firstVariable, firstNode, firstUpdate, firstReset, causeBy, homeAt, edgeAt, literalAt, clockAt, updateAt, resetAt, nodePart};
+ghost use Rattle.automata_files.specs.Parts.{causeFor};
 use super::Shape;
 use chart_files::fields::Deed;
 use chart_files::fields::Guard;
@@ -20,11 +20,6 @@ pub enum Cause {
     Always,
     Event(u8),
     Clock(u16),
-}
-
-pub enum Timing {
-    After,
-    Every,
 }
 
 // The numbers of things' records: far below what a place in a file may be.
@@ -154,22 +149,6 @@ pub fn guard_of(s: &[u8], shape: Shape, l: u16) -> Guard
     ensures { λ r. ⌜ guardFor r ≡ literalAt (now (s .entry)) shape l .1 .guard ⌝ }
 {
     guard_by(u16_in(s, literal_record(shape, l), 8))
-}
-
-fn timing_by(code: u8) -> Timing
-    ensures { λ r. ⌜ timingFor r ≡ timingBy code ⌝ }
-{
-    if code == 2 {
-        Timing::After
-    } else {
-        Timing::Every
-    }
-}
-
-pub fn timing_of(s: &[u8], shape: Shape, k: u16) -> Timing
-    ensures { λ r. ⌜ timingFor r ≡ clockAt (now (s .entry)) shape k .timing ⌝ }
-{
-    timing_by(byte_in(s, clock_record(shape, k), 1))
 }
 
 pub fn ticks_of(s: &[u8], shape: Shape, k: u16) -> u16
