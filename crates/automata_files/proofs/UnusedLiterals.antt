@@ -8,21 +8,21 @@ use borrow.Author.Tests.{lt-ltb, le-leb, ne-eqb}
 use lib.Dec.{leb, ltb, eqb}
 use Rattle.records.specs.Lists.{caseOf}
 use Rattle.expressions.proofs.Loops.{and-one}
-use Rattle.model.specs.ChartFile.{zeros, unusedAreZero}
+use Rattle.model.specs.ChartFile.{zeroBytes, unusedAreZero}
 use Rattle.chart_files.proofs.RecordLoops.{unused-one, unused-two}
 use Rattle.chart_files.proofs.UnusedWords.{joined}
 
 abbrev literalRanges : List (ℕ × List (ℕ × ℕ))
-literalRanges = (0, (5, 8) ∷ []) ∷ (1, (6, 8) ∷ []) ∷ (2, (5, 6) ∷ []) ∷ []
+literalRanges = (0, (5, 7) ∷ []) ∷ (1, (6, 7) ∷ []) ∷ (2, (5, 5) ∷ []) ∷ []
 
 -- an event at 5, a clock at 6
 pub literal-unused : (r : List ℕ) (k : ℕ) →
-    (zeros 10 16 r && ((eqb k 1 || ltb 2 k || zeros 5 6 r) && (leb 2 k || zeros 6 8 r))) ≡ unusedAreZero ((10, 16) ∷ caseOf k literalRanges []) r
+    (zeroBytes 10 15 r && ((eqb k 1 || ltb 2 k || zeroBytes 5 5 r) && (leb 2 k || zeroBytes 6 7 r))) ≡ unusedAreZero ((10, 15) ∷ caseOf k literalRanges []) r
 unfolding caseOf
-literal-unused r zero = unused-two r (10, 16) (5, 8) ((5, 8) ∷ []) refl (joined r 5 6 8 (omega arith) (omega arith) refl refl) refl
-literal-unused r (suc zero) = unused-two r (10, 16) (6, 8) ((6, 8) ∷ []) refl refl refl
-literal-unused r (suc (suc zero)) = unused-two r (10, 16) (5, 6) ((5, 6) ∷ []) refl (sym (and-one (zeros 5 6 r))) refl
+literal-unused r zero = unused-two r (10, 15) (5, 7) ((5, 7) ∷ []) refl (joined r 5 5 7 (omega arith) (omega arith) refl refl) refl
+literal-unused r (suc zero) = unused-two r (10, 15) (6, 7) ((6, 7) ∷ []) refl refl refl
+literal-unused r (suc (suc zero)) = unused-two r (10, 15) (5, 5) ((5, 5) ∷ []) refl (sym (and-one (zeroBytes 5 5 r))) refl
 literal-unused r (suc (suc (suc n))) =
     let k = suc (suc (suc n)) in
     rw (ne-eqb k 0 (λ e. omega arith), ne-eqb k 1 (λ e. omega arith), ne-eqb k 2 (λ e. omega arith), lt-ltb 2 k (omega arith), le-leb 2 k (omega arith))
-    (unused-one r (10, 16) [] (sym (and-one (zeros 10 16 r))) refl)
+    (unused-one r (10, 15) [] (sym (and-one (zeroBytes 10 15 r))) refl)

@@ -10,7 +10,7 @@ use lib.Seq.{take-nil, drop-nil}
 use Rattle.records.specs.Lists.{all}
 use Rattle.records.specs.Bytes.{byte, records}
 use Rattle.expressions.proofs.Loops.{and-one, and-two, and-assoc}
-use Rattle.model.specs.ChartFile.{zeros, unusedAreZero}
+use Rattle.model.specs.ChartFile.{zeroBytes, unusedAreZero}
 use Rattle.records.proofs.Records.{recordAt, rest, rest-all, rest-none, rest-one}
 
 -- the part of a file from 16 i on, of 16 bytes
@@ -56,10 +56,10 @@ zeros-next (x ∷ r) (suc k) m = zeros-next r k m
 -- ---- unused ranges
 
 module _ (r : List ℕ) (x : ℕ × ℕ) where
-  pub unused-one : (l : List (ℕ × ℕ)) {p : Bool} → p ≡ zeros (x .0) (x .1) r → [] ≡ l → p ≡ unusedAreZero (x ∷ l) r
+  pub unused-one : (l : List (ℕ × ℕ)) {p : Bool} → p ≡ zeroBytes (x .0) (x .1) r → [] ≡ l → p ≡ unusedAreZero (x ∷ l) r
   unfolding all
-  unused-one l e h = e ∙ and-one (zeros (x .0) (x .1) r) ∙ ap (λ m. unusedAreZero (x ∷ m) r) h
+  unused-one l e h = e ∙ and-one (zeroBytes (x .0) (x .1) r) ∙ ap (λ m. unusedAreZero (x ∷ m) r) h
 
-  pub unused-two : (y : ℕ × ℕ) (l : List (ℕ × ℕ)) {p q : Bool} → p ≡ zeros (x .0) (x .1) r → q ≡ zeros (y .0) (y .1) r → y ∷ [] ≡ l → (p && q) ≡ unusedAreZero (x ∷ l) r
+  pub unused-two : (y : ℕ × ℕ) (l : List (ℕ × ℕ)) {p q : Bool} → p ≡ zeroBytes (x .0) (x .1) r → q ≡ zeroBytes (y .0) (y .1) r → y ∷ [] ≡ l → (p && q) ≡ unusedAreZero (x ∷ l) r
   unfolding all
-  unused-two y l e f h = (λ i. e i && f i) ∙ and-two (zeros (x .0) (x .1) r) (zeros (y .0) (y .1) r) ∙ ap (λ m. unusedAreZero (x ∷ m) r) h
+  unused-two y l e f h = (λ i. e i && f i) ∙ and-two (zeroBytes (x .0) (x .1) r) (zeroBytes (y .0) (y .1) r) ∙ ap (λ m. unusedAreZero (x ∷ m) r) h

@@ -10,7 +10,7 @@ use lib.Dec.{leb, ltb, eqb}
 use Rattle.records.specs.Lists.{all, caseOf}
 use Rattle.records.specs.Bytes.{byte, two, four}
 use Rattle.expressions.proofs.Loops.{and-one, and-assoc}
-use Rattle.model.specs.ChartFile.{zeros, unusedAreZero, between}
+use Rattle.model.specs.ChartFile.{zeroBytes, unusedAreZero, between}
 use Rattle.chart_files.proofs.RecordLoops.{zerosFrom, zeros-next, unused-one, unused-two}
 
 -- a number of two parts is 0 where both are
@@ -45,77 +45,78 @@ module _ (r : List ℕ) where
       ∙ ap (λ b. b && zerosFrom n (k + suc m) r) (sym (zeros-next r k m))
 
   -- a range of two parts
-  pub joined : (a b e : ℕ) → a ≤ b → b ≤ e → {p q : Bool} → p ≡ zeros a b r → q ≡ zeros b e r → (p && q) ≡ zeros a e r
+  pub joined : (a b e : ℕ) → a ≤ b + 1 → b ≤ e → {p q : Bool} → p ≡ zeroBytes a b r → q ≡ zeroBytes (b + 1) e r → (p && q) ≡ zeroBytes a e r
   joined a b e h l x y =
       (λ i. x i && y i)
-      ∙ ap (λ j. zerosFrom (b - a) a r && zerosFrom (e - b) j r) (let d : b ≡ a + (b - a) = omega arith in d)
-      ∙ sym (parted (b - a) (e - b) a)
-      ∙ ap (λ n. zerosFrom n a r) (let d : (b - a) + (e - b) ≡ e - a = omega arith in d)
+      ∙ ap (λ j. zerosFrom (b + 1 - a) a r && zerosFrom (e + 1 - (b + 1)) j r) (let d : b + 1 ≡ a + (b + 1 - a) = omega arith in d)
+      ∙ sym (parted (b + 1 - a) (e + 1 - (b + 1)) a)
+      ∙ ap (λ n. zerosFrom n a r) (let d : (b + 1 - a) + (e + 1 - (b + 1)) ≡ e + 1 - a = omega arith in d)
 
-  pub byte-zero : (k : ℕ) → eqb (byte r k) 0 ≡ zeros k (k + 1) r
+  pub byte-zero : (k : ℕ) → eqb (byte r k) 0 ≡ zeroBytes k k r
   unfolding all
   byte-zero k =
       and-one (eqb (byte r k) 0)
       ∙ sym (zeros-next r k 0)
       ∙ ap (λ n. zerosFrom n k r) (let e : 1 ≡ k + 1 - k = omega arith in e)
 
-  pub two-zero : (k : ℕ) → eqb (two r k) 0 ≡ zeros k (k + 2) r
+  pub two-zero : (k : ℕ) → eqb (two r k) 0 ≡ zeroBytes k (k + 1) r
   two-zero k =
       both-zero (byte r k) (byte r (k + 1)) (two r k) (λ p q. omega arith) (λ e. (omega arith, omega arith))
-      ∙ joined k (k + 1) (k + 2) (omega arith) (omega arith) (byte-zero k) (byte-zero (k + 1) ∙ ap (λ e. zeros (k + 1) e r) (let d : k + 1 + 1 ≡ k + 2 = omega arith in d))
+      ∙ joined k k (k + 1) (omega arith) (omega arith) (byte-zero k) (byte-zero (k + 1))
 
-  pub four-zero : (k : ℕ) → eqb (four r k) 0 ≡ zeros k (k + 4) r
+  pub four-zero : (k : ℕ) → eqb (four r k) 0 ≡ zeroBytes k (k + 3) r
   four-zero k =
       both-zero (two r k) (two r (k + 2)) (four r k) (λ p q. omega arith) (λ e. (omega arith, omega arith))
-      ∙ joined k (k + 2) (k + 4) (omega arith) (omega arith) (two-zero k) (two-zero (k + 2) ∙ ap (λ e. zeros (k + 2) e r) (let d : k + 2 + 2 ≡ k + 4 = omega arith in d))
+      ∙ joined k (k + 1) (k + 3) (omega arith) (omega arith) (two-zero k)
+      (two-zero (k + 2) ∙ (λ i. zeroBytes (let d : k + 2 ≡ k + 1 + 1 = omega arith in d i) (let d : k + 2 + 1 ≡ k + 3 = omega arith in d i) r))
 
 -- ---- ranges that codes leave unused: each part is zero, or the code is none of those that leave it unused
 
 abbrev transitionRanges : List (ℕ × List (ℕ × ℕ))
-transitionRanges = (0, (7, 12) ∷ []) ∷ (1, (8, 12) ∷ []) ∷ (2, (7, 8) ∷ []) ∷ (3, (7, 8) ∷ []) ∷ []
+transitionRanges = (0, (7, 11) ∷ []) ∷ (1, (8, 11) ∷ []) ∷ (2, (7, 7) ∷ []) ∷ (3, (7, 7) ∷ []) ∷ []
 
 abbrev nodeRanges : List (ℕ × List (ℕ × ℕ))
 nodeRanges =
-    (1, (2, 8) ∷ []) ∷ (2, (4, 12) ∷ []) ∷ (8, (8, 12) ∷ []) ∷ (19, (4, 12) ∷ [])
-    ∷ map (λ o. (o, (6, 12) ∷ [])) (3 ∷ 4 ∷ 5 ∷ 6 ∷ 7 ∷ 16 ∷ 17 ∷ 18 ∷ 20 ∷ 21 ∷ [])
+    (1, (2, 7) ∷ []) ∷ (2, (4, 11) ∷ []) ∷ (8, (8, 11) ∷ []) ∷ (19, (4, 11) ∷ [])
+    ∷ map (λ o. (o, (6, 11) ∷ [])) (3 ∷ 4 ∷ 5 ∷ 6 ∷ 7 ∷ 16 ∷ 17 ∷ 18 ∷ 20 ∷ 21 ∷ [])
 
 module _ (r : List ℕ) where
   -- an event at 7, milliseconds at 8
   pub transition-unused : (k : ℕ) →
-      (zeros 14 16 r && ((eqb k 1 || ltb 3 k || zeros 7 8 r) && (leb 2 k || zeros 8 12 r))) ≡ unusedAreZero ((14, 16) ∷ caseOf k transitionRanges []) r
+      (zeroBytes 14 15 r && ((eqb k 1 || ltb 3 k || zeroBytes 7 7 r) && (leb 2 k || zeroBytes 8 11 r))) ≡ unusedAreZero ((14, 15) ∷ caseOf k transitionRanges []) r
   unfolding caseOf
-  transition-unused zero = unused-two r (14, 16) (7, 12) ((7, 12) ∷ []) refl (joined r 7 8 12 (omega arith) (omega arith) refl refl) refl
-  transition-unused (suc zero) = unused-two r (14, 16) (8, 12) ((8, 12) ∷ []) refl refl refl
-  transition-unused (suc (suc zero)) = unused-two r (14, 16) (7, 8) ((7, 8) ∷ []) refl (sym (and-one (zeros 7 8 r))) refl
-  transition-unused (suc (suc (suc zero))) = unused-two r (14, 16) (7, 8) ((7, 8) ∷ []) refl (sym (and-one (zeros 7 8 r))) refl
+  transition-unused zero = unused-two r (14, 15) (7, 11) ((7, 11) ∷ []) refl (joined r 7 7 11 (omega arith) (omega arith) refl refl) refl
+  transition-unused (suc zero) = unused-two r (14, 15) (8, 11) ((8, 11) ∷ []) refl refl refl
+  transition-unused (suc (suc zero)) = unused-two r (14, 15) (7, 7) ((7, 7) ∷ []) refl (sym (and-one (zeroBytes 7 7 r))) refl
+  transition-unused (suc (suc (suc zero))) = unused-two r (14, 15) (7, 7) ((7, 7) ∷ []) refl (sym (and-one (zeroBytes 7 7 r))) refl
   transition-unused (suc (suc (suc (suc n)))) =
       let k = suc (suc (suc (suc n))) in
       rw (ne-eqb k 0 (λ e. omega arith), ne-eqb k 1 (λ e. omega arith), ne-eqb k 2 (λ e. omega arith), ne-eqb k 3 (λ e. omega arith), lt-ltb 3 k (omega arith), le-leb 2 k (omega arith))
-      (unused-one r (14, 16) [] (sym (and-one (zeros 14 16 r))) refl)
+      (unused-one r (14, 15) [] (sym (and-one (zeroBytes 14 15 r))) refl)
 
   -- of a deed: a node at 6, unless it raises
-  pub deed-unused : (k : ℕ) → (zeros 8 16 r && (not (eqb k 2) || zeros 6 8 r)) ≡ unusedAreZero ((8, 16) ∷ caseOf k ((2, (6, 8) ∷ []) ∷ []) []) r
+  pub deed-unused : (k : ℕ) → (zeroBytes 8 15 r && (not (eqb k 2) || zeroBytes 6 7 r)) ≡ unusedAreZero ((8, 15) ∷ caseOf k ((2, (6, 7) ∷ []) ∷ []) []) r
   unfolding caseOf
   deed-unused k = by (eqb k 2)
     where
-      by : (b : Bool) → (zeros 8 16 r && (not b || zeros 6 8 r)) ≡ unusedAreZero ((8, 16) ∷ cond b ((6, 8) ∷ []) []) r
-      by true = unused-two r (8, 16) (6, 8) ((6, 8) ∷ []) refl refl refl
-      by false = unused-one r (8, 16) [] (sym (and-one (zeros 8 16 r))) refl
+      by : (b : Bool) → (zeroBytes 8 15 r && (not b || zeroBytes 6 7 r)) ≡ unusedAreZero ((8, 15) ∷ cond b ((6, 7) ∷ []) []) r
+      by true = unused-two r (8, 15) (6, 7) ((6, 7) ∷ []) refl refl refl
+      by false = unused-one r (8, 15) [] (sym (and-one (zeroBytes 8 15 r))) refl
 
   -- of a node: operands at 2, 4 and 6, a constant at 8
   abbrev operandsUnused : ℕ → Bool
   operandsUnused k =
-      (not (eqb k 1) || zeros 2 4 r)
-      && (not (eqb k 1 || eqb k 2 || eqb k 19) || zeros 4 6 r)
-      && (eqb k 8 || zeros 6 8 r)
-      && (eqb k 1 || zeros 8 12 r)
+      (not (eqb k 1) || zeroBytes 2 3 r)
+      && (not (eqb k 1 || eqb k 2 || eqb k 19) || zeroBytes 4 5 r)
+      && (eqb k 8 || zeroBytes 6 7 r)
+      && (eqb k 1 || zeroBytes 8 11 r)
 
-  pub node-unused : (k : ℕ) → (zeros 12 16 r && (not (between 1 8 k || between 16 21 k) || operandsUnused k)) ≡ unusedAreZero ((12, 16) ∷ caseOf k nodeRanges []) r
+  pub node-unused : (k : ℕ) → (zeroBytes 12 15 r && (not (between 1 8 k || between 16 21 k) || operandsUnused k)) ≡ unusedAreZero ((12, 15) ∷ caseOf k nodeRanges []) r
   unfolding caseOf
   node-unused k = by-code
     where
       Same : ℕ → Type 0
-      Same k = (zeros 12 16 r && (not (between 1 8 k || between 16 21 k) || operandsUnused k)) ≡ unusedAreZero ((12, 16) ∷ caseOf k nodeRanges []) r
+      Same k = (zeroBytes 12 15 r && (not (between 1 8 k || between 16 21 k) || operandsUnused k)) ≡ unusedAreZero ((12, 15) ∷ caseOf k nodeRanges []) r
 
       is : (n : ℕ) → Same n → ((k ≡ n → ⊥) → Same k) → Same k
       is n here other = go (eqb k n) refl
@@ -125,36 +126,36 @@ module _ (r : List ℕ) where
           go false e = other (eqb-false k n e)
 
       -- one range, from a code's parts
-      range : (x : ℕ × ℕ) {q : Bool} → q ≡ zeros (x .0) (x .1) r → (zeros 12 16 r && q) ≡ unusedAreZero ((12, 16) ∷ x ∷ []) r
-      range x h = unused-two r (12, 16) x (x ∷ []) refl h refl
+      range : (x : ℕ × ℕ) {q : Bool} → q ≡ zeroBytes (x .0) (x .1) r → (zeroBytes 12 15 r && q) ≡ unusedAreZero ((12, 15) ∷ x ∷ []) r
+      range x h = unused-two r (12, 15) x (x ∷ []) refl h refl
 
-      from-four : (zeros 4 6 r && zeros 6 8 r && zeros 8 12 r) ≡ zeros 4 12 r
-      from-four = joined r 4 8 12 (omega arith) (omega arith) (joined r 4 6 8 (omega arith) (omega arith) refl refl) refl
+      from-four : (zeroBytes 4 5 r && zeroBytes 6 7 r && zeroBytes 8 11 r) ≡ zeroBytes 4 11 r
+      from-four = joined r 4 7 11 (omega arith) (omega arith) (joined r 4 5 7 (omega arith) (omega arith) refl refl) refl
 
-      from-six : (zeros 6 8 r && zeros 8 12 r) ≡ zeros 6 12 r
-      from-six = joined r 6 8 12 (omega arith) (omega arith) refl refl
+      from-six : (zeroBytes 6 7 r && zeroBytes 8 11 r) ≡ zeroBytes 6 11 r
+      from-six = joined r 6 7 11 (omega arith) (omega arith) refl refl
 
       by-code : Same k
       by-code =
-          is 1 (range (2, 8) (sym (and-one (zeros 2 4 r && zeros 4 6 r && zeros 6 8 r)) ∙ joined r 2 6 8 (omega arith) (omega arith) (joined r 2 4 6 (omega arith) (omega arith) refl refl) refl)) (λ n1.
-          is 2 (range (4, 12) from-four) (λ n2.
-          is 8 (range (8, 12) refl) (λ n8.
-          is 19 (range (4, 12) from-four) (λ n19.
-          is 3 (range (6, 12) from-six) (λ n3.
-          is 4 (range (6, 12) from-six) (λ n4.
-          is 5 (range (6, 12) from-six) (λ n5.
-          is 6 (range (6, 12) from-six) (λ n6.
-          is 7 (range (6, 12) from-six) (λ n7.
-          is 16 (range (6, 12) from-six) (λ n16.
-          is 17 (range (6, 12) from-six) (λ n17.
-          is 18 (range (6, 12) from-six) (λ n18.
-          is 20 (range (6, 12) from-six) (λ n20.
-          is 21 (range (6, 12) from-six) (λ n21.
+          is 1 (range (2, 7) (sym (and-one (zeroBytes 2 3 r && zeroBytes 4 5 r && zeroBytes 6 7 r)) ∙ joined r 2 5 7 (omega arith) (omega arith) (joined r 2 3 5 (omega arith) (omega arith) refl refl) refl)) (λ n1.
+          is 2 (range (4, 11) from-four) (λ n2.
+          is 8 (range (8, 11) refl) (λ n8.
+          is 19 (range (4, 11) from-four) (λ n19.
+          is 3 (range (6, 11) from-six) (λ n3.
+          is 4 (range (6, 11) from-six) (λ n4.
+          is 5 (range (6, 11) from-six) (λ n5.
+          is 6 (range (6, 11) from-six) (λ n6.
+          is 7 (range (6, 11) from-six) (λ n7.
+          is 16 (range (6, 11) from-six) (λ n16.
+          is 17 (range (6, 11) from-six) (λ n17.
+          is 18 (range (6, 11) from-six) (λ n18.
+          is 20 (range (6, 11) from-six) (λ n20.
+          is 21 (range (6, 11) from-six) (λ n21.
           let low : between 1 8 k ≡ false = outside 1 8 k (λ h. past 8 n8 (past 7 n7 (past 6 n6 (past 5 n5 (past 4 n4 (past 3 n3 (past 2 n2 (past 1 n1 h)))))))) in
           let high : between 16 21 k ≡ false = outside 16 21 k (λ h. past 21 n21 (past 20 n20 (past 19 n19 (past 18 n18 (past 17 n17 (past 16 n16 h)))))) in
-          ap (λ b. zeros 12 16 r && (not b || operandsUnused k)) (λ i. low i || high i)
-          ∙ unused-one r (12, 16) [] (sym (and-one (zeros 12 16 r))) refl
-          ∙ ap (λ l. unusedAreZero ((12, 16) ∷ l) r)
+          ap (λ b. zeroBytes 12 15 r && (not b || operandsUnused k)) (λ i. low i || high i)
+          ∙ unused-one r (12, 15) [] (sym (and-one (zeroBytes 12 15 r))) refl
+          ∙ ap (λ l. unusedAreZero ((12, 15) ∷ l) r)
           (sym (rw (
             ne-eqb k 1 n1,
             ne-eqb k 2 n2,

@@ -12,32 +12,32 @@ use records::u32_within;
 
 // A byte, and the two and four bytes from k on. Read so, a range costs a test a word.
 pub fn byte_zero(r: &[u8], k: usize) -> bool
-    ensures { λ t. ⌜ t ≡ F.zeros k (k + 1) (now (r .entry)) ⌝ }
+    ensures { λ t. ⌜ t ≡ F.zeroBytes k k (now (r .entry)) ⌝ }
 {
     byte_at(r, k) == 0
 }
 
 pub fn two_zero(r: &[u8], k: usize) -> bool
-    ensures { λ t. ⌜ t ≡ F.zeros k (k + 2) (now (r .entry)) ⌝ }
+    ensures { λ t. ⌜ t ≡ F.zeroBytes k (k + 1) (now (r .entry)) ⌝ }
 {
     u16_at(r, k) == 0
 }
 
 pub fn four_zero(r: &[u8], k: usize) -> bool
-    ensures { λ t. ⌜ t ≡ F.zeros k (k + 4) (now (r .entry)) ⌝ }
+    ensures { λ t. ⌜ t ≡ F.zeroBytes k (k + 3) (now (r .entry)) ⌝ }
 {
     u32_at(r, k) == 0
 }
 
 // The bytes of a record from 8 on, and from 4 on.
 pub fn from_eight_zero(r: &[u8]) -> bool
-    ensures { λ t. ⌜ t ≡ F.zeros 8 16 (now (r .entry)) ⌝ }
+    ensures { λ t. ⌜ t ≡ F.zeroBytes 8 15 (now (r .entry)) ⌝ }
 {
     four_zero(r, 8) & four_zero(r, 12)
 }
 
 pub fn from_four_zero(r: &[u8]) -> bool
-    ensures { λ t. ⌜ t ≡ F.zeros 4 16 (now (r .entry)) ⌝ }
+    ensures { λ t. ⌜ t ≡ F.zeroBytes 4 15 (now (r .entry)) ⌝ }
 {
     four_zero(r, 4) & from_eight_zero(r)
 }

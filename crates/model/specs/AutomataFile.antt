@@ -22,23 +22,23 @@ automataLimits = 8 ∷ 128 ∷ 384 ∷ 2432 ∷ 256 ∷ 64 ∷ 1024 ∷ 6144 ∷
 
 -- 4
 abbrev pub unusedLiteral : List ℕ → List (ℕ × ℕ)
-unusedLiteral r = (10, 16) ∷ caseOf (byte r 4) ((0, (5, 8) ∷ []) ∷ (1, (6, 8) ∷ []) ∷ (2, (5, 6) ∷ []) ∷ []) []
+unusedLiteral r = (10, 15) ∷ caseOf (byte r 4) ((0, (5, 7) ∷ []) ∷ (1, (6, 7) ∷ []) ∷ (2, (5, 5) ∷ []) ∷ []) []
 
 abbrev pub unusedUpdate : List ℕ → List (ℕ × ℕ)
-unusedUpdate r = (5, 6) ∷ (8, 16) ∷ caseOf (byte r 1) ((2, (6, 8) ∷ []) ∷ []) []
+unusedUpdate r = (5, 5) ∷ (8, 15) ∷ caseOf (byte r 1) ((2, (6, 7) ∷ []) ∷ []) []
 
 abbrev pub unusedInTable : List ℕ → List (ℕ × ℕ)
 unusedInTable r =
     caseOf (kind r)
-    ((33, (1, 2) ∷ (4, 16) ∷ [])
-    ∷ (34, (2, 16) ∷ [])
-    ∷ (35, (7, 16) ∷ [])
+    ((33, (1, 1) ∷ (4, 15) ∷ [])
+    ∷ (34, (2, 15) ∷ [])
+    ∷ (35, (7, 15) ∷ [])
     ∷ (36, unusedLiteral r)
-    ∷ (37, (4, 16) ∷ [])
+    ∷ (37, (4, 15) ∷ [])
     ∷ (38, unusedVariable)
     ∷ (39, unusedNode r)
     ∷ (40, unusedUpdate r)
-    ∷ (41, (1, 2) ∷ (6, 16) ∷ [])
+    ∷ (41, (1, 1) ∷ (6, 15) ∷ [])
     ∷ [])
     []
 

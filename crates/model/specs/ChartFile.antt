@@ -24,34 +24,34 @@ chartLimits = 8 ∷ 128 ∷ 256 ∷ 64 ∷ 1024 ∷ 512 ∷ []
 
 -- ---- 4: "an unnamed or unused byte not zero (under an unknown code, an unnamed one)"
 
--- bytes from a up to e, not e itself
-abbrev pub zeros : ℕ → ℕ → List ℕ → Bool
-zeros a e r = all (λ b. eqb b 0) (take (e - a) (drop a r))
+-- bytes a to b, as the paper counts them: both are among them
+abbrev pub zeroBytes : ℕ → ℕ → List ℕ → Bool
+zeroBytes a b r = all (λ x. eqb x 0) (take (b + 1 - a) (drop a r))
 
--- The unnamed bytes of each kind, and those that the record's codes leave unused, as ranges.
+-- The unnamed bytes of each kind, and those that the record's codes leave unused, as ranges: (14, 15) are bytes 14 and 15.
 abbrev pub unusedTransition : List ℕ → List (ℕ × ℕ)
 unusedTransition r =
-    (14, 16)
-    ∷ caseOf (byte r 6) ((0, (7, 12) ∷ []) ∷ (1, (8, 12) ∷ []) ∷ (2, (7, 8) ∷ []) ∷ (3, (7, 8) ∷ []) ∷ []) []
+    (14, 15)
+    ∷ caseOf (byte r 6) ((0, (7, 11) ∷ []) ∷ (1, (8, 11) ∷ []) ∷ (2, (7, 7) ∷ []) ∷ (3, (7, 7) ∷ []) ∷ []) []
 
 abbrev pub unusedVariable : List (ℕ × ℕ)
-unusedVariable = (1, 2) ∷ (8, 16) ∷ []
+unusedVariable = (1, 1) ∷ (8, 15) ∷ []
 
 abbrev pub unusedNode : List ℕ → List (ℕ × ℕ)
 unusedNode r =
-    (12, 16)
+    (12, 15)
     ∷ caseOf (byte r 1)
-    ((1, (2, 8) ∷ []) ∷ (2, (4, 12) ∷ []) ∷ (8, (8, 12) ∷ []) ∷ (19, (4, 12) ∷ [])
-    ∷ map (λ o. (o, (6, 12) ∷ [])) (3 ∷ 4 ∷ 5 ∷ 6 ∷ 7 ∷ 16 ∷ 17 ∷ 18 ∷ 20 ∷ 21 ∷ [])) []
+    ((1, (2, 7) ∷ []) ∷ (2, (4, 11) ∷ []) ∷ (8, (8, 11) ∷ []) ∷ (19, (4, 11) ∷ [])
+    ∷ map (λ o. (o, (6, 11) ∷ [])) (3 ∷ 4 ∷ 5 ∷ 6 ∷ 7 ∷ 16 ∷ 17 ∷ 18 ∷ 20 ∷ 21 ∷ [])) []
 
 abbrev pub unusedAction : List ℕ → List (ℕ × ℕ)
-unusedAction r = (8, 16) ∷ caseOf (byte r 4) ((2, (6, 8) ∷ []) ∷ []) []
+unusedAction r = (8, 15) ∷ caseOf (byte r 4) ((2, (6, 7) ∷ []) ∷ []) []
 
 abbrev pub unused : List ℕ → List (ℕ × ℕ)
 unused r =
     caseOf (kind r)
-    ((1, (1, 2) ∷ (4, 16) ∷ [])
-    ∷ (2, (2, 16) ∷ [])
+    ((1, (1, 1) ∷ (4, 15) ∷ [])
+    ∷ (2, (2, 15) ∷ [])
     ∷ (3, unusedTransition r)
     ∷ (4, unusedVariable)
     ∷ (5, unusedNode r)
@@ -60,7 +60,7 @@ unused r =
     []
 
 abbrev pub unusedAreZero : List (ℕ × ℕ) → List ℕ → Bool
-unusedAreZero ranges r = all (λ x. zeros (x .0) (x .1) r) ranges
+unusedAreZero ranges r = all (λ x. zeroBytes (x .0) (x .1) r) ranges
 
 -- ---- 5: "a code or range above broken"
 

@@ -16,7 +16,7 @@ use Rattle.records.proofs.RoundTrips.{two-record, four-record, unsigned-signed}
 use Rattle.records.proofs.FramingLaws.{and-true}
 use Rattle.records.proofs.Framed.{length-ofKind, framed-thing}
 use Rattle.expressions.specs.Nodes.{nodeBy, readNode, nodeAt, writeNode}
-use Rattle.model.specs.ChartFile.{zeros, between, unusedTransition, unusedVariable, unusedNode, unusedAction, unused, unusedAreZero, transitionInCode, variableInCode, nodeInCode, actionInCode, inCode, chartLimits, chartTests}
+use Rattle.model.specs.ChartFile.{zeroBytes, between, unusedTransition, unusedVariable, unusedNode, unusedAction, unused, unusedAreZero, transitionInCode, variableInCode, nodeInCode, actionInCode, inCode, chartLimits, chartTests}
 use Rattle.model.proofs.BoolLaws.{is-true, not-not}
 use Rattle.model.proofs.ListLaws as M
 use Rattle.model.proofs.AcceptedSet.{lowest-none}
@@ -38,34 +38,34 @@ zero-in (x ∷ xs) zero t = eqb-true x 0 (and-true (eqb x 0) (all (λ b. eqb b 0
 zero-in (x ∷ xs) (suc j) t = zero-in xs j (and-true (eqb x 0) (all (λ b. eqb b 0) xs) t .1)
 
 module _ (r : List ℕ) where
-  byte-zero : (x e k : ℕ) → zeros x e r ≡ true → x ≤ k → k < e → byte r k ≡ 0
+  byte-zero : (x e k : ℕ) → zeroBytes x e r ≡ true → x ≤ k → k ≤ e → byte r k ≡ 0
   byte-zero x e k t l h =
       ap (byte r) (let q : k ≡ x + (k - x) = omega arith in q)
-      ∙ sym (getD-take (e - x) (drop x r) (k - x) 0 (omega arith) ∙ getD-drop x r (k - x) 0)
-      ∙ zero-in (take (e - x) (drop x r)) (k - x) t
+      ∙ sym (getD-take (e + 1 - x) (drop x r) (k - x) 0 (omega arith) ∙ getD-drop x r (k - x) 0)
+      ∙ zero-in (take (e + 1 - x) (drop x r)) (k - x) t
 
-  two-zero : (x e k : ℕ) → zeros x e r ≡ true → x ≤ k → k + 1 < e → two r k ≡ 0
+  two-zero : (x e k : ℕ) → zeroBytes x e r ≡ true → x ≤ k → k + 1 ≤ e → two r k ≡ 0
   two-zero x e k t l h = omega (arith, byte-zero x e k t l (omega arith), byte-zero x e (k + 1) t (omega arith) h)
 
-  constant-zero : (x : ℕ) → zeros x 12 r ≡ true → x ≤ 8 → four r 8 ≡ 0
-  constant-zero x t l = omega (arith, two-zero x 12 8 t l (omega arith), two-zero x 12 10 t (omega arith) (omega arith))
+  constant-zero : (x : ℕ) → zeroBytes x 11 r ≡ true → x ≤ 8 → four r 8 ≡ 0
+  constant-zero x t l = omega (arith, two-zero x 11 8 t l (omega arith), two-zero x 11 10 t (omega arith) (omega arith))
 
   -- what an operator leaves unused
   abbrev ranges : ℕ → List (ℕ × ℕ)
   ranges code =
       caseOf code
-      ((1, (2, 8) ∷ []) ∷ (2, (4, 12) ∷ []) ∷ (8, (8, 12) ∷ []) ∷ (19, (4, 12) ∷ [])
-      ∷ map (λ o. (o, (6, 12) ∷ [])) (3 ∷ 4 ∷ 5 ∷ 6 ∷ 7 ∷ 16 ∷ 17 ∷ 18 ∷ 20 ∷ 21 ∷ [])) []
+      ((1, (2, 7) ∷ []) ∷ (2, (4, 11) ∷ []) ∷ (8, (8, 11) ∷ []) ∷ (19, (4, 11) ∷ [])
+      ∷ map (λ o. (o, (6, 11) ∷ [])) (3 ∷ 4 ∷ 5 ∷ 6 ∷ 7 ∷ 16 ∷ 17 ∷ 18 ∷ 20 ∷ 21 ∷ [])) []
 
   module _ (low : four r 8 < 2 ^ 32) (coded : nodeInCode r ≡ true) (clean : unusedAreZero (unusedNode r) r ≡ true) where
     abbrev Copied : Type 0
     Copied = nodeText (byte r 1) (two r 2) (two r 4) (two r 6) (four r 8) ≡ writeNode (readNode r)
 
-    clean-range : (k x e : ℕ) → byte r 1 ≡ k → ranges k ≡ (x, e) ∷ [] → zeros x e r ≡ true
+    clean-range : (k x e : ℕ) → byte r 1 ≡ k → ranges k ≡ (x, e) ∷ [] → zeroBytes x e r ≡ true
     unfolding all
     clean-range k x e is q =
-        let t : all (λ y. zeros (y .0) (y .1) r) (ranges (byte r 1)) ≡ true = and-true (zeros 12 16 r) (all (λ y. zeros (y .0) (y .1) r) (ranges (byte r 1))) clean .1 in
-        and-true (zeros x e r) true (sym (ap (all (λ y. zeros (y .0) (y .1) r)) (ap ranges is ∙ q)) ∙ t) .0
+        let t : all (λ y. zeroBytes (y .0) (y .1) r) (ranges (byte r 1)) ≡ true = and-true (zeroBytes 12 15 r) (all (λ y. zeroBytes (y .0) (y .1) r) (ranges (byte r 1))) clean .1 in
+        and-true (zeroBytes x e r) true (sym (ap (all (λ y. zeroBytes (y .0) (y .1) r)) (ap ranges is ∙ q)) ∙ t) .0
 
     same : (k a b c z : ℕ) → byte r 1 ≡ k → two r 2 ≡ a → two r 4 ≡ b → two r 6 ≡ c → four r 8 ≡ z → nodeText k a b c z ≡ writeNode (nodeBy k (two r 2) (two r 4) (two r 6) (four± r 8)) → Copied
     same k a b c z is p q s t w =
@@ -75,23 +75,23 @@ module _ (r : List ℕ) where
     constant-copied : byte r 1 ≡ 1 → Copied
     unfolding caseOf
     constant-copied is =
-        let t : zeros 2 8 r ≡ true = clean-range 1 2 8 is refl in
-        same 1 0 0 0 (four r 8) is (two-zero 2 8 2 t (omega arith) (omega arith)) (two-zero 2 8 4 t (omega arith) (omega arith)) (two-zero 2 8 6 t (omega arith) (omega arith)) refl
+        let t : zeroBytes 2 7 r ≡ true = clean-range 1 2 7 is refl in
+        same 1 0 0 0 (four r 8) is (two-zero 2 7 2 t (omega arith) (omega arith)) (two-zero 2 7 4 t (omega arith) (omega arith)) (two-zero 2 7 6 t (omega arith) (omega arith)) refl
         (ap (nodeText 1 0 0 0) (sym (unsigned-signed (2 ^ 31) (four r 8) low)))
 
-    one : (k : ℕ) → byte r 1 ≡ k → ranges k ≡ (4, 12) ∷ [] → nodeText k (two r 2) 0 0 0 ≡ writeNode (nodeBy k (two r 2) (two r 4) (two r 6) (four± r 8)) → Copied
+    one : (k : ℕ) → byte r 1 ≡ k → ranges k ≡ (4, 11) ∷ [] → nodeText k (two r 2) 0 0 0 ≡ writeNode (nodeBy k (two r 2) (two r 4) (two r 6) (four± r 8)) → Copied
     one k is q w =
-        let t : zeros 4 12 r ≡ true = clean-range k 4 12 is q in
-        same k (two r 2) 0 0 0 is refl (two-zero 4 12 4 t (omega arith) (omega arith)) (two-zero 4 12 6 t (omega arith) (omega arith)) (constant-zero 4 t (omega arith)) w
+        let t : zeroBytes 4 11 r ≡ true = clean-range k 4 11 is q in
+        same k (two r 2) 0 0 0 is refl (two-zero 4 11 4 t (omega arith) (omega arith)) (two-zero 4 11 6 t (omega arith) (omega arith)) (constant-zero 4 t (omega arith)) w
 
-    pair : (k : ℕ) → byte r 1 ≡ k → ranges k ≡ (6, 12) ∷ [] → nodeText k (two r 2) (two r 4) 0 0 ≡ writeNode (nodeBy k (two r 2) (two r 4) (two r 6) (four± r 8)) → Copied
+    pair : (k : ℕ) → byte r 1 ≡ k → ranges k ≡ (6, 11) ∷ [] → nodeText k (two r 2) (two r 4) 0 0 ≡ writeNode (nodeBy k (two r 2) (two r 4) (two r 6) (four± r 8)) → Copied
     pair k is q w =
-        let t : zeros 6 12 r ≡ true = clean-range k 6 12 is q in
-        same k (two r 2) (two r 4) 0 0 is refl refl (two-zero 6 12 6 t (omega arith) (omega arith)) (constant-zero 6 t (omega arith)) w
+        let t : zeroBytes 6 11 r ≡ true = clean-range k 6 11 is q in
+        same k (two r 2) (two r 4) 0 0 is refl refl (two-zero 6 11 6 t (omega arith) (omega arith)) (constant-zero 6 t (omega arith)) w
 
     choice-copied : byte r 1 ≡ 8 → Copied
     unfolding caseOf
-    choice-copied is = same 8 (two r 2) (two r 4) (two r 6) 0 is refl refl refl (constant-zero 8 (clean-range 8 8 12 is refl) (omega arith)) refl
+    choice-copied is = same 8 (two r 2) (two r 4) (two r 6) 0 is refl refl refl (constant-zero 8 (clean-range 8 8 11 is refl) (omega arith)) refl
 
     by-operator : (k : ℕ) → (byte r 1 ≡ k → Copied) → ((byte r 1 ≡ k → ⊥) → Copied) → Copied
     by-operator k hit miss = go (eqb (byte r 1) k) refl
@@ -159,7 +159,7 @@ module _ (s : List ℕ) (sh : Shape) (ok : Accepted s sh) where
     unfolding caseOf
     node-clean =
         of-node (λ r. unusedAreZero (unused r) r) (λ r. unusedAreZero (unusedNode r) r)
-        (λ r e. ap (λ k. unusedAreZero (caseOf k ((1, (1, 2) ∷ (4, 16) ∷ []) ∷ (2, (2, 16) ∷ []) ∷ (3, unusedTransition r) ∷ (4, unusedVariable) ∷ (5, unusedNode r) ∷ (6, unusedAction r) ∷ []) []) r) e) clean-records
+        (λ r e. ap (λ k. unusedAreZero (caseOf k ((1, (1, 1) ∷ (4, 15) ∷ []) ∷ (2, (2, 15) ∷ []) ∷ (3, unusedTransition r) ∷ (4, unusedVariable) ∷ (5, unusedNode r) ∷ (6, unusedAction r) ∷ []) []) r) e) clean-records
 
     node-coded : nodeInCode (recordAt s m) ≡ true
     unfolding caseOf

@@ -29,7 +29,7 @@ returns : tie.Need-returns
 returns c =
     let r = c .before .before .before .before .before .before .args .r .now in
     let code = c .before .before .before .before .byte-at .ensures in
-    let rest = joined r 10 12 16 (omega arith) (omega arith) (c .before .two-zero2 .ensures) (c .four-zero .ensures) in
+    let rest = joined r 10 11 15 (omega arith) (omega arith) (c .before .two-zero2 .ensures) (c .four-zero .ensures) in
     (λ i. rest i && ((eqb (code i) 1 || ltb 2 (code i) || c .before .before .before .byte-zero .ensures i) && (leb 2 (code i) || c .before .before .two-zero .ensures i)))
     ∙ literal-unused r (byte r 4)
 

@@ -16,15 +16,15 @@ use Rattle.automata_files.proofs.unused.record_clean.Tie as tie
 
 abbrev table : List ℕ → List (ℕ × List (ℕ × ℕ))
 table r =
-    (33, (1, 2) ∷ (4, 16) ∷ [])
-    ∷ (34, (2, 16) ∷ [])
-    ∷ (35, (7, 16) ∷ [])
+    (33, (1, 1) ∷ (4, 15) ∷ [])
+    ∷ (34, (2, 15) ∷ [])
+    ∷ (35, (7, 15) ∷ [])
     ∷ (36, unusedLiteral r)
-    ∷ (37, (4, 16) ∷ [])
+    ∷ (37, (4, 15) ∷ [])
     ∷ (38, unusedVariable)
     ∷ (39, unusedNode r)
     ∷ (40, unusedUpdate r)
-    ∷ (41, (1, 2) ∷ (6, 16) ∷ [])
+    ∷ (41, (1, 1) ∷ (6, 15) ∷ [])
     ∷ []
 
 byte-at-requires : tie.Need-byte-at-requires
@@ -79,19 +79,19 @@ returns : tie.Need-returns
 unfolding all caseOf
 returns c =
     let r = c .before .before .before .before .before .args .r .now in
-    unused-two r (1, 2) (4, 16) ((4, 16) ∷ []) (c .before .byte-zero .ensures) (c .from-four-zero .ensures) refl ∙ ap (λ l. unusedAreZero l r) (entry (table r) [] 33 (c .before .before .match .keys1) (c .before .before .before .byte-at .ensures))
+    unused-two r (1, 1) (4, 15) ((4, 15) ∷ []) (c .before .byte-zero .ensures) (c .from-four-zero .ensures) refl ∙ ap (λ l. unusedAreZero l r) (entry (table r) [] 33 (c .before .before .match .keys1) (c .before .before .before .byte-at .ensures))
 
 returns-2 : tie.Need-returns-2
 unfolding all caseOf
 returns-2 c =
     let r = c .before .before .before .before .before .args .r .now in
-    unused-one r (2, 16) [] (joined r 2 4 16 (omega arith) (omega arith) (c .before .two-zero .ensures) (c .from-four-zero2 .ensures)) refl ∙ ap (λ l. unusedAreZero l r) (entry (table r) [] 34 (c .before .before .match .keys2) (c .before .before .before .byte-at .ensures))
+    unused-one r (2, 15) [] (joined r 2 3 15 (omega arith) (omega arith) (c .before .two-zero .ensures) (c .from-four-zero2 .ensures)) refl ∙ ap (λ l. unusedAreZero l r) (entry (table r) [] 34 (c .before .before .match .keys2) (c .before .before .before .byte-at .ensures))
 
 returns-3 : tie.Need-returns-3
 unfolding all caseOf
 returns-3 c =
     let r = c .before .before .before .before .before .args .r .now in
-    unused-one r (7, 16) [] (joined r 7 8 16 (omega arith) (omega arith) (c .before .byte-zero2 .ensures) (c .from-eight-zero .ensures)) refl ∙ ap (λ l. unusedAreZero l r) (entry (table r) [] 35 (c .before .before .match .keys3) (c .before .before .before .byte-at .ensures))
+    unused-one r (7, 15) [] (joined r 7 7 15 (omega arith) (omega arith) (c .before .byte-zero2 .ensures) (c .from-eight-zero .ensures)) refl ∙ ap (λ l. unusedAreZero l r) (entry (table r) [] 35 (c .before .before .match .keys3) (c .before .before .before .byte-at .ensures))
 
 returns-4 : tie.Need-returns-4
 unfolding all caseOf
@@ -103,13 +103,13 @@ returns-5 : tie.Need-returns-5
 unfolding all caseOf
 returns-5 c =
     let r = c .before .before .before .before .args .r .now in
-    unused-one r (4, 16) [] (c .from-four-zero3 .ensures) refl ∙ ap (λ l. unusedAreZero l r) (entry (table r) [] 37 (c .before .match .keys5) (c .before .before .byte-at .ensures))
+    unused-one r (4, 15) [] (c .from-four-zero3 .ensures) refl ∙ ap (λ l. unusedAreZero l r) (entry (table r) [] 37 (c .before .match .keys5) (c .before .before .byte-at .ensures))
 
 returns-6 : tie.Need-returns-6
 unfolding all caseOf
 returns-6 c =
     let r = c .before .before .before .before .before .args .r .now in
-    unused-two r (1, 2) (8, 16) ((8, 16) ∷ []) (c .before .byte-zero3 .ensures) (c .from-eight-zero2 .ensures) refl ∙ ap (λ l. unusedAreZero l r) (entry (table r) [] 38 (c .before .before .match .keys6) (c .before .before .before .byte-at .ensures))
+    unused-two r (1, 1) (8, 15) ((8, 15) ∷ []) (c .before .byte-zero3 .ensures) (c .from-eight-zero2 .ensures) refl ∙ ap (λ l. unusedAreZero l r) (entry (table r) [] 38 (c .before .before .match .keys6) (c .before .before .before .byte-at .ensures))
 
 returns-7 : tie.Need-returns-7
 unfolding all caseOf
@@ -127,7 +127,7 @@ returns-9 : tie.Need-returns-9
 unfolding all caseOf
 returns-9 c =
     let r = c .before .before .before .before .before .before .args .r .now in
-    unused-two r (1, 2) (6, 16) ((6, 16) ∷ []) (c .before .before .byte-zero4 .ensures) (joined r 6 8 16 (omega arith) (omega arith) (c .before .two-zero2 .ensures) (c .from-eight-zero3 .ensures)) refl ∙ ap (λ l. unusedAreZero l r) (entry (table r) [] 41 (c .before .before .before .match .keys9) (c .before .before .before .before .byte-at .ensures))
+    unused-two r (1, 1) (6, 15) ((6, 15) ∷ []) (c .before .before .byte-zero4 .ensures) (joined r 6 7 15 (omega arith) (omega arith) (c .before .two-zero2 .ensures) (c .from-eight-zero3 .ensures)) refl ∙ ap (λ l. unusedAreZero l r) (entry (table r) [] 41 (c .before .before .before .match .keys9) (c .before .before .before .before .byte-at .ensures))
 
 returns-10 : tie.Need-returns-10
 unfolding all caseOf

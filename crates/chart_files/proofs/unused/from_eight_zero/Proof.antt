@@ -12,7 +12,7 @@ four-zero-requires-2 : tie.Need-four-zero-requires-2
 four-zero-requires-2 c κs = search needs
 
 returns : tie.Need-returns
-returns c = joined (c .before .before .before .args .r .now) 8 12 16 (omega arith) (omega arith) (c .before .four-zero .ensures) (c .four-zero2 .ensures)
+returns c = joined (c .before .before .before .args .r .now) 8 11 15 (omega arith) (omega arith) (c .before .four-zero .ensures) (c .four-zero2 .ensures)
 
 pub from-eight-zero-spec : {M : Type 1} → statement M
 from-eight-zero-spec = tie.close (tie.spec four-zero-requires four-zero-requires-2 returns)

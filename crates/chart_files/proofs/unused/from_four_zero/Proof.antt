@@ -12,7 +12,7 @@ from-eight-zero-requires : tie.Need-from-eight-zero-requires
 from-eight-zero-requires c κs = search needs
 
 returns : tie.Need-returns
-returns c = joined (c .before .before .before .args .r .now) 4 8 16 (omega arith) (omega arith) (c .before .four-zero .ensures) (c .from-eight-zero .ensures)
+returns c = joined (c .before .before .before .args .r .now) 4 7 15 (omega arith) (omega arith) (c .before .four-zero .ensures) (c .from-eight-zero .ensures)
 
 pub from-four-zero-spec : {M : Type 1} → statement M
 from-four-zero-spec = tie.close (tie.spec four-zero-requires from-eight-zero-requires returns)

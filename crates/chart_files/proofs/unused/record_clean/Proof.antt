@@ -15,8 +15,8 @@ use Rattle.chart_files.proofs.unused.record_clean.Tie as tie
 
 abbrev table : List ℕ → List (ℕ × List (ℕ × ℕ))
 table r =
-    (1, (1, 2) ∷ (4, 16) ∷ [])
-    ∷ (2, (2, 16) ∷ [])
+    (1, (1, 1) ∷ (4, 15) ∷ [])
+    ∷ (2, (2, 15) ∷ [])
     ∷ (3, unusedTransition r)
     ∷ (4, unusedVariable)
     ∷ (5, unusedNode r)
@@ -57,13 +57,13 @@ returns : tie.Need-returns
 unfolding all caseOf
 returns c =
     let r = c .before .before .before .before .before .args .r .now in
-    unused-two r (1, 2) (4, 16) ((4, 16) ∷ []) (c .before .byte-zero .ensures) (c .from-four-zero .ensures) refl ∙ ap (λ l. unusedAreZero l r) (entry (table r) [] 1 (c .before .before .match .keys1) (c .before .before .before .byte-at .ensures))
+    unused-two r (1, 1) (4, 15) ((4, 15) ∷ []) (c .before .byte-zero .ensures) (c .from-four-zero .ensures) refl ∙ ap (λ l. unusedAreZero l r) (entry (table r) [] 1 (c .before .before .match .keys1) (c .before .before .before .byte-at .ensures))
 
 returns-2 : tie.Need-returns-2
 unfolding all caseOf
 returns-2 c =
     let r = c .before .before .before .before .before .args .r .now in
-    unused-one r (2, 16) [] (joined r 2 4 16 (omega arith) (omega arith) (c .before .two-zero .ensures) (c .from-four-zero2 .ensures)) refl ∙ ap (λ l. unusedAreZero l r) (entry (table r) [] 2 (c .before .before .match .keys2) (c .before .before .before .byte-at .ensures))
+    unused-one r (2, 15) [] (joined r 2 3 15 (omega arith) (omega arith) (c .before .two-zero .ensures) (c .from-four-zero2 .ensures)) refl ∙ ap (λ l. unusedAreZero l r) (entry (table r) [] 2 (c .before .before .match .keys2) (c .before .before .before .byte-at .ensures))
 
 returns-3 : tie.Need-returns-3
 unfolding all caseOf
@@ -75,7 +75,7 @@ returns-4 : tie.Need-returns-4
 unfolding all caseOf
 returns-4 c =
     let r = c .before .before .before .before .before .args .r .now in
-    unused-two r (1, 2) (8, 16) ((8, 16) ∷ []) (c .before .byte-zero2 .ensures) (c .from-eight-zero .ensures) refl ∙ ap (λ l. unusedAreZero l r) (entry (table r) [] 4 (c .before .before .match .keys4) (c .before .before .before .byte-at .ensures))
+    unused-two r (1, 1) (8, 15) ((8, 15) ∷ []) (c .before .byte-zero2 .ensures) (c .from-eight-zero .ensures) refl ∙ ap (λ l. unusedAreZero l r) (entry (table r) [] 4 (c .before .before .match .keys4) (c .before .before .before .byte-at .ensures))
 
 returns-5 : tie.Need-returns-5
 unfolding all caseOf
