@@ -16,16 +16,16 @@ use Rattle.automata.specs.declared.index.Span.{Span}
 abbrev pub ownerIn : List ℕ → ℕ → ℕ
 ownerIn s n = two s (16 * n + 2)
 
-abbrev pub owned : List ℕ → ℕ → ℕ → Bool
-owned s o n = eqb (ownerIn s n) o
+abbrev pub ownedBy : List ℕ → ℕ → ℕ → Bool
+ownedBy s o n = eqb (ownerIn s n) o
 
 -- Of the records from `start` up to `end` each names the next of its owner; 65,535 is none.
 abbrev pub NextOf : List ℕ → ℕ → ℕ → List ℕ → Type 0
-NextOf s start end next = (n : ℕ) → start ≤ n → n < end → getD next n 0 ≡ earliest (owned s (ownerIn s n)) (n + 1) (end - (n + 1))
+NextOf s start end next = (n : ℕ) → start ≤ n → n < end → getD next n 0 ≡ earliest (ownedBy s (ownerIn s n)) (n + 1) (end - (n + 1))
 
 -- And of each owner the first is named at the owner's key, `base` and its number.
 pub record Linked (s : List ℕ) (start end base owners : ℕ) (first next : List ℕ) : Type 0 where
-  pub first-of : (o : ℕ) → o < owners → getD first (base + o) 0 ≡ earliest (owned s o) start (end - start)
+  pub first-of : (o : ℕ) → o < owners → getD first (base + o) 0 ≡ earliest (ownedBy s o) start (end - start)
   pub next-of : NextOf s start end next
 
 -- outside some places

@@ -14,13 +14,13 @@ abbrev pub playedOf : Played → Outcome ℕ M.Run
 playedOf p = record { answer = cyclesOf (p .answer); lent = runOf (p .run) }
 
 -- A run that can go on: possible, and between cycles.
-pub record Rested (m : M.Machine) (r : M.Run) : Type 0 where
+pub record BetweenCycles (m : M.Machine) (r : M.Run) : Type 0 where
   pub fit : T (M.possible m r)
   pub position : r .world .position ≡ 1
   pub events : r .world .events ≡ 0
 
 -- how many cycles were played, and the run after them
-pub record RestOf (p : Playing.Played) (count : ℕ) (r : M.Run) : Type 0 where
+pub record PlayedTo (p : Playing.Played) (count : ℕ) (r : M.Run) : Type 0 where
   pub number : count ≡ p .count
   pub run : r ≡ p .run
   pub few : count ≤ 1_000_000

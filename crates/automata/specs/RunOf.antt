@@ -41,8 +41,8 @@ abbrev pub grownAt : List ℕ → Shape → ℕ → ℕ → ℕ
 grownAt s sh k x = cond (ltb k (sh .clocks)) (grown (clockAt s sh k .timing) (clockAt s sh k .ticks) x) x
 
 -- no clock in use is over the highest top, so that each has room for one more
-abbrev pub Low : ℕ → List ℕ → Type 0
-Low count clocks = (k : ℕ) → k < count → getD clocks k 0 ≤ 36_001
+abbrev pub ClocksPossible : ℕ → List ℕ → Type 0
+ClocksPossible count clocks = (k : ℕ) → k < count → getD clocks k 0 ≤ 36_001
 
 -- ---- a clock's growth by two limits: where it turns, and where it stops; 65,535 is nowhere
 

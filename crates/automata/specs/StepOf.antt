@@ -15,8 +15,8 @@ use Rattle.automata.specs.declared.edges.Tally.{Tally}
 use Rattle.automata.specs.declared.edges.Tally.the-variants.{Nothing, One, Many}
 use Rattle.automata.specs.declared.edges.Counted as declared-counted
 use Rattle.automata.specs.declared.edges.Choice as declared-choice
-use Rattle.automata.specs.declared.steps.Went.{Went}
-use Rattle.automata.specs.declared.steps.Went.the-variants.{Taken, Fault}
+use Rattle.automata.specs.declared.steps.Stepped.{Stepped}
+use Rattle.automata.specs.declared.steps.Stepped.the-variants.{Taken, Fault}
 use Rattle.automata.specs.RunOf.{runIn}
 
 -- ---- open edges
@@ -76,11 +76,11 @@ takeEdge au automaton r e =
     >>= λ w. val (taken e, entered r automaton (edge au e .target) (reset (of e (au .resets)) (r .timers)) w)
 
 -- A fault leaves locations and clocks as they were. The variables may have values of the updates before it: nothing is said of them.
-abbrev pub FaultKeeps : Went → List ℕ → List ℕ → List ℕ → List ℕ → Type 0
+abbrev pub FaultKeeps : Stepped → List ℕ → List ℕ → List ℕ → List ℕ → Type 0
 FaultKeeps (Taken e events) at₀ clocks₀ at clocks = Unit
 FaultKeeps (Fault w) at₀ clocks₀ at clocks = (at ≡ at₀) × (clocks ≡ clocks₀)
 
 -- the turn by what is in the places after it; it leaves position and count as they are
-abbrev pub wentOf : Went → List ℕ → List ℕ → List ℤ → ℕ → ℕ → Out (Answer × Run)
-wentOf (Taken e events) at clocks vars position cycles = val (taken e, runIn at clocks vars events position cycles)
-wentOf (Fault w) at clocks vars position cycles = fault (reasonOf w)
+abbrev pub steppedOf : Stepped → List ℕ → List ℕ → List ℤ → ℕ → ℕ → Out (Answer × Run)
+steppedOf (Taken e events) at clocks vars position cycles = val (taken e, runIn at clocks vars events position cycles)
+steppedOf (Fault w) at clocks vars position cycles = fault (reasonOf w)

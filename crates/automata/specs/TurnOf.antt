@@ -13,11 +13,11 @@ use Rattle.machines.specs.declared.answers.Ending.{Ending}
 use Rattle.automata_files.specs.declared.Shape.{Shape}
 use Rattle.automata.specs.declared.turns.Turned.{Turned}
 use Rattle.automata.specs.declared.cycles.Called.{Called}
-use Rattle.automata.specs.declared.cycles.Gone.{Gone}
-use Rattle.automata.specs.declared.cycles.Gone.the-variants.{All, Fault}
+use Rattle.automata.specs.declared.cycles.Progress.{Progress}
+use Rattle.automata.specs.declared.cycles.Progress.the-variants.{Done, Fault}
 use Rattle.automata.specs.Accepted.{Accepted}
 use Rattle.automata.specs.Index.{HasIndex}
-use Rattle.automata.specs.RunOf.{Low, runOf}
+use Rattle.automata.specs.RunOf.{ClocksPossible, runOf}
 
 -- a turn's answer, and a cycle's, with the lent run afterwards
 abbrev pub turnOf : Turned → Outcome M.Answer M.Run
@@ -34,31 +34,31 @@ abbrev pub endedOf : Ending → M.Run → Out (Unit {0} × M.Run)
 endedOf e r = endingOf e >>= λ x. val (x, r)
 
 -- What is known of a table whose turns are taken: it is accepted, and its index is its own.
-pub record Known (s : List ℕ) (sh : Shape) (first next : List ℕ) : Type 0 where
+pub record Prepared (s : List ℕ) (sh : Shape) (first next : List ℕ) : Type 0 where
   pub accepted : Accepted s sh
   pub has-index : HasIndex s sh first next
 
 -- of so many clocks none is over the highest top
-abbrev pub lowAt : Shape → ℕ → ℕ → ℕ → Type 0
-lowAt sh cycles k x = k < sh .clocks → x ≤ 36_001
+abbrev pub clockPossibleAt : Shape → ℕ → ℕ → ℕ → Type 0
+clockPossibleAt sh cycles k x = k < sh .clocks → x ≤ 36_001
 
 -- A run in the midst of a cycle: its position is one of the automata's or time's, and time can pass.
 abbrev pub Ready : Shape → M.Run → Type 0
-Ready sh r = R.Ready (sh .automata) (lowAt sh) r
+Ready sh r = R.Ready (sh .automata) (clockPossibleAt sh) r
 
 -- ---- turns in place, by the run in the places after them
 
 -- the automata's turns, after which time passes
-abbrev pub goneOf : M.Machine → Gone → M.Run → Out M.Run
-goneOf m All r = val (M.timePassed m r)
-goneOf m (Fault w) r = fault (reasonOf w)
+abbrev pub progressOf : M.Machine → Progress → M.Run → Out M.Run
+progressOf m Done r = val (M.timePassed m r)
+progressOf m (Fault w) r = fault (reasonOf w)
 
 -- of a cycle's clocks before time passes: as many as before, and there is room to grow
-abbrev pub GoneLow : ℕ → List ℕ → Gone → List ℕ → Type 0
-GoneLow count clocks₀ All clocks = (length clocks ≡ length clocks₀) × Low count clocks
-GoneLow count clocks₀ (Fault w) clocks = Unit
+abbrev pub ClocksLeft : ℕ → List ℕ → Progress → List ℕ → Type 0
+ClocksLeft count clocks₀ Done clocks = (length clocks ≡ length clocks₀) × ClocksPossible count clocks
+ClocksLeft count clocks₀ (Fault w) clocks = Unit
 
 -- a whole cycle
-abbrev pub cycledOf : Gone → M.Run → Out M.Run
-cycledOf All r = val r
+abbrev pub cycledOf : Progress → M.Run → Out M.Run
+cycledOf Done r = val r
 cycledOf (Fault w) r = fault (reasonOf w)

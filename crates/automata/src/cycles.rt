@@ -10,12 +10,12 @@ ghost use Rattle.machines.specs.Turns.{after};
 ghost use Rattle.automata.specs.Accepted.{Accepted};
 ghost use Rattle.automata.specs.Index.{RoomFor};
 ghost use Rattle.automata.specs.RunOf.{runIn, runOf, Sized, HasLimits};
-ghost use Rattle.automata.specs.TurnOf.{calledOf, Known, Ready, goneOf, GoneLow, cycledOf, endedOf};
+ghost use Rattle.automata.specs.TurnOf.{calledOf, Prepared, Ready, progressOf, ClocksLeft, cycledOf, endedOf};
 use super::index::index_of;
 use super::runs::Run;
 use super::runs::before_turn;
 use super::runs::grow;
-use super::steps::Went;
+use super::steps::Stepped;
 use super::steps::edge_step;
 use super::turns::turn;
 use automata_files::Shape;
@@ -32,7 +32,7 @@ pub struct Called {
 }
 
 // A cycle is its turns, one call after the other, up to time's; its events are given to the first. If a turn faults or is refused, the run is as it was.
-fn turns_called(
+fn turns_of_cycle(
     s: &[u8],
     shape: Shape,
     first: &[u16; 896],
@@ -40,7 +40,7 @@ fn turns_called(
     run: Run,
     events: u32,
 ) -> Called
-    requires { ⌜ Known (now s) shape (now first) (now next) ⌝ }
+    requires { ⌜ Prepared (now s) shape (now first) (now next) ⌝ }
     ensures { λ r. ⌜ calledOf r ≡ settled (runOf run) (model-cycle (machine (readAutomata (now (s .entry)))) events (runOf run)) ⌝ }
 {
     let mut present = run;
@@ -81,14 +81,14 @@ fn turns_called(
 }
 
 // The same, with the index in what is lent, which names nothing yet.
-fn cycle_indexed(s: &[u8], shape: Shape, next: &mut [u16], run: Run, events: u32) -> Called
+fn cycle_making_index(s: &[u8], shape: Shape, next: &mut [u16], run: Run, events: u32) -> Called
     requires { ⌜ Accepted (now s) shape ⌝ }
     requires { ⌜ RoomFor shape (now next) ⌝ }
     ensures { λ r. ⌜ calledOf r ≡ settled (runOf run) (model-cycle (machine (readAutomata (now (s .entry)))) events (runOf run)) ⌝ }
 {
     let mut first = [65535u16; 896];
     index_of(s, shape, &mut first, next);
-    turns_called(s, shape, &first, next, run, events)
+    turns_of_cycle(s, shape, &first, next, run, events)
 }
 
 // A cycle of an accepted table: all its turns, or none. The index is that of a turn.
@@ -98,21 +98,21 @@ pub fn cycle_by_turns(s: &[u8], shape: Shape, run: Run, events: u32) -> Called
 {
     if s.len() <= 16384 {
         let mut next = [65535u16; 1024];
-        cycle_indexed(s, shape, &mut next, run, events)
+        cycle_making_index(s, shape, &mut next, run, events)
     } else {
         let mut next = [14536u16; 14536];
-        cycle_indexed(s, shape, &mut next, run, events)
+        cycle_making_index(s, shape, &mut next, run, events)
     }
 }
 
 // What turns in place come to: all were taken, or why one was not.
-pub enum Gone {
-    All,
+pub enum Progress {
+    Done,
     Fault(Reason),
 }
 
 // The automata's turns of a cycle, in place, from the present position on.
-fn automata_taken(
+fn automata_turns(
     s: &[u8],
     shape: Shape,
     first: &[u16; 896],
@@ -123,11 +123,11 @@ fn automata_taken(
     events: u32,
     position: u32,
     cycles: u32,
-) -> Gone
-    requires { ⌜ Known (now s) shape (now first) (now next) ⌝ }
+) -> Progress
+    requires { ⌜ Prepared (now s) shape (now first) (now next) ⌝ }
     requires { ⌜ Ready shape (runIn (now locations) (now clocks) (now vars) events position cycles) ⌝ }
-    ensures { λ r. ⌜ goneOf (machine (readAutomata (now (s .entry)))) r (runIn (now (locations .exit)) (now (clocks .exit)) (now (vars .exit)) 0 (shape .automata + 1) cycles) ≡ after (machine (readAutomata (now (s .entry)))) (shape .automata + 2 - position) (runIn (now (locations .entry)) (now (clocks .entry)) (now (vars .entry)) events position cycles) ⌝ }
-    ensures { λ r. ⌜ GoneLow (shape .clocks) (now (clocks .entry)) r (now (clocks .exit)) ⌝ }
+    ensures { λ r. ⌜ progressOf (machine (readAutomata (now (s .entry)))) r (runIn (now (locations .exit)) (now (clocks .exit)) (now (vars .exit)) 0 (shape .automata + 1) cycles) ≡ after (machine (readAutomata (now (s .entry)))) (shape .automata + 2 - position) (runIn (now (locations .entry)) (now (clocks .entry)) (now (vars .entry)) events position cycles) ⌝ }
+    ensures { λ r. ⌜ ClocksLeft (shape .clocks) (now (clocks .entry)) r (now (clocks .exit)) ⌝ }
 {
     let mut present = events;
     let mut automaton = (position - 1) as u16;
@@ -143,18 +143,18 @@ fn automata_taken(
             vars,
             present,
         ) {
-            Went::Fault(w) => return Gone::Fault(w),
-            Went::Taken(_, x) => {
+            Stepped::Fault(w) => return Progress::Fault(w),
+            Stepped::Taken(_, x) => {
                 present = x;
                 automaton += 1;
             }
         }
     }
-    Gone::All
+    Progress::Done
 }
 
 // A cycle in place, from the present position on. After a fault the places are of no use.
-fn cycle_gone(
+fn cycle_or_fault(
     s: &[u8],
     shape: Shape,
     first: &[u16; 896],
@@ -167,14 +167,14 @@ fn cycle_gone(
     events: u32,
     position: u32,
     cycles: u32,
-) -> Gone
-    requires { ⌜ Known (now s) shape (now first) (now next) ⌝ }
+) -> Progress
+    requires { ⌜ Prepared (now s) shape (now first) (now next) ⌝ }
     requires { ⌜ Ready shape (runIn (now locations) (now clocks) (now vars) events position cycles) ⌝ }
     requires { ⌜ length (now clocks) ≡ 256 ⌝ }
     requires { ⌜ HasLimits (now s) shape (now turn) (now cap) ⌝ }
     ensures { λ r. ⌜ cycledOf r (runIn (now (locations .exit)) (now (clocks .exit)) (now (vars .exit)) 0 1 (cycles + 1)) ≡ after (machine (readAutomata (now (s .entry)))) (shape .automata + 2 - position) (runIn (now (locations .entry)) (now (clocks .entry)) (now (vars .entry)) events position cycles) ⌝ }
 {
-    match automata_taken(
+    match automata_turns(
         s,
         shape,
         first,
@@ -186,16 +186,16 @@ fn cycle_gone(
         position,
         cycles,
     ) {
-        Gone::Fault(w) => Gone::Fault(w),
-        Gone::All => {
+        Progress::Fault(w) => Progress::Fault(w),
+        Progress::Done => {
             grow(s, shape, turn, cap, clocks);
-            Gone::All
+            Progress::Done
         }
     }
 }
 
 // A cycle in place, from the present position on: all its turns, or none.
-pub fn cycle_in_place(
+pub fn cycle_or_none(
     s: &[u8],
     shape: Shape,
     first: &[u16; 896],
@@ -208,18 +208,18 @@ pub fn cycle_in_place(
     events: u32,
     position: u32,
     cycles: u32,
-) -> Gone
-    requires { ⌜ Known (now s) shape (now first) (now next) ⌝ }
+) -> Progress
+    requires { ⌜ Prepared (now s) shape (now first) (now next) ⌝ }
     requires { ⌜ Ready shape (runIn (now locations) (now clocks) (now vars) events position cycles) ⌝ }
     requires { ⌜ length (now clocks) ≡ 256 ⌝ }
     requires { ⌜ HasLimits (now s) shape (now turn) (now cap) ⌝ }
     ensures { λ r. ⌜ cycledOf r (runIn (now (locations .exit)) (now (clocks .exit)) (now (vars .exit)) 0 1 (cycles + 1)) ≡ after (machine (readAutomata (now (s .entry)))) (shape .automata + 2 - position) (runIn (now (locations .entry)) (now (clocks .entry)) (now (vars .entry)) events position cycles) ⌝ }
-    ensures { λ r. ⌜ ((w : Reason) → r ≡ Gone.Fault w → runIn (now (locations .exit)) (now (clocks .exit)) (now (vars .exit)) ≡ runIn (now (locations .entry)) (now (clocks .entry)) (now (vars .entry))) ⌝ }
+    ensures { λ r. ⌜ ((w : Reason) → r ≡ Progress.Fault w → runIn (now (locations .exit)) (now (clocks .exit)) (now (vars .exit)) ≡ runIn (now (locations .entry)) (now (clocks .entry)) (now (vars .entry))) ⌝ }
 {
     let locations_before = *locations;
     let clocks_before = *clocks;
     let vars_before = *vars;
-    match cycle_gone(
+    match cycle_or_fault(
         s,
         shape,
         first,
@@ -233,18 +233,18 @@ pub fn cycle_in_place(
         position,
         cycles,
     ) {
-        Gone::Fault(w) => {
+        Progress::Fault(w) => {
             *locations = locations_before;
             *clocks = clocks_before;
             *vars = vars_before;
-            Gone::Fault(w)
+            Progress::Fault(w)
         }
-        Gone::All => Gone::All,
+        Progress::Done => Progress::Done,
     }
 }
 
 // A cycle of any run, in place, after the checks. After it there are no events, at position 1; of the places after a fault nothing is said.
-pub fn cycle_checked(
+pub fn cycle_after_checks(
     s: &[u8],
     shape: Shape,
     first: &[u16; 896],
@@ -259,7 +259,7 @@ pub fn cycle_checked(
     cycles: u32,
     events: u32,
 ) -> Ending
-    requires { ⌜ Known (now s) shape (now first) (now next) ⌝ }
+    requires { ⌜ Prepared (now s) shape (now first) (now next) ⌝ }
     requires { ⌜ Sized (now locations) (now clocks) (now vars) ⌝ }
     requires { ⌜ HasLimits (now s) shape (now turn) (now cap) ⌝ }
     ensures { λ r. ⌜ endedOf r (runIn (now (locations .exit)) (now (clocks .exit)) (now (vars .exit)) 0 1 (cycles + 1)) ≡ model-cycle (machine (readAutomata (now (s .entry)))) events (runIn (now (locations .entry)) (now (clocks .entry)) (now (vars .entry)) present position cycles) ⌝ }
@@ -276,9 +276,9 @@ pub fn cycle_checked(
         events,
     ) {
         Before::Refused(w) => Ending::Refused(w),
-        Before::Fine => {
+        Before::Passed => {
             let given = events_given(events, position, present);
-            match cycle_in_place(
+            match cycle_or_none(
                 s,
                 shape,
                 first,
@@ -292,8 +292,8 @@ pub fn cycle_checked(
                 position,
                 cycles,
             ) {
-                Gone::Fault(w) => Ending::Fault(w),
-                Gone::All => Ending::Done,
+                Progress::Fault(w) => Ending::Fault(w),
+                Progress::Done => Ending::Done,
             }
         }
     }

@@ -37,7 +37,7 @@ pub enum Choice {
 }
 
 fn read_fault(w: expressions::arithmetic::Reason) -> Reason
-    ensures { λ r. ⌜ reasonOf r ≡ expressions-answers.reasonOf w ⌝ }
+    ensures { λ r. ⌜ reasonOf r ≡ expressions-answers.valueReasonOf w ⌝ }
 {
     match w {
         expressions::arithmetic::Reason::Range => Reason::Range,

@@ -5,7 +5,7 @@ ghost use Prim.Native.Nat.{_≤_, _<_};
 ghost use lib.IntN.{ℤ};
 ghost use Rattle.expressions.specs.Answers.{truthOf};
 ghost use Rattle.model.specs.AutomataTable.{readAutomata};
-ghost use Rattle.model.specs.Automata.{causeHolds, conditionHolds, literalHolds};
+ghost use Rattle.model.specs.Automata.{literalTriggerHolds, conditionHolds, literalHolds};
 ghost use Rattle.automata_files.specs.Places.{firstLiteral, firstClock, literalIn};
 ghost use Rattle.automata.specs.Accepted.{Accepted};
 ghost use Rattle.automata.specs.StepOf.{bareRun};
@@ -22,7 +22,7 @@ use machines::values::guard_holds;
 // Whether the trigger of literal n holds; a clock's holds at the clock's ticks.
 fn trigger_holds(s: &[u8], shape: Shape, clocks: &[u16; 256], events: u32, n: u16) -> bool
     requires { ⌜ Accepted (now s) shape × (firstLiteral shape ≤ n) × (n < firstClock shape) ⌝ }
-    ensures { λ r. ⌜ ((vars : List ℤ) → r ≡ causeHolds (readAutomata (now (s .entry))) (bareRun (now (clocks .entry)) vars events) (literalIn (now (s .entry)) n .1 .cause)) ⌝ }
+    ensures { λ r. ⌜ ((vars : List ℤ) → r ≡ literalTriggerHolds (readAutomata (now (s .entry))) (bareRun (now (clocks .entry)) vars events) (literalIn (now (s .entry)) n .1 .trigger)) ⌝ }
 {
     let code = byte_of(s, n, 4);
     if code == 1 {

@@ -7,11 +7,11 @@ ghost use Rattle.machines.specs.Playing.{played, playing};
 ghost use Rattle.automata.specs.Accepted.{Accepted};
 ghost use Rattle.automata.specs.Index.{RoomFor};
 ghost use Rattle.automata.specs.RunOf.{runIn, runOf, HasLimits};
-ghost use Rattle.automata.specs.TurnOf.{Known};
-ghost use Rattle.automata.specs.PlayedOf.{Rested, RestOf, playedOf};
-use super::cycles::Gone;
-use super::cycles::cycle_checked;
-use super::cycles::cycle_in_place;
+ghost use Rattle.automata.specs.TurnOf.{Prepared};
+ghost use Rattle.automata.specs.PlayedOf.{BetweenCycles, PlayedTo, playedOf};
+use super::cycles::Progress;
+use super::cycles::cycle_after_checks;
+use super::cycles::cycle_or_none;
 use super::index::index_of;
 use super::runs::Run;
 use super::runs::limits_of;
@@ -31,7 +31,7 @@ pub struct Rest {
     pub run: Run,
 }
 
-fn rest_at(
+fn further_to(
     locations: [u16; 8],
     clocks: [u16; 256],
     variables: [i16; 64],
@@ -52,7 +52,7 @@ fn rest_at(
 }
 
 // Cycles in place, one for each mask, until one faults or 1,000,000 are done. A cycle that is done leaves a possible run, so that only the count is asked.
-fn rest_played(
+fn further_cycles(
     s: &[u8],
     shape: Shape,
     first: &[u16; 896],
@@ -62,10 +62,10 @@ fn rest_played(
     run: Run,
     masks: &[u32],
 ) -> Rest
-    requires { ⌜ Known (now s) shape (now first) (now next) ⌝ }
+    requires { ⌜ Prepared (now s) shape (now first) (now next) ⌝ }
     requires { ⌜ HasLimits (now s) shape (now turn) (now cap) ⌝ }
-    requires { ⌜ Rested (machine (readAutomata (now s))) (runOf run) ⌝ }
-    ensures { λ r. ⌜ RestOf (played (machine (readAutomata (now (s .entry)))) (now (masks .entry)) (runOf run)) (r .count) (runOf (r .run)) ⌝ }
+    requires { ⌜ BetweenCycles (machine (readAutomata (now s))) (runOf run) ⌝ }
+    ensures { λ r. ⌜ PlayedTo (played (machine (readAutomata (now (s .entry)))) (now (masks .entry)) (runOf run)) (r .count) (runOf (r .run)) ⌝ }
 {
     let mut locations = run.locations;
     let mut clocks = run.clocks;
@@ -74,9 +74,9 @@ fn rest_played(
     let mut k: usize = 0;
     while k < masks.len() {
         if cycles == 1000000 {
-            return rest_at(locations, clocks, variables, cycles, k as u32);
+            return further_to(locations, clocks, variables, cycles, k as u32);
         }
-        match cycle_in_place(
+        match cycle_or_none(
             s,
             shape,
             first,
@@ -90,20 +90,20 @@ fn rest_played(
             1,
             cycles,
         ) {
-            Gone::Fault(_) => {
-                return rest_at(locations, clocks, variables, cycles, k as u32);
+            Progress::Fault(_) => {
+                return further_to(locations, clocks, variables, cycles, k as u32);
             }
-            Gone::All => {
+            Progress::Done => {
                 cycles += 1;
                 k += 1;
             }
         }
     }
-    rest_at(locations, clocks, variables, cycles, k as u32)
+    further_to(locations, clocks, variables, cycles, k as u32)
 }
 
 // Cycles of an accepted table, one for each mask, until one is refused or faults. That is told only of the first.
-fn cycles_played(
+fn play_with_index(
     s: &[u8],
     shape: Shape,
     first: &[u16; 896],
@@ -113,7 +113,7 @@ fn cycles_played(
     run: Run,
     masks: &[u32],
 ) -> Played
-    requires { ⌜ Known (now s) shape (now first) (now next) ⌝ }
+    requires { ⌜ Prepared (now s) shape (now first) (now next) ⌝ }
     requires { ⌜ HasLimits (now s) shape (now turn) (now cap) ⌝ }
     ensures { λ r. ⌜ playedOf r ≡ settled (runOf run) (playing (machine (readAutomata (now (s .entry)))) (now (masks .entry)) (runOf run)) ⌝ }
 {
@@ -126,7 +126,7 @@ fn cycles_played(
     let mut locations = run.locations;
     let mut clocks = run.clocks;
     let mut variables = run.variables;
-    match cycle_checked(
+    match cycle_after_checks(
         s,
         shape,
         first,
@@ -143,7 +143,7 @@ fn cycles_played(
     ) {
         Ending::Done => {
             let after = run_in(&locations, &clocks, &variables, 0, 1, run.cycles + 1);
-            let rest = rest_played(s, shape, first, next, turn, cap, after, &masks[1..]);
+            let rest = further_cycles(s, shape, first, next, turn, cap, after, &masks[1..]);
             let last = rest.run;
             Played {
                 answer: Cycles::Done(rest.count + 1),
@@ -162,7 +162,7 @@ fn cycles_played(
 }
 
 // The same, with the clocks' limits, and the index in what is lent, which names nothing yet.
-fn play_indexed(s: &[u8], shape: Shape, next: &mut [u16], run: Run, masks: &[u32]) -> Played
+fn play_making_index(s: &[u8], shape: Shape, next: &mut [u16], run: Run, masks: &[u32]) -> Played
     requires { ⌜ Accepted (now s) shape ⌝ }
     requires { ⌜ RoomFor shape (now next) ⌝ }
     ensures { λ r. ⌜ playedOf r ≡ settled (runOf run) (playing (machine (readAutomata (now (s .entry)))) (now (masks .entry)) (runOf run)) ⌝ }
@@ -172,7 +172,7 @@ fn play_indexed(s: &[u8], shape: Shape, next: &mut [u16], run: Run, masks: &[u32
     let mut cap = [65535u16; 256];
     index_of(s, shape, &mut first, next);
     limits_of(s, shape, &mut turn, &mut cap);
-    cycles_played(s, shape, &first, next, &turn, &cap, run, masks)
+    play_with_index(s, shape, &first, next, &turn, &cap, run, masks)
 }
 
 // Many cycles of an accepted table. The index is that of a turn.
@@ -182,9 +182,9 @@ pub fn play_in_place(s: &[u8], shape: Shape, run: Run, masks: &[u32]) -> Played
 {
     if s.len() <= 16384 {
         let mut next = [65535u16; 1024];
-        play_indexed(s, shape, &mut next, run, masks)
+        play_making_index(s, shape, &mut next, run, masks)
     } else {
         let mut next = [14536u16; 14536];
-        play_indexed(s, shape, &mut next, run, masks)
+        play_making_index(s, shape, &mut next, run, masks)
     }
 }

@@ -5,14 +5,14 @@ ghost use mathlib.Core.Bool.{cond};
 ghost use lib.Dec.{leb, eqb};
 ghost use lib.ListN.{length, getD};
 ghost use Rattle.records.specs.Lists.{all, upto, mapFrom};
-ghost use Rattle.model.specs.Runs.{start as started, possible, checked};
+ghost use Rattle.model.specs.Runs.{start as started, possible, checked, restZero};
 ghost use Rattle.model.specs.AutomataTable.{readAutomata};
 ghost use Rattle.model.specs.Automata.{automata as machine, top, grown};
 ghost use Rattle.automata_files.specs.Shape.{IsShape};
 ghost use Rattle.automata_files.specs.Places.{clockAt};
-ghost use Rattle.machines.specs.Checks.{zeros, beforeOf};
+ghost use Rattle.machines.specs.Checks.{beforeOf};
 ghost use Rattle.automata.specs.Accepted.{Accepted};
-ghost use Rattle.automata.specs.RunOf.{runIn, runOf, Sized, timingIf, topAt, grownAt, Low, turnFor, capFor, grownTo, turnAt, capAt, HasLimits};
+ghost use Rattle.automata.specs.RunOf.{runIn, runOf, Sized, timingIf, topAt, grownAt, ClocksPossible, turnFor, capFor, grownTo, turnAt, capAt, HasLimits};
 use super::fields::is_after;
 use super::fields::ticks_of;
 use super::values::values_of;
@@ -113,7 +113,7 @@ fn clocks_possible(s: &[u8], shape: Shape, clocks: &[u16; 256]) -> bool
 // All are read, so that many are compared at once.
 fn clocks_unused(count: u16, clocks: &[u16; 256]) -> bool
     requires { ⌜ length (now clocks) ≡ 256 ⌝ }
-    ensures { λ r. ⌜ r ≡ zeros count (now (clocks .entry)) ⌝ }
+    ensures { λ r. ⌜ r ≡ restZero count (now (clocks .entry)) ⌝ }
 {
     let mut unused = true;
     let mut k = count as usize;
@@ -224,7 +224,7 @@ fn clock_grown(s: &[u8], shape: Shape, turn: &[u16; 256], cap: &[u16; 256], k: u
 pub fn grow(s: &[u8], shape: Shape, turn: &[u16; 256], cap: &[u16; 256], clocks: &mut [u16; 256])
     requires { ⌜ Accepted (now s) shape × HasLimits (now s) shape (now turn) (now cap) ⌝ }
     requires { ⌜ length (now clocks) ≡ 256 ⌝ }
-    requires { ⌜ Low (shape .clocks) (now clocks) ⌝ }
+    requires { ⌜ ClocksPossible (shape .clocks) (now clocks) ⌝ }
     ensures { λ _. ⌜ now (clocks .exit) ≡ mapFrom 0 (grownAt (now (s .entry)) shape) (now (clocks .entry)) ⌝ }
 {
     let mut k: u16 = 0;
@@ -239,7 +239,7 @@ pub fn grow(s: &[u8], shape: Shape, turn: &[u16; 256], cap: &[u16; 256], clocks:
 pub fn pass_time(s: &[u8], shape: Shape, clocks: &mut [u16; 256])
     requires { ⌜ Accepted (now s) shape ⌝ }
     requires { ⌜ length (now clocks) ≡ 256 ⌝ }
-    requires { ⌜ Low (shape .clocks) (now clocks) ⌝ }
+    requires { ⌜ ClocksPossible (shape .clocks) (now clocks) ⌝ }
     ensures { λ _. ⌜ now (clocks .exit) ≡ mapFrom 0 (grownAt (now (s .entry)) shape) (now (clocks .entry)) ⌝ }
 {
     let mut turn = [65535u16; 256];

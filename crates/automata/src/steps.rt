@@ -10,9 +10,9 @@ ghost use Rattle.automata_files.specs.Places.{firstUpdate, firstReset, updateIn
 ghost use Rattle.machines.specs.Chains.{earliest};
 ghost use Rattle.machines.specs.Worlds.{worldIn, worldAfter};
 ghost use Rattle.automata.specs.Accepted.{Accepted};
-ghost use Rattle.automata.specs.Index.{owned, NextOf, HasIndex, RoomFor};
+ghost use Rattle.automata.specs.Index.{ownedBy, NextOf, HasIndex, RoomFor};
 ghost use Rattle.automata.specs.RunOf.{runIn};
-ghost use Rattle.automata.specs.StepOf.{takeEdge, wentOf, FaultKeeps};
+ghost use Rattle.automata.specs.StepOf.{takeEdge, steppedOf, FaultKeeps};
 use super::edges::Choice;
 use super::edges::open_edge;
 use super::fields::byte_of;
@@ -27,7 +27,7 @@ use machines::deeds::assign;
 use machines::deeds::raised;
 
 // The edge taken and the events after it, or why none is taken.
-pub enum Went {
+pub enum Stepped {
     Taken(u16, u32),
     Fault(Reason),
 }
@@ -55,7 +55,7 @@ fn clock_of(s: &[u8], shape: Shape, n: u16) -> u16
 
 // An edge's resets, from the record on where they start.
 fn reset_clocks(s: &[u8], shape: Shape, next: &[u16], start: u16, e: u16, clocks: &mut [u16; 256])
-    requires { ⌜ Accepted (now s) shape × NextOf (now s) (firstReset shape) (firstReset shape + shape .resets) (now next) × RoomFor shape (now next) × (start ≡ earliest (owned (now s) e) (firstReset shape) (firstReset shape + shape .resets - firstReset shape)) ⌝ }
+    requires { ⌜ Accepted (now s) shape × NextOf (now s) (firstReset shape) (firstReset shape + shape .resets) (now next) × RoomFor shape (now next) × (start ≡ earliest (ownedBy (now s) e) (firstReset shape) (firstReset shape + shape .resets - firstReset shape)) ⌝ }
     ensures { λ _. ⌜ now (clocks .exit) ≡ reset (of e (readAutomata (now (s .entry)) .resets)) (now (clocks .entry)) ⌝ }
 {
     let mut n = start;
@@ -78,9 +78,9 @@ fn take_edge(
     vars: &mut [i16; 64],
     events: u32,
     e: u16,
-) -> Went
+) -> Stepped
     requires { ⌜ Accepted (now s) shape × HasIndex (now s) shape (now first) (now next) × (automaton < 8) × (e < shape .edges) ⌝ }
-    ensures { λ r. ⌜ ((p c : ℕ) → wentOf r (now (locations .exit)) (now (clocks .exit)) (now (vars .exit)) p c ≡ takeEdge (readAutomata (now (s .entry))) automaton (runIn (now (locations .entry)) (now (clocks .entry)) (now (vars .entry)) events p c) e) ⌝ }
+    ensures { λ r. ⌜ ((p c : ℕ) → steppedOf r (now (locations .exit)) (now (clocks .exit)) (now (vars .exit)) p c ≡ takeEdge (readAutomata (now (s .entry))) automaton (runIn (now (locations .entry)) (now (clocks .entry)) (now (vars .entry)) events p c) e) ⌝ }
     ensures { λ _. ⌜ length (now (clocks .exit)) ≡ length (now (clocks .entry)) ⌝ }
     ensures { λ r. ⌜ FaultKeeps r (now (locations .entry)) (now (clocks .entry)) (now (locations .exit)) (now (clocks .exit)) ⌝ }
 {
@@ -89,7 +89,7 @@ fn take_edge(
     let mut n = first[(512 + e) as usize];
     while n < reset {
         match do_update(s, shape, n, vars, raised) {
-            Done::Fault(w) => return Went::Fault(w),
+            Done::Fault(w) => return Stepped::Fault(w),
             Done::Events(x) => {
                 raised = x;
             }
@@ -99,7 +99,7 @@ fn take_edge(
     reset_clocks(s, shape, next, n, e, clocks);
     let i = automaton as usize;
     locations[i] = target_of(s, shape, e);
-    Went::Taken(e, raised)
+    Stepped::Taken(e, raised)
 }
 
 // In place. After a fault the variables are of no use; locations and clocks are as they were.
@@ -113,11 +113,11 @@ pub fn edge_step(
     clocks: &mut [u16; 256],
     vars: &mut [i16; 64],
     events: u32,
-) -> Went
+) -> Stepped
     requires { ⌜ Accepted (now s) shape ⌝ }
     requires { ⌜ HasIndex (now s) shape (now first) (now next) ⌝ }
     requires { ⌜ automaton < shape .automata ⌝ }
-    ensures { λ r. ⌜ ((p c : ℕ) → wentOf r (now (locations .exit)) (now (clocks .exit)) (now (vars .exit)) p c ≡ edgeStep (readAutomata (now (s .entry))) automaton (runIn (now (locations .entry)) (now (clocks .entry)) (now (vars .entry)) events p c)) ⌝ }
+    ensures { λ r. ⌜ ((p c : ℕ) → steppedOf r (now (locations .exit)) (now (clocks .exit)) (now (vars .exit)) p c ≡ edgeStep (readAutomata (now (s .entry))) automaton (runIn (now (locations .entry)) (now (clocks .entry)) (now (vars .entry)) events p c)) ⌝ }
     ensures { λ _. ⌜ length (now (clocks .exit)) ≡ length (now (clocks .entry)) ⌝ }
     ensures { λ r. ⌜ FaultKeeps r (now (locations .entry)) (now (clocks .entry)) (now (locations .exit)) (now (clocks .exit)) ⌝ }
 {
@@ -146,6 +146,6 @@ pub fn edge_step(
             events,
             e,
         ),
-        Choice::Failed(w) => Went::Fault(w),
+        Choice::Failed(w) => Stepped::Fault(w),
     }
 }

@@ -9,13 +9,13 @@ ghost use Rattle.model.specs.Automata.{automata as machine};
 ghost use Rattle.automata.specs.Accepted.{Accepted};
 ghost use Rattle.automata.specs.Index.{RoomFor};
 ghost use Rattle.automata.specs.RunOf.{runIn, runOf, Sized};
-ghost use Rattle.automata.specs.TurnOf.{turnOf, takenOf, Known, Ready};
+ghost use Rattle.automata.specs.TurnOf.{turnOf, takenOf, Prepared, Ready};
 use super::index::index_of;
 use super::runs::Run;
 use super::runs::before_turn;
 use super::runs::pass_time;
 use super::runs::run_in;
-use super::steps::Went;
+use super::steps::Stepped;
 use super::steps::edge_step;
 use automata_files::Shape;
 use machines::answers::Answer;
@@ -40,7 +40,7 @@ fn automaton_turn(
     events: &mut u32,
     position: &mut u32,
 ) -> Answer
-    requires { ⌜ Known (now s) shape (now first) (now next) ⌝ }
+    requires { ⌜ Prepared (now s) shape (now first) (now next) ⌝ }
     requires { ⌜ (1 ≤ now position) × (now position ≤ shape .automata) ⌝ }
     ensures { λ r. ⌜ ((c : ℕ) → takenOf r (runIn (now (locations .exit)) (now (clocks .exit)) (now (vars .exit)) (now (events .exit)) (now (position .exit)) c) ≡ stepped (machine (readAutomata (now (s .entry)))) (runIn (now (locations .entry)) (now (clocks .entry)) (now (vars .entry)) (now (events .entry)) (now (position .entry)) c)) ⌝ }
 {
@@ -56,8 +56,8 @@ fn automaton_turn(
         vars,
         *events,
     ) {
-        Went::Fault(w) => Answer::Fault(w),
-        Went::Taken(e, x) => {
+        Stepped::Fault(w) => Answer::Fault(w),
+        Stepped::Taken(e, x) => {
             *events = x;
             *position = place + 1;
             Answer::Taken(e)
@@ -78,7 +78,7 @@ fn turn_taken(
     position: &mut u32,
     cycles: &mut u32,
 ) -> Answer
-    requires { ⌜ Known (now s) shape (now first) (now next) ⌝ }
+    requires { ⌜ Prepared (now s) shape (now first) (now next) ⌝ }
     requires { ⌜ Ready shape (runIn (now locations) (now clocks) (now vars) (now events) (now position) (now cycles)) ⌝ }
     requires { ⌜ length (now clocks) ≡ 256 ⌝ }
     ensures { λ r. ⌜ takenOf r (runIn (now (locations .exit)) (now (clocks .exit)) (now (vars .exit)) (now (events .exit)) (now (position .exit)) (now (cycles .exit))) ≡ stepped (machine (readAutomata (now (s .entry)))) (runIn (now (locations .entry)) (now (clocks .entry)) (now (vars .entry)) (now (events .entry)) (now (position .entry)) (now (cycles .entry))) ⌝ }
@@ -118,7 +118,7 @@ fn turn_in_place(
     cycles: &mut u32,
     events: u32,
 ) -> Answer
-    requires { ⌜ Known (now s) shape (now first) (now next) ⌝ }
+    requires { ⌜ Prepared (now s) shape (now first) (now next) ⌝ }
     requires { ⌜ Sized (now locations) (now clocks) (now vars) ⌝ }
     ensures { λ r. ⌜ takenOf r (runIn (now (locations .exit)) (now (clocks .exit)) (now (vars .exit)) (now (present .exit)) (now (position .exit)) (now (cycles .exit))) ≡ model-turn (machine (readAutomata (now (s .entry)))) events (runIn (now (locations .entry)) (now (clocks .entry)) (now (vars .entry)) (now (present .entry)) (now (position .entry)) (now (cycles .entry))) ⌝ }
 {
@@ -134,7 +134,7 @@ fn turn_in_place(
         events,
     ) {
         Before::Refused(w) => Answer::Refused(w),
-        Before::Fine => {
+        Before::Passed => {
             *present = events_given(events, *position, *present);
             turn_taken(
                 s,
@@ -207,7 +207,7 @@ pub fn turn(
     run: Run,
     events: u32,
 ) -> Turned
-    requires { ⌜ Known (now s) shape (now first) (now next) ⌝ }
+    requires { ⌜ Prepared (now s) shape (now first) (now next) ⌝ }
     ensures { λ r. ⌜ turnOf r ≡ settled (runOf run) (model-turn (machine (readAutomata (now (s .entry)))) events (runOf run)) ⌝ }
 {
     let mut locations = run.locations;
@@ -242,7 +242,7 @@ pub fn turn(
 }
 
 // The same, with the index in what is lent, which names nothing yet.
-fn turn_indexed(s: &[u8], shape: Shape, next: &mut [u16], run: Run, events: u32) -> Turned
+fn turn_making_index(s: &[u8], shape: Shape, next: &mut [u16], run: Run, events: u32) -> Turned
     requires { ⌜ Accepted (now s) shape ⌝ }
     requires { ⌜ RoomFor shape (now next) ⌝ }
     ensures { λ r. ⌜ turnOf r ≡ settled (runOf run) (model-turn (machine (readAutomata (now (s .entry)))) events (runOf run)) ⌝ }
@@ -260,9 +260,9 @@ pub fn one_turn(s: &[u8], shape: Shape, run: Run, events: u32) -> Turned
 {
     if s.len() <= 16384 {
         let mut next = [65535u16; 1024];
-        turn_indexed(s, shape, &mut next, run, events)
+        turn_making_index(s, shape, &mut next, run, events)
     } else {
         let mut next = [14536u16; 14536];
-        turn_indexed(s, shape, &mut next, run, events)
+        turn_making_index(s, shape, &mut next, run, events)
     }
 }

@@ -1,6 +1,6 @@
 -- What the proofs of several functions use, and the laws that crates above cite.
-pub mod Readings
+pub mod PlacesRead
 pub mod UnusedLiterals
-pub mod TableLaws
-pub mod Sound
-pub mod CheckLaws
+pub mod StructureTests
+pub mod NamedThings
+pub mod ChecksFramed

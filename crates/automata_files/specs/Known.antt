@@ -2,13 +2,13 @@
 use mathlib.Core.Option.{Option, some, none}
 use Prim.Native.Nat.{ℕ, _<_}
 use Rattle.model.specs.Runs.{Deed, assign, raise}
-use Rattle.model.specs.AutomataTable.{Cause, always, event, clock}
+use Rattle.model.specs.AutomataTable.{LiteralTrigger, always, event, clock}
 
 -- of so many clocks
-abbrev pub CauseKnown : ℕ → Cause → Type 0
-CauseKnown clocks always = Unit
-CauseKnown clocks (event e) = e < 32
-CauseKnown clocks (clock k) = k < clocks
+abbrev pub LiteralTriggerKnown : ℕ → LiteralTrigger → Type 0
+LiteralTriggerKnown clocks always = Unit
+LiteralTriggerKnown clocks (event e) = e < 32
+LiteralTriggerKnown clocks (clock k) = k < clocks
 
 -- of so many nodes
 abbrev pub GuardKnown : ℕ → Option ℕ → Type 0

@@ -4,7 +4,7 @@ use mathlib.Core.List.{List}
 use Prim.Native.Nat.{ℕ}
 use lib.Dec.{ltb}
 use Rattle.model.specs.ChartFile.{guardNamed, deedNamed}
-use Rattle.model.specs.AutomataFile.{causeNamed}
+use Rattle.model.specs.AutomataFile.{literalTriggerNamed}
 use Rattle.automata_files.specs.declared.Shape.{Shape}
 use Rattle.automata_files.specs.Places.{initialAt, homeAt, edgeAt, literalAt, updateAt, resetAt}
 
@@ -21,7 +21,7 @@ module _ (s : List ℕ) (sh : Shape) where
 
   abbrev pub literalNamed : ℕ → Bool
   literalNamed l =
-      ltb (literalAt s sh l .0) (sh .edges) && causeNamed (sh .clocks) (literalAt s sh l .1 .cause) && guardNamed (sh .nodes) (literalAt s sh l .1 .guard)
+      ltb (literalAt s sh l .0) (sh .edges) && literalTriggerNamed (sh .clocks) (literalAt s sh l .1 .trigger) && guardNamed (sh .nodes) (literalAt s sh l .1 .guard)
 
   abbrev pub updateNamed : ℕ → Bool
   updateNamed u = ltb (updateAt s sh u .0) (sh .edges) && deedNamed (sh .variables) (sh .nodes) (updateAt s sh u .1)

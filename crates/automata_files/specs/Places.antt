@@ -7,7 +7,7 @@ use Rattle.records.specs.Lists.{caseOf}
 use Rattle.records.specs.Bytes.{byte, two}
 use Rattle.model.specs.Runs.{Variable, Deed}
 use Rattle.model.specs.ChartSet.{readGuard, readDeed}
-use Rattle.model.specs.AutomataTable.{Cause, always, event, clock, Edge, Literal, Timing, after, every, Clock}
+use Rattle.model.specs.AutomataTable.{LiteralTrigger, always, event, clock, Edge, Literal, Timing, after, every, Clock}
 use Rattle.chart_files.specs.Places.{variableIn}
 use Rattle.automata_files.specs.declared.Shape.{Shape}
 
@@ -36,9 +36,9 @@ firstUpdate sh = sh .automata + sh .locations + sh .edges + sh .literals + sh .c
 abbrev pub firstReset : Shape → ℕ
 firstReset sh = sh .automata + sh .locations + sh .edges + sh .literals + sh .clocks + sh .variables + sh .nodes + sh .updates
 
--- the cause of a code, an event and a clock
-abbrev pub causeBy : ℕ → ℕ → ℕ → Cause
-causeBy code e k = caseOf code ((1, event e) ∷ (2, clock k) ∷ []) always
+-- the trigger of a code, an event and a clock
+abbrev pub literalTriggerBy : ℕ → ℕ → ℕ → LiteralTrigger
+literalTriggerBy code e k = caseOf code ((1, event e) ∷ (2, clock k) ∷ []) always
 
 abbrev pub timingBy : ℕ → Timing
 timingBy code = caseOf code ((2, after) ∷ []) every
@@ -54,7 +54,7 @@ module _ (s : List ℕ) (n : ℕ) where
     two s (16 * n + 2),
     record {
       must = eqb (byte s (16 * n + 1)) 1;
-      cause = causeBy (byte s (16 * n + 4)) (byte s (16 * n + 5)) (two s (16 * n + 6));
+      trigger = literalTriggerBy (byte s (16 * n + 4)) (byte s (16 * n + 5)) (two s (16 * n + 6));
       guard = readGuard (two s (16 * n + 8));
     },
   )

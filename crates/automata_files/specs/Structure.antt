@@ -3,9 +3,9 @@ use mathlib.Core.Bool.{Bool, not, _&&_, _||_}
 use mathlib.Core.List.{List}
 use Prim.Native.Nat.{ℕ}
 use lib.Dec.{eqb}
+use Rattle.model.specs.Owned.{home}
 use Rattle.model.specs.AutomataTable.{readAutomata}
 use Rattle.model.specs.ChartFile.{between, guardNodes, assignedNodes}
-use Rattle.model.specs.AutomataFile.{homeOf}
 use Rattle.automata_files.specs.declared.Shape.{Shape}
 use Rattle.automata_files.specs.Places.{initialAt, edgeAt, literalAt, clockAt, updateAt}
 
@@ -16,11 +16,11 @@ module _ (s : List ℕ) (sh : Shape) where
   -- both ends of an edge, and the initial location, are in the automaton
   abbrev pub edgeInside : ℕ → Bool
   edgeInside e =
-      eqb (homeOf (readAutomata s) (edgeAt s sh e .source)) (edgeAt s sh e .automaton)
-      && eqb (homeOf (readAutomata s) (edgeAt s sh e .target)) (edgeAt s sh e .automaton)
+      eqb (home (readAutomata s .homes) (edgeAt s sh e .source)) (edgeAt s sh e .automaton)
+      && eqb (home (readAutomata s .homes) (edgeAt s sh e .target)) (edgeAt s sh e .automaton)
 
   abbrev pub initialInside : ℕ → Bool
-  initialInside a = eqb (homeOf (readAutomata s) (initialAt s sh a)) a
+  initialInside a = eqb (home (readAutomata s .homes) (initialAt s sh a)) a
 
   abbrev pub idleStays : ℕ → Bool
   idleStays e = not (edgeAt s sh e .idles) || eqb (edgeAt s sh e .source) (edgeAt s sh e .target)

@@ -10,7 +10,7 @@ use chart_files::codes::node_in_code;
 use chart_files::codes::variable_in_code;
 use records::byte_at;
 
-fn cause_in_code(code: u8, event: u8) -> bool
+fn literal_trigger_in_code(code: u8, event: u8) -> bool
     ensures { λ r. ⌜ r ≡ caseOf code ((1, isEvent event) ∷ []) true ⌝ }
 {
     match code {
@@ -24,7 +24,7 @@ fn literal_in_code(r: &[u8]) -> bool
 {
     let sign = byte_at(r, 1);
     let code = byte_at(r, 4);
-    (1 <= sign) & (sign <= 2) & (code <= 2) & cause_in_code(code, byte_at(r, 5))
+    (1 <= sign) & (sign <= 2) & (code <= 2) & literal_trigger_in_code(code, byte_at(r, 5))
 }
 
 pub fn in_code(r: &[u8]) -> bool

@@ -4,8 +4,8 @@ ghost use Prim.Native.Nat.{_+_, _*_, _<_, _^_};
 ghost use Rattle.records.specs.Bytes.{two};
 ghost use Rattle.chart_files.specs.Parts.{guardFor, deedFor};
 ghost use Rattle.automata_files.specs.Shape.{IsShape};
-ghost use Rattle.automata_files.specs.Places.{firstLocation, firstEdge, firstLiteral, firstClock, firstVariable, firstNode, firstUpdate, firstReset, causeBy, homeAt, edgeAt, literalAt, clockAt, updateAt, resetAt, nodePart};
-ghost use Rattle.automata_files.specs.Parts.{causeFor};
+ghost use Rattle.automata_files.specs.Places.{firstLocation, firstEdge, firstLiteral, firstClock, firstVariable, firstNode, firstUpdate, firstReset, literalTriggerBy, homeAt, edgeAt, literalAt, clockAt, updateAt, resetAt, nodePart};
+ghost use Rattle.automata_files.specs.Parts.{literalTriggerFor};
 use super::Shape;
 use chart_files::fields::Deed;
 use chart_files::fields::Guard;
@@ -16,7 +16,7 @@ use chart_files::fields::u16_in;
 use records::u16_at;
 
 // A literal's trigger.
-pub enum Cause {
+pub enum LiteralTrigger {
     Always,
     Event(u8),
     Clock(u16),
@@ -128,21 +128,21 @@ pub fn literal_edge(s: &[u8], shape: Shape, l: u16) -> u16
     u16_in(s, literal_record(shape, l), 2)
 }
 
-fn cause_by(code: u8, event: u8, clock: u16) -> Cause
-    ensures { λ r. ⌜ causeFor r ≡ causeBy code event clock ⌝ }
+fn literal_trigger_by(code: u8, event: u8, clock: u16) -> LiteralTrigger
+    ensures { λ r. ⌜ literalTriggerFor r ≡ literalTriggerBy code event clock ⌝ }
 {
     match code {
-        1 => Cause::Event(event),
-        2 => Cause::Clock(clock),
-        _ => Cause::Always,
+        1 => LiteralTrigger::Event(event),
+        2 => LiteralTrigger::Clock(clock),
+        _ => LiteralTrigger::Always,
     }
 }
 
-pub fn cause_of(s: &[u8], shape: Shape, l: u16) -> Cause
-    ensures { λ r. ⌜ causeFor r ≡ literalAt (now (s .entry)) shape l .1 .cause ⌝ }
+pub fn literal_trigger_of(s: &[u8], shape: Shape, l: u16) -> LiteralTrigger
+    ensures { λ r. ⌜ literalTriggerFor r ≡ literalAt (now (s .entry)) shape l .1 .trigger ⌝ }
 {
     let n = literal_record(shape, l);
-    cause_by(byte_in(s, n, 4), byte_in(s, n, 5), u16_in(s, n, 6))
+    literal_trigger_by(byte_in(s, n, 4), byte_in(s, n, 5), u16_in(s, n, 6))
 }
 
 pub fn guard_of(s: &[u8], shape: Shape, l: u16) -> Guard

@@ -2,22 +2,22 @@
 ghost use mathlib.Core.Path.{_≡_};
 ghost use Rattle.records.specs.Lists.{all, upto};
 ghost use Rattle.expressions.specs.Nodes.{nodeAt};
-ghost use Rattle.expressions.specs.Sorts.{verdictOf};
+ghost use Rattle.expressions.specs.Verdicts.{verdictOf};
 ghost use Rattle.model.specs.AutomataTable.{readAutomata};
-ghost use Rattle.model.specs.AutomataFile.{causeNamed, tableNamed};
+ghost use Rattle.model.specs.AutomataFile.{literalTriggerNamed, tableNamed};
 ghost use Rattle.automata_files.specs.Shape.{IsShape};
 ghost use Rattle.automata_files.specs.Places.{nodePart};
-ghost use Rattle.automata_files.specs.Parts.{causeFor};
+ghost use Rattle.automata_files.specs.Parts.{literalTriggerFor};
 ghost use Rattle.automata_files.specs.Names.{initialNamed, homeNamed, edgeNamed, literalNamed, updateNamed, resetNamed};
 use super::Shape;
-use super::fields::Cause;
+use super::fields::LiteralTrigger;
 use super::fields::automaton_of;
-use super::fields::cause_of;
 use super::fields::deed_of;
 use super::fields::guard_of;
 use super::fields::home_of;
 use super::fields::initial_of;
 use super::fields::literal_edge;
+use super::fields::literal_trigger_of;
 use super::fields::reset_clock;
 use super::fields::reset_edge;
 use super::fields::source_of;
@@ -89,13 +89,13 @@ fn edges_named(s: &[u8], shape: Shape) -> bool
     true
 }
 
-fn cause_named(cause: Cause, clocks: u16) -> bool
-    ensures { λ r. ⌜ r ≡ causeNamed clocks (causeFor cause) ⌝ }
+fn literal_trigger_named(trigger: LiteralTrigger, clocks: u16) -> bool
+    ensures { λ r. ⌜ r ≡ literalTriggerNamed clocks (literalTriggerFor trigger) ⌝ }
 {
-    match cause {
-        Cause::Always => true,
-        Cause::Event(_) => true,
-        Cause::Clock(k) => k < clocks,
+    match trigger {
+        LiteralTrigger::Always => true,
+        LiteralTrigger::Event(_) => true,
+        LiteralTrigger::Clock(k) => k < clocks,
     }
 }
 
@@ -103,7 +103,7 @@ fn literal_named(s: &[u8], shape: Shape, l: u16) -> bool
     ensures { λ r. ⌜ r ≡ literalNamed (now (s .entry)) shape l ⌝ }
 {
     (literal_edge(s, shape, l) < shape.edges)
-        & cause_named(cause_of(s, shape, l), shape.clocks)
+        & literal_trigger_named(literal_trigger_of(s, shape, l), shape.clocks)
         & guard_named(guard_of(s, shape, l), shape.nodes)
 }
 

@@ -5,7 +5,7 @@ ghost use lib.Dec.{leb};
 ghost use lib.ListN.{length, getD, replicate};
 ghost use Rattle.records.specs.Lists.{all, upto};
 ghost use Rattle.expressions.specs.Nodes.{nodeAt};
-ghost use Rattle.expressions.specs.Sorts.{verdictOf};
+ghost use Rattle.expressions.specs.Verdicts.{verdictOf};
 ghost use Rattle.expressions.specs.Uses.{addUses, allOperands};
 ghost use Rattle.model.specs.AutomataTable.{readAutomata};
 ghost use Rattle.model.specs.AutomataFile.{tableNodesFit};

@@ -1,8 +1,9 @@
 // Refusal 11 beyond 1 to 6: ticks of clocks, ends of edges, idle edges.
 ghost use mathlib.Core.Path.{_≡_};
 ghost use Rattle.records.specs.Lists.{all, upto};
+ghost use Rattle.model.specs.Owned.{home};
 ghost use Rattle.model.specs.AutomataTable.{readAutomata};
-ghost use Rattle.model.specs.AutomataFile.{clocksTick, homeOf, insideAutomata, idleEdgesStay};
+ghost use Rattle.model.specs.AutomataFile.{clocksTick, insideAutomata, idleEdgesStay};
 ghost use Rattle.automata_files.specs.Shape.{IsShape};
 ghost use Rattle.automata_files.specs.Structure.{clockTicks, edgeInside, initialInside, idleStays};
 use super::Shape;
@@ -39,7 +40,7 @@ pub fn clocks_tick(s: &[u8], shape: Shape) -> bool
 // The automaton of a location; 0 of what is none.
 fn automaton_at(s: &[u8], shape: Shape, location: u16) -> u8
     requires { ⌜ IsShape (now s) shape ⌝ }
-    ensures { λ r. ⌜ r ≡ homeOf (readAutomata (now (s .entry))) location ⌝ }
+    ensures { λ r. ⌜ r ≡ home (readAutomata (now (s .entry)) .homes) location ⌝ }
 {
     if location < shape.locations {
         home_of(s, shape, location)

@@ -7,7 +7,7 @@ use Rattle.machines.specs.declared.answers.Answer.the-variants as answers
 use Rattle.machines.specs.declared.answers.Ending.the-variants as endings
 use Rattle.machines.specs.declared.answers.Cycles.the-variants as counts
 use Rattle.machines.proofs.Lent.{Enumeration}
-use Rattle.machines.proofs.AnswerTypes.{answer-type, ending-type, cycles-type}
+use Rattle.machines.proofs.LentAnswers.{answer-type, ending-type, cycles-type}
 use Rattle.calls.proofs.Gate.{Refusing}
 
 abbrev pub refusal-type : Enumeration

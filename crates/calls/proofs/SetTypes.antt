@@ -6,7 +6,7 @@ use Rattle.chart_files.specs.declared.Checked.{Checked}
 use Rattle.chart_files.specs.Shape.{IsChecked}
 use Rattle.chart_files.proofs.Checked as K
 use Rattle.charts.specs.Accepted.{Accepted}
-use Rattle.charts.proofs.Types.{shape-type}
+use Rattle.charts.proofs.LentTypes.{shape-type}
 use Rattle.calls.proofs.Gate.{Checking, Reading}
 use Rattle.calls.proofs.RefusedAnswers.{refusal-type}
 

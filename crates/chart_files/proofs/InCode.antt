@@ -15,8 +15,8 @@ use Rattle.model.specs.ChartFile.{chartLimits, between, inCode, transitionInCod
 use Rattle.chart_files.specs.declared.Shape.{Shape}
 use Rattle.chart_files.specs.Shape.{IsShape}
 use Rattle.chart_files.specs.Places.{firstTransition, firstAction, transitionAt, placeAt}
-use Rattle.chart_files.proofs.Readings.{first-transition, first-action}
-use Rattle.chart_files.proofs.Placed.{thing-passes}
+use Rattle.chart_files.proofs.PlacesRead.{first-transition, first-action}
+use Rattle.chart_files.proofs.Places.{thing-passes}
 
 -- the tests of the codes of a kind
 abbrev codesOf : ℕ → List ℕ → Bool

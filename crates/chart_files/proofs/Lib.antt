@@ -1,16 +1,16 @@
 -- What the proofs of several functions use, and the laws that crates above cite.
 pub mod ListLaws
-pub mod Placed
-pub mod Readings
-pub mod Numbers
+pub mod Places
+pub mod PlacesRead
+pub mod NumberLaws
 pub mod RecordLoops
 pub mod UnusedWords
-pub mod NameLaws
-pub mod Initials
+pub mod NamesFramed
+pub mod StructureInitials
 pub mod Tallies
-pub mod Owners
-pub mod Priorities
+pub mod StructureOwners
+pub mod StructurePriorities
 pub mod InCode
-pub mod Structures
-pub mod NodeUses
-pub mod CheckLaws
+pub mod StructureFramed
+pub mod Used
+pub mod ShapeChecked

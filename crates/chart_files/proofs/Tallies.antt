@@ -13,8 +13,8 @@ use Rattle.records.specs.Lists.{all, count, from, upto}
 use Rattle.records.proofs.FramingLaws.{and-true}
 use Rattle.expressions.proofs.Uses.{times}
 use Rattle.expressions.proofs.Loops.{left-more, left-none}
-use Rattle.chart_files.specs.Tallies.{addOne, within, tally}
-use Rattle.chart_files.proofs.Numbers.{same-truth, both-true, all-at, all-by}
+use Rattle.chart_files.specs.Tallies.{addOne, noneAbove, tally}
+use Rattle.chart_files.proofs.NumberLaws.{same-truth, both-true, all-at, all-by}
 
 -- what stands at a place with what is still to be counted there
 one-more : (c : List ℕ) (k : ℕ) (ks : List ℕ) (j : ℕ) → j < length c → getD (addOne c k) j 0 + times j ks ≡ getD c j 0 + times j (k ∷ ks)
@@ -35,11 +35,11 @@ long c k = length-set c k (getD c k 0 + 1)
 
 module _ (most : ℕ) where
   -- counted without coming above the limit: no place has more
-  tally-at : (ks c : List ℕ) → within most c ks ≡ true → ((j : ℕ) → j < length c → getD c j 0 ≤ most) → (j : ℕ) → j < length c → getD c j 0 + times j ks ≤ most
-  unfolding within count
+  tally-at : (ks c : List ℕ) → noneAbove most c ks ≡ true → ((j : ℕ) → j < length c → getD c j 0 ≤ most) → (j : ℕ) → j < length c → getD c j 0 + times j ks ≤ most
+  unfolding noneAbove count
   tally-at [] c e f j h = let l : getD c j 0 ≤ most = f j h in omega arith
   tally-at (k ∷ ks) c e f j h =
-      let t : (ltb (getD c k 0) most ≡ true) × (within most (addOne c k) ks ≡ true) = and-true (ltb (getD c k 0) most) (within most (addOne c k) ks) e in
+      let t : (ltb (getD c k 0) most ≡ true) × (noneAbove most (addOne c k) ks ≡ true) = and-true (ltb (getD c k 0) most) (noneAbove most (addOne c k) ks) e in
       let l : length (addOne c k) ≡ length c = long c k in
       let ih : getD (addOne c k) j 0 + times j ks ≤ most = tally-at ks (addOne c k) (t .1) (λ i g. more (ltb-true (getD c k 0) most (t .0)) i (omega arith) (f i (omega arith))) j (omega arith) in
       let o : getD (addOne c k) j 0 + times j ks ≡ getD c j 0 + times j (k ∷ ks) = one-more c k ks j h in
@@ -58,8 +58,8 @@ module _ (most : ℕ) where
               let s : getD (addOne c k) i 0 ≡ getD c i 0 = getD-set-other c k i (getD c k 0 + 1) 0 (λ x. eqb-false k i e (sym x)) in
               omega arith
 
-  tally-by : 0 < most → (ks c : List ℕ) → ((j : ℕ) → j < length c → getD c j 0 + times j ks ≤ most) → within most c ks ≡ true
-  unfolding within count
+  tally-by : 0 < most → (ks c : List ℕ) → ((j : ℕ) → j < length c → getD c j 0 + times j ks ≤ most) → noneAbove most c ks ≡ true
+  unfolding noneAbove count
   tally-by o [] c f = refl
   tally-by o (k ∷ ks) c f =
       both-true (lt-ltb (getD c k 0) most (room (leb (length c) k) refl))
@@ -77,9 +77,9 @@ module _ (most : ℕ) where
               bad q = let z : _≡_ {A = ℕ} 0 1 = cc in omega arith
 
   -- from no counts on, by how often each place below n comes
-  pub within-is : 0 < most → (n : ℕ) (ks : List ℕ) → within most (replicate n 0) ks ≡ all (λ j. leb (times j ks) most) (upto n)
+  pub within-is : 0 < most → (n : ℕ) (ks : List ℕ) → noneAbove most (replicate n 0) ks ≡ all (λ j. leb (times j ks) most) (upto n)
   within-is o n ks =
-      same-truth (within most (replicate n 0) ks) (all (λ j. leb (times j ks) most) (upto n))
+      same-truth (noneAbove most (replicate n 0) ks) (all (λ j. leb (times j ks) most) (upto n))
       (λ e. all-by (λ j. leb (times j ks) most) n
       (λ j h. le-leb (times j ks) most (omega (arith, tally-at ks (replicate n 0) e (λ i g. omega (arith, zero-at i g)) j (omega (arith, size)), zero-at j (omega (arith, size))))))
       (λ e. tally-by o ks (replicate n 0)
@@ -112,15 +112,15 @@ module _ (most : ℕ) (key : ℕ → ℕ) (size : ℕ) where
   Tallied c₀ c i =
       (i ≤ size)
       × (length c ≡ length c₀)
-      × (within most c₀ (map key (upto size)) ≡ within most c (rest i))
+      × (noneAbove most c₀ (map key (upto size)) ≡ noneAbove most c (rest i))
       × (tally most c₀ (map key (upto size)) ≡ tally most c (rest i))
 
   pub tallied-none : (c : List ℕ) → Tallied c c 0
-  tallied-none c = let e : size ≡ size - 0 = sym (sub-zero size) in (omega arith, refl, ap (λ k. within most c (map key (from 0 k))) e, ap (λ k. tally most c (map key (from 0 k))) e)
+  tallied-none c = let e : size ≡ size - 0 = sym (sub-zero size) in (omega arith, refl, ap (λ k. noneAbove most c (map key (from 0 k))) e, ap (λ k. tally most c (map key (from 0 k))) e)
 
-  step : (c : List ℕ) (i : ℕ) → i < size → within most c (rest i) ≡ (ltb (getD c (key i) 0) most && within most (addOne c (key i)) (rest (i + 1)))
-  unfolding within
-  step c i h = ap (λ l. within most c (map key l)) (left-more i size h)
+  step : (c : List ℕ) (i : ℕ) → i < size → noneAbove most c (rest i) ≡ (ltb (getD c (key i) 0) most && noneAbove most (addOne c (key i)) (rest (i + 1)))
+  unfolding noneAbove
+  step c i h = ap (λ l. noneAbove most c (map key l)) (left-more i size h)
 
   tally-step : (c : List ℕ) (i : ℕ) → i < size → tally most c (rest i) ≡ cond (ltb (getD c (key i) 0) most) (tally most (addOne c (key i)) (rest (i + 1))) c
   unfolding tally
@@ -130,20 +130,20 @@ module _ (most : ℕ) (key : ℕ → ℕ) (size : ℕ) where
   tallied-more c₀ c d i t h e q = (
     omega arith,
     ap length q ∙ long c (key i) ∙ t .1,
-    t .2 ∙ step c i h ∙ (λ x. e x && within most (sym q x) (rest (i + 1))),
+    t .2 ∙ step c i h ∙ (λ x. e x && noneAbove most (sym q x) (rest (i + 1))),
     t .3 ∙ tally-step c i h ∙ (λ x. cond (e x) (tally most (sym q x) (rest (i + 1))) c),
   )
 
   -- what a test of all answers, and leaves counted
   abbrev Ends : List ℕ → List ℕ → Bool → Type 0
-  Ends c₀ c r = (r ≡ within most c₀ (map key (upto size))) × (c ≡ tally most c₀ (map key (upto size)))
+  Ends c₀ c r = (r ≡ noneAbove most c₀ (map key (upto size))) × (c ≡ tally most c₀ (map key (upto size)))
 
   pub tallied-not : (c₀ c d : List ℕ) (i : ℕ) → Tallied c₀ c i → i < size → ltb (getD c (key i) 0) most ≡ false → d ≡ c → Ends c₀ d false
   tallied-not c₀ c d i t h e q = (
-    sym (t .2 ∙ step c i h ∙ ap (λ b. b && within most (addOne c (key i)) (rest (i + 1))) e),
+    sym (t .2 ∙ step c i h ∙ ap (λ b. b && noneAbove most (addOne c (key i)) (rest (i + 1))) e),
     q ∙ sym (t .3 ∙ tally-step c i h ∙ ap (λ b. cond b (tally most (addOne c (key i)) (rest (i + 1))) c) e),
   )
 
   pub tallied-all : (c₀ c : List ℕ) (i : ℕ) → Tallied c₀ c i → size ≤ i → Ends c₀ c true
-  unfolding within tally
-  tallied-all c₀ c i t h = (sym (t .2 ∙ ap (λ l. within most c (map key l)) (left-none i size h)), sym (t .3 ∙ ap (λ l. tally most c (map key l)) (left-none i size h)))
+  unfolding noneAbove tally
+  tallied-all c₀ c i t h = (sym (t .2 ∙ ap (λ l. noneAbove most c (map key l)) (left-none i size h)), sym (t .3 ∙ ap (λ l. tally most c (map key l)) (left-none i size h)))

@@ -5,8 +5,9 @@ use mathlib.Core.List.{List}
 use Prim.Native.Nat.{ℕ, _+_, _-_, _*_}
 use lib.Dec.{eqb}
 use lib.ListN.{getD}
+use Rattle.model.specs.Owned.{home}
 use Rattle.model.specs.ChartSet.{readCharts}
-use Rattle.model.specs.ChartFile.{between, home, unconditional}
+use Rattle.model.specs.ChartFile.{between, unconditional}
 use Rattle.chart_files.specs.declared.Shape.{Shape}
 use Rattle.chart_files.specs.Places.{initialAt, transitionAt, placeAt, actionAt}
 
@@ -16,21 +17,21 @@ isFree (some n) = false
 
 module _ (s : List ℕ) (sh : Shape) where
   abbrev pub insideChart : ℕ → Bool
-  insideChart t = eqb (home (readCharts s) (transitionAt s sh t .source)) (home (readCharts s) (transitionAt s sh t .target))
+  insideChart t = eqb (home (readCharts s .homes) (transitionAt s sh t .source)) (home (readCharts s .homes) (transitionAt s sh t .target))
 
   -- where each state has a count of the charts whose initial one it is: the transition enters none of them, and leaves one, if it does, always
-  abbrev pub apart : List ℕ → ℕ → Bool
-  apart initial t =
+  abbrev pub transitionFitsInitials : List ℕ → ℕ → Bool
+  transitionFitsInitials initial t =
       eqb (getD initial (transitionAt s sh t .target) 0) 0
       && (eqb (getD initial (transitionAt s sh t .source) 0) 0 || unconditional (transitionAt s sh t .trigger) (transitionAt s sh t .guard))
 
   -- action i is not among those of an initial state's entry or exit
-  abbrev pub idle : List ℕ → ℕ → Bool
-  idle initial i = eqb (getD initial (actionAt s sh i .0) 0) 0 || not (between 1 2 (placeAt s sh i))
+  abbrev pub actionFitsInitials : List ℕ → ℕ → Bool
+  actionFitsInitials initial i = eqb (getD initial (actionAt s sh i .0) 0) 0 || not (between 1 2 (placeAt s sh i))
 
   -- where each state has a count of the transitions that leave it: the initial state of chart c is one of its own, and left once
   abbrev pub leftOnce : List ℕ → ℕ → Bool
-  leftOnce left c = eqb (home (readCharts s) (initialAt s sh c)) c && eqb (getD left (initialAt s sh c) 0) 1
+  leftOnce left c = eqb (home (readCharts s .homes) (initialAt s sh c)) c && eqb (getD left (initialAt s sh c) 0) 1
 
   abbrev pub sourceAt : ℕ → ℕ
   sourceAt t = transitionAt s sh t .source

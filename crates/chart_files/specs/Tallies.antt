@@ -10,9 +10,9 @@ abbrev pub addOne : List ℕ → ℕ → List ℕ
 addOne c k = set c k (getD c k 0 + 1)
 
 -- of places counted one after the other, none comes above `most`
-unfoldable pub within : ℕ → List ℕ → List ℕ → Bool
-within most c [] = true
-within most c (k ∷ ks) = ltb (getD c k 0) most && within most (addOne c k) ks
+unfoldable pub noneAbove : ℕ → List ℕ → List ℕ → Bool
+noneAbove most c [] = true
+noneAbove most c (k ∷ ks) = ltb (getD c k 0) most && noneAbove most (addOne c k) ks
 
 -- what they come to, up to the first that would come above
 unfoldable pub tally : ℕ → List ℕ → List ℕ → List ℕ

@@ -2,7 +2,7 @@
 ghost use mathlib.Core.Path.{_≡_};
 ghost use Rattle.records.specs.Lists.{all, upto};
 ghost use Rattle.expressions.specs.Nodes.{nodeAt};
-ghost use Rattle.expressions.specs.Sorts.{verdictOf};
+ghost use Rattle.expressions.specs.Verdicts.{verdictOf};
 ghost use Rattle.model.specs.ChartSet.{readCharts};
 ghost use Rattle.model.specs.ChartFile.{guardNamed, deedNamed, allNamed};
 ghost use Rattle.chart_files.specs.Shape.{IsShape};

@@ -9,12 +9,13 @@ ghost use Rattle.records.specs.Lists.{all, upto};
 ghost use Rattle.records.specs.Bytes.{records};
 ghost use Rattle.expressions.specs.Uses.{addUses};
 ghost use Rattle.model.specs.ChartSet.{readCharts};
+ghost use Rattle.model.specs.Owned.{home};
 ghost use Rattle.model.specs.ChartFile as file;
 ghost use Rattle.chart_files.specs.Shape.{IsShape};
 ghost use Rattle.chart_files.specs.Places.{initialAt, transitionAt};
 ghost use Rattle.chart_files.specs.Names.{initialNamed};
-ghost use Rattle.chart_files.specs.Tallies.{addOne, within, tally};
-ghost use Rattle.chart_files.specs.Structure.{insideChart, isFree, apart, idle, leftOnce, sourceAt, pairAt, ownerAt};
+ghost use Rattle.chart_files.specs.Tallies.{addOne, noneAbove, tally};
+ghost use Rattle.chart_files.specs.Structure.{insideChart, isFree, transitionFitsInitials, actionFitsInitials, leftOnce, sourceAt, pairAt, ownerAt};
 use super::Shape;
 use super::fields::Guard;
 use super::fields::Trigger;
@@ -33,7 +34,7 @@ use records::byte_at;
 // The chart of a state; a number that names no state has chart 0.
 fn chart_of(s: &[u8], shape: Shape, state: u16) -> u8
     requires { ⌜ IsShape (now s) shape ⌝ }
-    ensures { λ r. ⌜ r ≡ file.home (readCharts (now (s .entry))) state ⌝ }
+    ensures { λ r. ⌜ r ≡ home (readCharts (now (s .entry)) .homes) state ⌝ }
 {
     if state < shape.states {
         home_of(s, shape, state)
@@ -138,21 +139,21 @@ fn all_left_once(s: &[u8], shape: Shape, left: &[u8]) -> bool
 }
 
 // A transition does not enter an initial state, and leaves one, if it does, unconditionally.
-fn kept_apart(s: &[u8], shape: Shape, initial: &[u8], t: u16) -> bool
-    ensures { λ r. ⌜ r ≡ apart (now (s .entry)) shape (now (initial .entry)) t ⌝ }
+fn transition_fits_initials(s: &[u8], shape: Shape, initial: &[u8], t: u16) -> bool
+    ensures { λ r. ⌜ r ≡ transitionFitsInitials (now (s .entry)) shape (now (initial .entry)) t ⌝ }
 {
     let target = byte_at(initial, target_of(s, shape, t) as usize);
     let source = byte_at(initial, source_of(s, shape, t) as usize);
     (target == 0) & ((source == 0) | unconditional(s, shape, t))
 }
 
-fn all_apart(s: &[u8], shape: Shape, initial: &[u8]) -> bool
-    ensures { λ r. ⌜ r ≡ all (apart (now (s .entry)) shape (now (initial .entry))) (upto (shape .transitions)) ⌝ }
+fn transitions_fit_initials(s: &[u8], shape: Shape, initial: &[u8]) -> bool
+    ensures { λ r. ⌜ r ≡ all (transitionFitsInitials (now (s .entry)) shape (now (initial .entry))) (upto (shape .transitions)) ⌝ }
 {
     let n = shape.transitions;
     let mut t = 0;
     while t < n {
-        if !kept_apart(s, shape, initial, t) {
+        if !transition_fits_initials(s, shape, initial, t) {
             return false;
         }
         t += 1;
@@ -161,21 +162,21 @@ fn all_apart(s: &[u8], shape: Shape, initial: &[u8]) -> bool
 }
 
 // Action i is neither an entry nor an exit action of an initial state.
-fn is_idle(s: &[u8], shape: Shape, initial: &[u8], i: u16) -> bool
-    ensures { λ r. ⌜ r ≡ idle (now (s .entry)) shape (now (initial .entry)) i ⌝ }
+fn action_fits_initials(s: &[u8], shape: Shape, initial: &[u8], i: u16) -> bool
+    ensures { λ r. ⌜ r ≡ actionFitsInitials (now (s .entry)) shape (now (initial .entry)) i ⌝ }
 {
     let place = place_of(s, shape, i);
     let owner = byte_at(initial, owner_of(s, shape, i) as usize);
     (owner == 0) | !((1 <= place) & (place <= 2))
 }
 
-fn all_idle(s: &[u8], shape: Shape, initial: &[u8]) -> bool
-    ensures { λ r. ⌜ r ≡ all (idle (now (s .entry)) shape (now (initial .entry))) (upto (shape .actions)) ⌝ }
+fn actions_fit_initials(s: &[u8], shape: Shape, initial: &[u8]) -> bool
+    ensures { λ r. ⌜ r ≡ all (actionFitsInitials (now (s .entry)) shape (now (initial .entry))) (upto (shape .actions)) ⌝ }
 {
     let n = shape.actions;
     let mut i = 0;
     while i < n {
-        if !is_idle(s, shape, initial, i) {
+        if !action_fits_initials(s, shape, initial, i) {
             return false;
         }
         i += 1;
@@ -192,7 +193,9 @@ fn initials_fit(s: &[u8], shape: Shape) -> bool
     let mut left = [0u8; 128];
     count_initials(s, shape, &mut initial);
     count_sources(s, shape, &mut left);
-    all_left_once(s, shape, &left) & all_apart(s, shape, &initial) & all_idle(s, shape, &initial)
+    all_left_once(s, shape, &left)
+        & transitions_fit_initials(s, shape, &initial)
+        & actions_fit_initials(s, shape, &initial)
 }
 
 // One more at place k, unless it has as many as it may. A place past the end is none.
@@ -224,7 +227,7 @@ fn pair(s: &[u8], shape: Shape, t: u16) -> usize
 // No pair comes twice, from what is seen on.
 fn pairs_within(s: &[u8], shape: Shape, seen: &mut [u8]) -> bool
     requires { ⌜ IsShape (now s) shape × (all file.inCode (records (now s)) ≡ true) ⌝ }
-    ensures { λ r. ⌜ (r ≡ within 1 (now (seen .entry)) (map (pairAt (now (s .entry)) shape) (upto (shape .transitions)))) × (now (seen .exit) ≡ tally 1 (now (seen .entry)) (map (pairAt (now (s .entry)) shape) (upto (shape .transitions)))) ⌝ }
+    ensures { λ r. ⌜ (r ≡ noneAbove 1 (now (seen .entry)) (map (pairAt (now (s .entry)) shape) (upto (shape .transitions)))) × (now (seen .exit) ≡ tally 1 (now (seen .entry)) (map (pairAt (now (s .entry)) shape) (upto (shape .transitions)))) ⌝ }
 {
     let n = shape.transitions;
     let mut t = 0;
@@ -260,7 +263,7 @@ fn owner_at(s: &[u8], shape: Shape, i: u16) -> usize
 
 // No owner comes more than eight times, from what is counted on.
 fn owners_within(s: &[u8], shape: Shape, counts: &mut [u8]) -> bool
-    ensures { λ r. ⌜ (r ≡ within 8 (now (counts .entry)) (map (ownerAt (now (s .entry)) shape) (upto (shape .actions)))) × (now (counts .exit) ≡ tally 8 (now (counts .entry)) (map (ownerAt (now (s .entry)) shape) (upto (shape .actions)))) ⌝ }
+    ensures { λ r. ⌜ (r ≡ noneAbove 8 (now (counts .entry)) (map (ownerAt (now (s .entry)) shape) (upto (shape .actions)))) × (now (counts .exit) ≡ tally 8 (now (counts .entry)) (map (ownerAt (now (s .entry)) shape) (upto (shape .actions)))) ⌝ }
 {
     let n = shape.actions;
     let mut i = 0;

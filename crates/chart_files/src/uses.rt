@@ -7,7 +7,7 @@ ghost use lib.ListN.{length, getD, replicate};
 ghost use Rattle.records.specs.Lists.{all, upto};
 ghost use Rattle.records.specs.Bytes.{records};
 ghost use Rattle.expressions.specs.Nodes.{nodeOf, nodeAt};
-ghost use Rattle.expressions.specs.Sorts.{verdictOf};
+ghost use Rattle.expressions.specs.Verdicts.{verdictOf};
 ghost use Rattle.expressions.specs.Uses.{addUses};
 ghost use Rattle.model.specs.ChartSet.{readCharts};
 ghost use Rattle.model.specs.ChartFile as file;

@@ -23,8 +23,8 @@ abbrev pub runIn : List ℕ → List ℕ → List ℤ → ℕ → ℕ → ℕ �
 runIn states ages vars events position cycles = record { at = states; timers = ages; world = worldIn vars events position cycles }
 
 -- a cycle may still be done, and no chart's age is over the count of those done: so ages and count have room for one more
-abbrev pub Young : ℕ → Run → Type 0
-Young charts r = (r .world .cycles ≤ 999_999) × ((c : ℕ) → c < charts → getD (r .timers) c 0 ≤ r .world .cycles)
+abbrev pub AgesPossible : ℕ → Run → Type 0
+AgesPossible charts r = (r .world .cycles ≤ 999_999) × ((c : ℕ) → c < charts → getD (r .timers) c 0 ≤ r .world .cycles)
 
 -- the age of a place after time passed
 abbrev pub aged : ℕ → ℕ → ℕ → ℕ

@@ -25,12 +25,12 @@ abbrev pub slotAt : ChartSet → ℕ → ℕ → ℕ
 slotAt cs st q = earliest (leaves cs st q) 0 (length (cs .transitions))
 
 -- a place of a row: a transition's number, or 256 for none
-abbrev pub placed : ℕ → ℕ
-placed t = min 256 t
+abbrev pub rowEntry : ℕ → ℕ
+rowEntry t = min 256 t
 
 -- "array of arrays, 128 rows of 16 transition numbers": a row for each state, with a place for each priority, 1 to 16, in order
 abbrev pub HasRows : ChartSet → List (List ℕ) → Type 0
-HasRows cs rows = (st j : ℕ) → st < 128 → j < 16 → getD (getD rows st []) j 0 ≡ placed (slotAt cs st (j + 1))
+HasRows cs rows = (st j : ℕ) → st < 128 → j < 16 → getD (getD rows st []) j 0 ≡ rowEntry (slotAt cs st (j + 1))
 
 unfoldable pub highest : (ℕ → ℕ) → List ℕ → ℕ
 highest f [] = 0

@@ -22,7 +22,7 @@ abbrev pub calledOf : Called → Outcome (Unit {0}) M.Run
 calledOf t = record { answer = endingOf (t .answer); lent = runOf (t .run) }
 
 -- What is known of a set whose turns are taken: it is accepted, and its tables are its own.
-pub record Known (s : List ℕ) (sh : Shape) (rows : List (List ℕ)) (ends first next : List ℕ) : Type 0 where
+pub record Prepared (s : List ℕ) (sh : Shape) (rows : List (List ℕ)) (ends first next : List ℕ) : Type 0 where
   pub accepted : Accepted s sh
   pub has-rows : HasRows (readCharts s) rows
   pub has-ends : HasEnds (readCharts s) rows ends

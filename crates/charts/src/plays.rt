@@ -13,12 +13,12 @@ ghost use Rattle.machines.specs.Playing.{played, playing};
 ghost use Rattle.charts.specs.Accepted.{Accepted};
 ghost use Rattle.charts.specs.RunOf.{runOf, runIn, aged};
 ghost use Rattle.charts.specs.StepOf.{ranTo, endedBy};
-ghost use Rattle.charts.specs.TurnOf.{after, finish, Known, Ready};
+ghost use Rattle.charts.specs.TurnOf.{after, finish, Prepared, Ready};
 ghost use Rattle.charts.specs.PlayedOf.{playedOf};
 use super::runs::Run;
 use super::runs::before_turn;
-use super::runs::between;
-use super::runs::older;
+use super::runs::grow_ages;
+use super::runs::run_between_cycles;
 use super::steps::turns_in_place;
 use super::tables::fill_actions;
 use super::tables::fill_rows;
@@ -49,12 +49,12 @@ fn time_after(charts: u16, ages: &mut [u32; 8], events: u64) -> Progress
     if 4294967295 < events {
         return Progress::Fault(reason_by(events));
     }
-    older(charts, ages);
+    grow_ages(charts, ages);
     Progress::Done
 }
 
 // The turns from a position up to time's. After a fault the places are as the turns before it left them.
-fn cycle_in_place(
+fn cycle_or_fault(
     s: &[u8],
     shape: Shape,
     rows: &[[u16; 16]; 128],
@@ -68,7 +68,7 @@ fn cycle_in_place(
     position: u32,
     cycles: u32,
 ) -> Progress
-    requires { ⌜ Known (now s) shape (now rows) (now ends) (now first) (now next) × Ready (shape .charts) (runIn (now states) (now ages) (now vars) events position cycles) ⌝ }
+    requires { ⌜ Prepared (now s) shape (now rows) (now ends) (now first) (now next) × Ready (shape .charts) (runIn (now states) (now ages) (now vars) events position cycles) ⌝ }
     ensures { λ r. ⌜ ranTo r (runIn (now (states .exit)) (now (ages .exit)) (now (vars .exit)) 0 1 (cycles + 1)) ≡ after (machine (readCharts (now (s .entry)))) (shape .charts + 2 - position) (runIn (now (states .entry)) (now (ages .entry)) (now (vars .entry)) events position cycles) ⌝ }
 {
     let mut chosen: u16 = 65535;
@@ -92,7 +92,7 @@ fn cycle_in_place(
 }
 
 // A cycle of a run at position 1 that passed the checks: all its turns, or none.
-fn cycle_again(
+fn cycle_or_none(
     s: &[u8],
     shape: Shape,
     rows: &[[u16; 16]; 128],
@@ -105,14 +105,14 @@ fn cycle_again(
     events: u32,
     cycles: u32,
 ) -> Progress
-    requires { ⌜ Known (now s) shape (now rows) (now ends) (now first) (now next) × (checked (machine (readCharts (now s))) events (runIn (now states) (now ages) (now vars) 0 1 cycles) ≡ val tt) ⌝ }
+    requires { ⌜ Prepared (now s) shape (now rows) (now ends) (now first) (now next) × (checked (machine (readCharts (now s))) events (runIn (now states) (now ages) (now vars) 0 1 cycles) ≡ val tt) ⌝ }
     ensures { λ r. ⌜ finish (ranTo r (runIn (now (states .exit)) (now (ages .exit)) (now (vars .exit)) 0 1 (cycles + 1))) ≡ model-cycle (machine (readCharts (now (s .entry)))) events (runIn (now (states .entry)) (now (ages .entry)) (now (vars .entry)) 0 1 cycles) ⌝ }
     ensures { λ r. ⌜ ((w : Reason) → r ≡ Progress.Fault w → (now (states .exit) ≡ now (states .entry)) × (now (ages .exit) ≡ now (ages .entry)) × (now (vars .exit) ≡ now (vars .entry))) ⌝ }
 {
     let states_before = *states;
     let ages_before = *ages;
     let vars_before = *vars;
-    match cycle_in_place(
+    match cycle_or_fault(
         s,
         shape,
         rows,
@@ -137,7 +137,7 @@ fn cycle_again(
 }
 
 // Cycles from a possible run at position 1, one for each mask, until one faults or none is left to do. Check 12 holds after each that is done, so it is not made again.
-fn cycles_on(
+fn further_cycles(
     s: &[u8],
     shape: Shape,
     rows: &[[u16; 16]; 128],
@@ -150,7 +150,7 @@ fn cycles_on(
     cycles: u32,
     masks: &[u32],
 ) -> u32
-    requires { ⌜ Known (now s) shape (now rows) (now ends) (now first) (now next) × T (possible (machine (readCharts (now s))) (runIn (now states) (now ages) (now vars) 0 1 cycles)) ⌝ }
+    requires { ⌜ Prepared (now s) shape (now rows) (now ends) (now first) (now next) × T (possible (machine (readCharts (now s))) (runIn (now states) (now ages) (now vars) 0 1 cycles)) ⌝ }
     ensures { λ r. ⌜ (played (machine (readCharts (now (s .entry)))) (now (masks .entry)) (runIn (now (states .entry)) (now (ages .entry)) (now (vars .entry)) 0 1 cycles) .count ≡ r)
         × (played (machine (readCharts (now (s .entry)))) (now (masks .entry)) (runIn (now (states .entry)) (now (ages .entry)) (now (vars .entry)) 0 1 cycles) .run ≡ runIn (now (states .exit)) (now (ages .exit)) (now (vars .exit)) 0 1 (cycles + r)) ⌝ }
 {
@@ -160,7 +160,7 @@ fn cycles_on(
         if done == 1000000 {
             return done - cycles;
         }
-        match cycle_again(
+        match cycle_or_none(
             s,
             shape,
             rows,
@@ -184,7 +184,7 @@ fn cycles_on(
 }
 
 // The first cycle led to this run.
-fn played_on(
+fn play_further(
     s: &[u8],
     shape: Shape,
     rows: &[[u16; 16]; 128],
@@ -194,7 +194,7 @@ fn played_on(
     run: Run,
     masks: &[u32],
 ) -> Played
-    requires { ⌜ Known (now s) shape (now rows) (now ends) (now first) (now next) × T (possible (machine (readCharts (now s))) (runOf run)) × (run .position ≡ 1) ⌝ }
+    requires { ⌜ Prepared (now s) shape (now rows) (now ends) (now first) (now next) × T (possible (machine (readCharts (now s))) (runOf run)) × (run .position ≡ 1) ⌝ }
     ensures { λ r. ⌜ (r .answer ≡ Cycles.Done (1 + played (machine (readCharts (now (s .entry)))) (now (masks .entry)) (runOf run) .count))
         × (runOf (r .run) ≡ played (machine (readCharts (now (s .entry)))) (now (masks .entry)) (runOf run) .run) ⌝ }
 {
@@ -202,7 +202,7 @@ fn played_on(
     let mut ages = run.ages;
     let mut variables = run.variables;
     let cycles = run.cycles;
-    let count = cycles_on(
+    let count = further_cycles(
         s,
         shape,
         rows,
@@ -217,12 +217,12 @@ fn played_on(
     );
     Played {
         answer: Cycles::Done(1 + count),
-        run: between(states, ages, variables, cycles + count),
+        run: run_between_cycles(states, ages, variables, cycles + count),
     }
 }
 
 // The first cycle, of a run that passed the checks and has its events, and then the others.
-fn first_played(
+fn play_from_first(
     s: &[u8],
     shape: Shape,
     rows: &[[u16; 16]; 128],
@@ -232,14 +232,14 @@ fn first_played(
     run: Run,
     masks: &[u32],
 ) -> Played
-    requires { ⌜ Known (now s) shape (now rows) (now ends) (now first) (now next) × (0 < length (now masks)) × (checked (machine (readCharts (now s))) (getD (now masks) 0 0) (runOf run) ≡ val tt) ⌝ }
+    requires { ⌜ Prepared (now s) shape (now rows) (now ends) (now first) (now next) × (0 < length (now masks)) × (checked (machine (readCharts (now s))) (getD (now masks) 0 0) (runOf run) ≡ val tt) ⌝ }
     ensures { λ r. ⌜ playedOf r ≡ settled (runOf run) (playing (machine (readCharts (now (s .entry)))) (now (masks .entry)) (runOf run)) ⌝ }
 {
     let mut states = run.states;
     let mut ages = run.ages;
     let mut variables = run.variables;
     let events = events_given(masks[0], run.position, run.events);
-    match cycle_in_place(
+    match cycle_or_fault(
         s,
         shape,
         rows,
@@ -258,14 +258,14 @@ fn first_played(
             run,
         },
         Progress::Done => {
-            let after = between(states, ages, variables, run.cycles + 1);
-            played_on(s, shape, rows, ends, first, next, after, &masks[1..])
+            let after = run_between_cycles(states, ages, variables, run.cycles + 1);
+            play_further(s, shape, rows, ends, first, next, after, &masks[1..])
         }
     }
 }
 
 // Cycles, one for each mask, until one is refused or faults: that is told only of the first.
-fn cycles_played(
+fn play_with_tables(
     s: &[u8],
     shape: Shape,
     rows: &[[u16; 16]; 128],
@@ -275,7 +275,7 @@ fn cycles_played(
     run: Run,
     masks: &[u32],
 ) -> Played
-    requires { ⌜ Known (now s) shape (now rows) (now ends) (now first) (now next) ⌝ }
+    requires { ⌜ Prepared (now s) shape (now rows) (now ends) (now first) (now next) ⌝ }
     ensures { λ r. ⌜ playedOf r ≡ settled (runOf run) (playing (machine (readCharts (now (s .entry)))) (now (masks .entry)) (runOf run)) ⌝ }
 {
     if masks.len() == 0 {
@@ -289,7 +289,7 @@ fn cycles_played(
             answer: Cycles::Refused(w),
             run,
         },
-        Before::Fine => first_played(s, shape, rows, ends, first, next, run, masks),
+        Before::Passed => play_from_first(s, shape, rows, ends, first, next, run, masks),
     }
 }
 
@@ -305,5 +305,5 @@ pub fn play_in_place(s: &[u8], shape: Shape, run: Run, masks: &[u32]) -> Played
     let mut next = [65535u16; 512];
     fill_rows(s, shape, &mut rows, &mut ends);
     fill_actions(s, shape, &mut first, &mut next);
-    cycles_played(s, shape, &rows, &ends, &first, &next, run, masks)
+    play_with_tables(s, shape, &rows, &ends, &first, &next, run, masks)
 }

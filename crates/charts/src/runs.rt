@@ -4,12 +4,12 @@ ghost use Prim.Native.Nat.{ℕ, _≤_, _<_};
 ghost use lib.Dec.{leb};
 ghost use lib.ListN.{length, getD};
 ghost use Rattle.records.specs.Lists.{all, upto, mapFrom};
-ghost use Rattle.model.specs.Runs.{start as started, possible, checked, give as given, timePassed};
+ghost use Rattle.model.specs.Runs.{start as started, possible, checked, give as given, timePassed, restZero};
 ghost use Rattle.model.specs.ChartSet.{ChartSet, readCharts};
 ghost use Rattle.model.specs.Charts.{charts as machine};
 ghost use Rattle.chart_files.specs.Shape.{IsShape};
-ghost use Rattle.machines.specs.Checks.{zeros, beforeOf};
-ghost use Rattle.charts.specs.RunOf.{runOf, runIn, Young, aged};
+ghost use Rattle.machines.specs.Checks.{beforeOf};
+ghost use Rattle.charts.specs.RunOf.{runOf, runIn, AgesPossible, aged};
 use super::values::values_of;
 use chart_files::Shape;
 use machines::checks::Before;
@@ -47,7 +47,7 @@ fn ages_possible(charts: u16, ages: [u32; 8], cycles: u32) -> bool
 }
 
 fn ages_unused(charts: u16, ages: [u32; 8]) -> bool
-    ensures { λ r. ⌜ r ≡ zeros charts ages ⌝ }
+    ensures { λ r. ⌜ r ≡ restZero charts ages ⌝ }
 {
     let mut k = charts as usize;
     while k < 8 {
@@ -119,7 +119,7 @@ pub fn give(mut run: Run, events: u32) -> Run
 }
 
 // In place: a copy of the ages would be read back wider than it was written.
-pub fn older(charts: u16, ages: &mut [u32; 8])
+pub fn grow_ages(charts: u16, ages: &mut [u32; 8])
     requires { ⌜ charts ≤ 8 ⌝ }
     requires { ⌜ ((k : ℕ) → k < charts → getD (now ages) k 0 < 4294967295) ⌝ }
     ensures { λ _. ⌜ now (ages .exit) ≡ mapFrom 0 (aged charts) (now (ages .entry)) ⌝ }
@@ -136,11 +136,11 @@ pub fn older(charts: u16, ages: &mut [u32; 8])
 // Position n + 1 empties the events and adds 1 to each chart's age and to the count of cycles.
 pub fn time_passed(charts: u16, mut run: Run) -> Run
     requires { ⌜ charts ≤ 8 ⌝ }
-    requires { ⌜ Young charts (runOf run) ⌝ }
+    requires { ⌜ AgesPossible charts (runOf run) ⌝ }
     ensures { λ r. ⌜ ((cs : ChartSet) → length (cs .initial) ≡ charts → runOf r ≡ timePassed (machine cs) (runOf run)) ⌝ }
 {
     let mut ages = run.ages;
-    older(charts, &mut ages);
+    grow_ages(charts, &mut ages);
     run.ages = ages;
     run.events = 0;
     run.position = 1;
@@ -149,7 +149,12 @@ pub fn time_passed(charts: u16, mut run: Run) -> Run
 }
 
 // The run of these places between two cycles.
-pub fn between(states: [u16; 8], ages: [u32; 8], variables: [i16; 64], cycles: u32) -> Run
+pub fn run_between_cycles(
+    states: [u16; 8],
+    ages: [u32; 8],
+    variables: [i16; 64],
+    cycles: u32,
+) -> Run
     ensures { λ r. ⌜ runOf r ≡ runIn states ages variables 0 1 cycles ⌝ }
 {
     Run {

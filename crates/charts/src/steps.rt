@@ -11,7 +11,7 @@ ghost use Rattle.charts.specs.Tables.{HasRows, HasEnds, HasActions};
 ghost use Rattle.charts.specs.RunOf.{runIn};
 ghost use Rattle.machines.specs.Worlds.{worldIn, worldBy, bareWorld, IsCode};
 ghost use Rattle.charts.specs.StepOf.{choiceBy, ChoiceOf, slotHolds, answerBy, movedBy, chartTurns};
-ghost use Rattle.charts.specs.TurnOf.{Known};
+ghost use Rattle.charts.specs.TurnOf.{Prepared};
 use super::deeds::do_deeds;
 use super::tables::slot_of;
 use super::transitions::holds;
@@ -69,7 +69,7 @@ fn first_that(
 }
 
 // Exit actions of the source, the transition's, entry actions of the target.
-fn act(
+fn do_actions(
     s: &[u8],
     shape: Shape,
     first: &[u16; 512],
@@ -113,7 +113,7 @@ fn follow(
     requires { ⌜ Accepted (now s) shape × HasActions (now s) shape (now first) (now next) × (chart < 8) × (t < shape .transitions) ⌝ }
     ensures { λ r. ⌜ ((p c : ℕ) → movedBy r (taken t) (now (states .exit)) (now (ages .exit)) (now (vars .exit)) p c ≡ followed (readCharts (now (s .entry))) chart (runIn (now (states .entry)) (now (ages .entry)) (now (vars .entry)) events p c) (some t)) × IsCode r ⌝ }
 {
-    let after = act(s, shape, first, next, t, vars, events);
+    let after = do_actions(s, shape, first, next, t, vars, events);
     if 4294967295 < after {
         return after;
     }
@@ -138,7 +138,7 @@ fn step_in_place(
     events: u32,
     chosen: &mut u16,
 ) -> u64
-    requires { ⌜ Known (now s) shape (now rows) (now ends) (now first) (now next) × (chart < shape .charts) ⌝ }
+    requires { ⌜ Prepared (now s) shape (now rows) (now ends) (now first) (now next) × (chart < shape .charts) ⌝ }
     ensures { λ r. ⌜ ((p c : ℕ) → movedBy r (answerBy (now (chosen .exit))) (now (states .exit)) (now (ages .exit)) (now (vars .exit)) p c ≡ chartStep (readCharts (now (s .entry))) chart (runIn (now (states .entry)) (now (ages .entry)) (now (vars .entry)) events p c)) × IsCode r ⌝ }
 {
     let i = chart as usize;
@@ -182,7 +182,7 @@ pub fn turns_in_place(
     events: u32,
     chosen: &mut u16,
 ) -> u64
-    requires { ⌜ Known (now s) shape (now rows) (now ends) (now first) (now next) × (from ≤ to) × (to ≤ shape .charts) ⌝ }
+    requires { ⌜ Prepared (now s) shape (now rows) (now ends) (now first) (now next) × (from ≤ to) × (to ≤ shape .charts) ⌝ }
     ensures { λ r. ⌜ ((p c : ℕ) → movedBy r (answerBy (now (chosen .exit))) (now (states .exit)) (now (ages .exit)) (now (vars .exit)) (p + (to - from)) c
         ≡ chartTurns (readCharts (now (s .entry))) from (to - from) (answerBy (now (chosen .entry)), runIn (now (states .entry)) (now (ages .entry)) (now (vars .entry)) events p c)) × IsCode r ⌝ }
 {

@@ -10,7 +10,7 @@ ghost use Rattle.machines.specs.Answers.{answerOf};
 ghost use Rattle.charts.specs.Accepted.{Accepted};
 ghost use Rattle.charts.specs.RunOf.{runOf};
 ghost use Rattle.charts.specs.StepOf.{answerBy, movedBy};
-ghost use Rattle.charts.specs.TurnOf.{turnOf, Known, Ready};
+ghost use Rattle.charts.specs.TurnOf.{turnOf, Prepared, Ready};
 use super::runs::Run;
 use super::runs::before_turn;
 use super::runs::give;
@@ -83,7 +83,7 @@ fn chart_turn(
     lent: Run,
     run: Run,
 ) -> Turned
-    requires { ⌜ Known (now s) shape (now rows) (now ends) (now first) (now next) ⌝ }
+    requires { ⌜ Prepared (now s) shape (now rows) (now ends) (now first) (now next) ⌝ }
     requires { ⌜ Ready (shape .charts) (runOf run) ⌝ }
     requires { ⌜ run .position ≤ shape .charts ⌝ }
     ensures { λ r. ⌜ turnOf r ≡ settled (runOf lent) (stepped (machine (readCharts (now (s .entry)))) (runOf run)) ⌝ }
@@ -131,7 +131,7 @@ fn turn_taken(
     lent: Run,
     run: Run,
 ) -> Turned
-    requires { ⌜ Known (now s) shape (now rows) (now ends) (now first) (now next) ⌝ }
+    requires { ⌜ Prepared (now s) shape (now rows) (now ends) (now first) (now next) ⌝ }
     requires { ⌜ Ready (shape .charts) (runOf run) ⌝ }
     ensures { λ r. ⌜ turnOf r ≡ settled (runOf lent) (stepped (machine (readCharts (now (s .entry)))) (runOf run)) ⌝ }
 {
@@ -157,7 +157,7 @@ pub fn turn(
     run: Run,
     events: u32,
 ) -> Turned
-    requires { ⌜ Known (now s) shape (now rows) (now ends) (now first) (now next) ⌝ }
+    requires { ⌜ Prepared (now s) shape (now rows) (now ends) (now first) (now next) ⌝ }
     ensures { λ r. ⌜ turnOf r ≡ settled (runOf run) (model-turn (machine (readCharts (now (s .entry)))) events (runOf run)) ⌝ }
 {
     match before_turn(s, shape, run, events) {
@@ -165,7 +165,7 @@ pub fn turn(
             answer: Answer::Refused(w),
             run,
         },
-        Before::Fine => {
+        Before::Passed => {
             let given = give(run, events);
             turn_taken(s, shape, rows, ends, first, next, run, given)
         }

@@ -6,7 +6,7 @@ ghost use Rattle.expressions.specs.Nodes.{nodeAt};
 ghost use Rattle.expressions.specs.Values.{number, truth};
 ghost use Rattle.expressions.specs.Sorts.{sortOf, isNumber, isTruth, nodesNamed, operandsFit};
 ghost use Rattle.expressions.specs.Uses.{addUses, allOperands};
-ghost use Rattle.expressions.specs.Answers.{reasonOf};
+ghost use Rattle.expressions.specs.Answers.{valueReasonOf};
 ghost use Rattle.records.specs.Framing.{framing as framingBy, counts as countsBy, firsts as firstsBy};
 ghost use Rattle.records.specs.Frame.{framingOf, unlessRefused};
 ghost use Rattle.comparison.specs.Codes.{numberCode, truthCode, reasonCode, refusalCode};
@@ -16,7 +16,7 @@ use expressions::arithmetic::Truth;
 use records::Framing;
 
 fn reason_code(w: Reason) -> i64
-    ensures { λ r. ⌜ r ≡ reasonCode (reasonOf w) ⌝ }
+    ensures { λ r. ⌜ r ≡ reasonCode (valueReasonOf w) ⌝ }
 {
     match w {
         Reason::Range => 4294967311,

@@ -10,7 +10,8 @@ use lib.IntN.{ℤ, pos}
 use Rattle.records.specs.Lists.{caseOf}
 use Rattle.records.specs.Refusal.{Out, val}
 use Rattle.expressions.specs.Nodes.{Node, constant, variable, arithmetic, choice, comparison, negation, both, either, unknown, sum, difference, product, quotient, remainder, equal, less, at-most, nodeBy}
-use Rattle.expressions.specs.Values.{numberBy, truthBy, decide}
+use Rattle.expressions.specs.Values.{numberBy, truthBy}
+use Rattle.expressions.specs.OperandValues.{decide}
 use Rattle.expressions.specs.Coded.{arithmeticOf, comparisonOf}
 use Rattle.expressions.specs.Sorts.{Sort, a-number, a-truth, sortOf, isNumber, isTruth, operands, variablesOf}
 

@@ -10,7 +10,8 @@ use lib.IntN.{ℤ, pos}
 use lib.ListN.{getD}
 use Rattle.records.specs.Refusal.{Out, val}
 use Rattle.expressions.specs.Nodes.{Node, constant, variable, arithmetic, choice, comparison, negation, both, either, unknown}
-use Rattle.expressions.specs.Values.{numberBy, truthBy, numberAt, truthAt, number, truth, operandNumber, operandTruth}
+use Rattle.expressions.specs.Values.{numberBy, truthBy, numberAt, truthAt, number, truth}
+use Rattle.expressions.specs.OperandValues.{operandNumber, operandTruth}
 
 -- an operand's value: one that is not lower than its node comes to d
 abbrev below : {A : Type 0} → A → (ℕ → Out A) → ℕ → ℕ → Out A

@@ -11,7 +11,7 @@ use mir.Facts.{toZ-ofZ}
 use mir.Syntax.{w64}
 use mir.Val.{toZ, ofZ}
 use Rattle.records.specs.Refusal.{Out, val, fault, out-of-range, zero-divisor, _>>=_, choose}
-use Rattle.expressions.specs.Values.{decide}
+use Rattle.expressions.specs.OperandValues.{decide}
 use Rattle.expressions.specs.Outcomes.{faultIf, numberCode, truthCode, Reached, value, range, divisor, StandsFor, TruthStandsFor}
 
 -- ---- numbers

@@ -16,17 +16,17 @@ use Rattle.expressions.specs.Outcomes.{BothNarrow}
 
 -- ---- the range of 32 bits by two comparisons
 
-pub between : (z : ℤ) → leZ (negsuc 2147483647) z ≡ true → leZ z (pos 2147483647) ≡ true → mag z < 2 ^ 31
-between (pos n) a b = let l : n ≤ 2147483647 = leb-true n 2147483647 b in omega arith
-between (negsuc n) a b = let l : n ≤ 2147483647 = leb-true n 2147483647 a in omega arith
+pub between-range : (z : ℤ) → leZ (negsuc 2147483647) z ≡ true → leZ z (pos 2147483647) ≡ true → mag z < 2 ^ 31
+between-range (pos n) a b = let l : n ≤ 2147483647 = leb-true n 2147483647 b in omega arith
+between-range (negsuc n) a b = let l : n ≤ 2147483647 = leb-true n 2147483647 a in omega arith
 
 pub below : (z : ℤ) → leZ (negsuc 2147483647) z ≡ false → ltb (mag z) (2 ^ 31) ≡ false
 below (pos n) a = absurd (subst T a tt)
 below (negsuc n) a = le-ltb n (2 ^ 31) (let l : 2147483647 < n = leb-false n 2147483647 a in omega arith)
 
-pub above : (z : ℤ) → leZ z (pos 2147483647) ≡ false → ltb (mag z) (2 ^ 31) ≡ false
-above (pos n) a = le-ltb n (2 ^ 31) (let l : 2147483647 < n = leb-false n 2147483647 a in omega arith)
-above (negsuc n) a = absurd (subst T a tt)
+pub above-range : (z : ℤ) → leZ z (pos 2147483647) ≡ false → ltb (mag z) (2 ^ 31) ≡ false
+above-range (pos n) a = le-ltb n (2 ^ 31) (let l : 2147483647 < n = leb-false n 2147483647 a in omega arith)
+above-range (negsuc n) a = absurd (subst T a tt)
 
 -- ---- how large a result can be
 

@@ -1,7 +1,7 @@
 -- The number for two answers says each of them. Assumes nothing.
 use mathlib.Core.Path.{_≡_, refl}
 use mathlib.Core.Bool.{Bool, true, false}
-use Rattle.expressions.specs.Sorts.{verdict, saysNamed, saysFit}
+use Rattle.expressions.specs.Verdicts.{verdict, saysNamed, saysFit}
 
 pub named-said : (named fit : Bool) → saysNamed (verdict named fit) ≡ named
 named-said true true = refl

@@ -19,17 +19,17 @@ use Rattle.expressions.specs.declared.nodes.Node.the-variants.{Constant,
 use Rattle.expressions.specs.declared.sorts.Sort as declared-sort
 use Rattle.expressions.specs.declared.sorts.Operands as declared-operands
 
-abbrev pub reasonOf : Reason → Refusal
-reasonOf Range = out-of-range
-reasonOf Divisor = zero-divisor
+abbrev pub valueReasonOf : Reason → Refusal
+valueReasonOf Range = out-of-range
+valueReasonOf Divisor = zero-divisor
 
 abbrev pub numberOf : declared-number.Number → Out ℤ
 numberOf (declared-number.the-variants.Value z) = val z
-numberOf (declared-number.the-variants.Fault w) = fault (reasonOf w)
+numberOf (declared-number.the-variants.Fault w) = fault (valueReasonOf w)
 
 abbrev pub truthOf : declared-truth.Truth → Out Bool
 truthOf (declared-truth.the-variants.Value t) = val t
-truthOf (declared-truth.the-variants.Fault w) = fault (reasonOf w)
+truthOf (declared-truth.the-variants.Fault w) = fault (valueReasonOf w)
 
 abbrev pub operatorOf : Operator → Arithmetic
 operatorOf Sum = sum

@@ -1,8 +1,8 @@
 -- Sorts, order and use of nodes, which refusals 6, 8 and 11 ask of. Assumes nothing: these are definitions.
-use mathlib.Core.Bool.{Bool, true, false, cond, _&&_, _||_}
+use mathlib.Core.Bool.{Bool, true, false, _&&_}
 use mathlib.Core.List.{List, [], _∷_, map}
 use Prim.Native.Nat.{ℕ}
-use lib.Dec.{leb, ltb, eqb}
+use lib.Dec.{ltb, eqb}
 use Rattle.records.specs.Lists.{all, count, gather, upto, Lists}
 use Rattle.expressions.specs.Nodes.{Node, constant, variable, arithmetic, choice, comparison, negation, both, either, unknown}
 
@@ -83,20 +83,6 @@ module _ (node : ℕ → Node) (size : ℕ) where
   -- 8, 11: how often node k is an operand, over all operand places
   abbrev pub operandUses : ℕ → ℕ
   operandUses k = count (λ n. eqb n k) (gather (λ n. map (λ o. o .0) (operands (node n))) (upto size))
-
--- both tests of nodes as one number: 1 where all is named, and 2 more where all operands fit
-abbrev pub verdict : Bool → Bool → ℕ
-verdict named fit = cond named (cond fit 3 1) (cond fit 2 0)
-
--- what such a number says of each
-abbrev pub saysNamed : ℕ → Bool
-saysNamed found = eqb found 1 || eqb found 3
-
-abbrev pub saysFit : ℕ → Bool
-saysFit found = leb 2 found
-
-abbrev pub verdictOf : (ℕ → Node) → ℕ → ℕ → ℕ
-verdictOf node size variables = verdict (nodesNamed node size variables) (operandsFit node size)
 
 unfoldable pub Sorts : Type 0
 unfolding Lists

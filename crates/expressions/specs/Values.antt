@@ -36,11 +36,6 @@ compare equal a b = leZ a b && leZ b a
 compare less a b = ltZ a b
 compare at-most a b = leZ a b
 
--- And, or: the first that is the truth that decides, false or true, else the second.
-abbrev pub decide : Bool → Out Bool → Out Bool → Out Bool
-decide true x y = choose x (val true) y
-decide false x y = choose x y (val false)
-
 -- What a node comes to, given what its operands come to. "Operands go left to right; the first fault ends it." "The truth of a choice's first
 -- operand picks the number worked out; the other is not touched. And, or stop at the first operand that decides." A node of the other sort comes to
 -- 0, or false, which no accepted file meets.
@@ -91,26 +86,6 @@ module _ (node : ℕ → Node) (vars : List ℤ) where
 
   abbrev pub truth : ℕ → Out Bool
   truth n = truthAt (suc n) n
-
-  -- operand a of node n, as a number, and as a truth
-  abbrev pub operandNumber : ℕ → ℕ → Out ℤ
-  operandNumber n a = cond (ltb a n) (number a) (val (pos 0))
-
-  abbrev pub operandTruth : ℕ → ℕ → Out Bool
-  operandTruth n a = cond (ltb a n) (truth a) (val false)
-
-  -- operands a and b of node n, left to right, under an operator, and under a relation
-  abbrev pub computeOperands : Arithmetic → ℕ → ℕ → ℕ → Out ℤ
-  computeOperands o n a b = do
-    x ← operandNumber n a
-    y ← operandNumber n b
-    compute o x y
-
-  abbrev pub compareOperands : Comparison → ℕ → ℕ → ℕ → Out Bool
-  compareOperands o n a b = do
-    x ← operandNumber n a
-    y ← operandNumber n b
-    val (compare o x y)
 
 unfoldable pub Values : Type 0
 unfolding numberAt

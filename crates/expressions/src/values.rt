@@ -9,8 +9,9 @@ ghost use lib.IntN.{pos};
 ghost use lib.Signed.{leZ};
 ghost use Rattle.records.specs.Refusal.{val, fault, choose};
 ghost use Rattle.expressions.specs.Nodes.{nodeAt};
-ghost use Rattle.expressions.specs.Values.{number, truth, decide, operandNumber, operandTruth, computeOperands, compareOperands};
-ghost use Rattle.expressions.specs.Answers.{reasonOf, numberOf, truthOf};
+ghost use Rattle.expressions.specs.Values.{number, truth};
+ghost use Rattle.expressions.specs.OperandValues.{operandNumber, operandTruth, computeOperands, compareOperands, decide};
+ghost use Rattle.expressions.specs.Answers.{valueReasonOf, numberOf, truthOf};
 ghost use Rattle.expressions.specs.Outcomes.{faultIf, StandsFor, TruthStandsFor};
 ghost use Rattle.expressions.specs.Coded.{arithmeticOf, comparisonOf};
 use super::arithmetic::HIGHEST;
@@ -193,7 +194,7 @@ fn truth_outcome(nodes: &[u8], vars: &[i16; 64], n: u16) -> u8
 }
 
 fn reason(range: bool) -> Reason
-    ensures { λ r. ⌜ reasonOf r ≡ faultIf range ⌝ }
+    ensures { λ r. ⌜ valueReasonOf r ≡ faultIf range ⌝ }
 {
     if range {
         Reason::Range

@@ -14,7 +14,7 @@ use Rattle.records.specs.Lists.{keep, count}
 use Rattle.records.specs.Bytes.{byte, records, kind, ofKind}
 use Rattle.records.proofs.Records.{recordAt, getD-records, length-records}
 use Rattle.records.proofs.FramingLaws.{count-le, kind-record}
-use Rattle.chart_files.proofs.Numbers.{count-append}
+use Rattle.chart_files.proofs.NumberLaws.{count-append}
 use Rattle.list.specs.Listing.{numberOf}
 
 pub number-le : (s : List ℕ) (k n : ℕ) → numberOf s k n ≤ n

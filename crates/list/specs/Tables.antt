@@ -3,7 +3,7 @@ use mathlib.Core.Bool.{Bool, true, false}
 use mathlib.Core.List.{List, [], _++_}
 use Prim.Native.Nat.{ℕ}
 use Rattle.model.specs.Runs.{Deed}
-use Rattle.model.specs.AutomataTable.{Edge, Literal, Clock, Cause, always, event, clock, Timing, after, every}
+use Rattle.model.specs.AutomataTable.{Edge, Literal, Clock, LiteralTrigger, always, event, clock, Timing, after, every}
 use Rattle.messages.specs.Texts.{ascii}
 use Rattle.list.specs.Parts.{named, measured, guardText, deedText}
 
@@ -28,14 +28,14 @@ abbrev pub signText : Bool → List ℕ
 signText true = ascii " must hold"
 signText false = ascii " must not"
 
-abbrev pub causeText : Cause → List ℕ
-causeText always = ascii ": always"
-causeText (event e) = named ": event " e
-causeText (clock k) = named ": clock " k
+abbrev pub literalTriggerText : LiteralTrigger → List ℕ
+literalTriggerText always = ascii ": always"
+literalTriggerText (event e) = named ": event " e
+literalTriggerText (clock k) = named ": clock " k
 
 -- 36, of an edge
 abbrev pub literalText : ℕ → ℕ × Literal → List ℕ
-literalText i x = named "literal " i ++ named ": edge " (x .0) ++ signText (x .1 .must) ++ causeText (x .1 .cause) ++ guardText (x .1 .guard)
+literalText i x = named "literal " i ++ named ": edge " (x .0) ++ signText (x .1 .must) ++ literalTriggerText (x .1 .trigger) ++ guardText (x .1 .guard)
 
 abbrev pub timingText : Timing → ℕ → List ℕ
 timingText after ticks = measured ": after " ticks " ticks"

@@ -4,7 +4,7 @@ ghost use lib.Dec.{eqb};
 ghost use Rattle.records.specs.Bytes.{byte, two as twoBytes};
 ghost use Rattle.model.specs.AutomataTable.{readEdge, readLiteral, readClock, readUpdate, readReset};
 ghost use Rattle.list.specs.Parts.{WroteNear};
-ghost use Rattle.list.specs.Tables.{automatonText, locationText, idleText, edgeText, signText, causeText, literalText, timingText, clockText, updateText, resetText};
+ghost use Rattle.list.specs.Tables.{automatonText, locationText, idleText, edgeText, signText, literalTriggerText, literalText, timingText, clockText, updateText, resetText};
 use super::fields::one;
 use super::fields::put_deed;
 use super::fields::put_guard;
@@ -62,9 +62,9 @@ fn put_sign(out: &mut [u8], at: usize, sign: u8) -> usize
     }
 }
 
-fn put_cause(out: &mut [u8], at: usize, r: &[u8]) -> usize
+fn put_literal_trigger(out: &mut [u8], at: usize, r: &[u8]) -> usize
     requires { ⌜ at < 2 ^ 18 ⌝ }
-    ensures { λ n. ⌜ WroteNear 32 (now (out .entry)) at (causeText (readLiteral (now (r .entry)) .1 .cause)) (now (out .exit)) n ⌝ }
+    ensures { λ n. ⌜ WroteNear 32 (now (out .entry)) at (literalTriggerText (readLiteral (now (r .entry)) .1 .trigger)) (now (out .exit)) n ⌝ }
 {
     match byte_at(r, 4) {
         1 => put_named(out, at, b": event ", one(r, 5)),
@@ -78,8 +78,8 @@ pub fn put_literal(out: &mut [u8], i: u32, r: &[u8]) -> usize
 {
     let edge = put_named(out, 0, b"literal ", i);
     let sign = put_named(out, edge, b": edge ", two(r, 2));
-    let cause = put_sign(out, sign, byte_at(r, 1));
-    let guard = put_cause(out, cause, r);
+    let trigger = put_sign(out, sign, byte_at(r, 1));
+    let guard = put_literal_trigger(out, trigger, r);
     put_guard(out, guard, u16_at(r, 8))
 }
 

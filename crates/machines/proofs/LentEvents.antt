@@ -39,7 +39,7 @@ use denote.Triple.Walked.{says, needs, Stays, stay-ref, stay-dropped, walkOf, go
 use denote.Exit.{yes}
 use Rattle.records.specs.Refusal.{Out}
 use Rattle.model.specs.Outcome.{Outcome}
-use Rattle.machines.proofs.Whole.{opens-whole, closes-whole}
+use Rattle.machines.proofs.LentWhole.{opens-whole, closes-whole}
 use Rattle.machines.proofs.Lent.{Structure, Enumeration, Answering, struct-row, struct-mir, struct-val, enum-row, enum-mir, enum-val, bound, silent, called, called-mir, called-laws, answer-is, run-is}
 
 -- the run's type, the shape's and the answer's: the function's contract, of how the run and the answer read, what is asked of file and shape, and what the function does

@@ -17,40 +17,40 @@ use Rattle.model.specs.Outcome.{settled}
 use Rattle.model.specs.Calls.{Format}
 use Rattle.model.specs.Runs.{Run, Answer, time, Machine, parts, allPlaces, placesPossible, variablesPossible, timersPossible, positionPossible, countPossible, eventsPossible, unusedZero, possible, checked, give, moved, timePassed, cycle}
 use Rattle.machines.specs.Turns.{after, finish, KeptRun}
-use Rattle.machines.proofs.Turning.{val-is, after-more, after-none, cycle-refused, cycle-fine}
+use Rattle.machines.proofs.Turns.{val-is, after-more, after-none, cycle-refused, cycle-fine}
 use Rattle.machines.specs.Playing.{later, onwards, played, stoppedAt, playing, playCall}
 
 -- ---- one after another
 
 module _ (m : Machine) (masks : List ℕ) (r : Run) where
   -- k cycles led to q, and the rest is played from there
-  abbrev pub Went : ℕ → Run → Type 0
-  Went k q = played m masks r ≡ later k (played m (drop k masks) q)
+  abbrev pub PlayedAfter : ℕ → Run → Type 0
+  PlayedAfter k q = played m masks r ≡ later k (played m (drop k masks) q)
 
-  pub went-none : Went 0 r
-  went-none = λ i. record { count = (let z : played m masks r .count ≡ 0 + played m masks r .count = omega arith in z) i; run = played m masks r .run; stop = played m masks r .stop }
+  pub playedAfter-none : PlayedAfter 0 r
+  playedAfter-none = λ i. record { count = (let z : played m masks r .count ≡ 0 + played m masks r .count = omega arith in z) i; run = played m masks r .run; stop = played m masks r .stop }
 
   one : (k : ℕ) (q : Run) → k < length masks → played m (drop k masks) q ≡ onwards q (cycle m (getD masks k 0) q) (played m (drop (k + 1) masks))
   unfolding played
   one k q h = ap (λ l. played m l q) (drop-cons masks k 0 h) ∙ ap (λ j. onwards q (cycle m (getD masks k 0) q) (played m (drop j masks))) (sym (add-one k))
 
-  pub went-more : (k : ℕ) (q p : Run) → k < length masks → Went k q → cycle m (getD masks k 0) q ≡ val (tt, p) → Went (k + 1) p
-  went-more k q p h w e =
+  pub playedAfter-more : (k : ℕ) (q p : Run) → k < length masks → PlayedAfter k q → cycle m (getD masks k 0) q ≡ val (tt, p) → PlayedAfter (k + 1) p
+  playedAfter-more k q p h w e =
       w ∙ ap (later k) (one k q h ∙ ap (λ o. onwards q o (played m (drop (k + 1) masks))) e)
       ∙ (λ i. record { count = sums i; run = played m (drop (k + 1) masks) p .run; stop = played m (drop (k + 1) masks) p .stop })
     where
       sums : k + (1 + played m (drop (k + 1) masks) p .count) ≡ k + 1 + played m (drop (k + 1) masks) p .count
       sums = omega arith
 
-  pub went-stop : (k : ℕ) (q : Run) (w : Refusal) → k < length masks → Went k q → cycle m (getD masks k 0) q ≡ fault w →
+  pub playedAfter-stop : (k : ℕ) (q : Run) (w : Refusal) → k < length masks → PlayedAfter k q → cycle m (getD masks k 0) q ≡ fault w →
       played m masks r ≡ record { count = k; run = q; stop = fault w }
-  went-stop k q w h g e =
+  playedAfter-stop k q w h g e =
       g ∙ ap (later k) (one k q h ∙ ap (λ o. onwards q o (played m (drop (k + 1) masks))) e)
       ∙ (λ i. record { count = (let z : k + 0 ≡ k = omega arith in z) i; run = q; stop = fault w })
 
-  pub went-all : (k : ℕ) (q : Run) → length masks ≤ k → Went k q → played m masks r ≡ record { count = k; run = q; stop = val tt }
+  pub playedAfter-all : (k : ℕ) (q : Run) → length masks ≤ k → PlayedAfter k q → played m masks r ≡ record { count = k; run = q; stop = val tt }
   unfolding played
-  went-all k q h g =
+  playedAfter-all k q h g =
       g ∙ ap (λ l. later k (played m l q)) (drop-of-length-le masks {i = k} h)
       ∙ (λ i. record { count = (let z : k + 0 ≡ k = omega arith in z) i; run = q; stop = val tt })
 
@@ -76,13 +76,13 @@ module _ (m : Machine) (given : ℕ) (r : Run) (e : checked m given r ≡ val tt
   passed = none-failed (possible m r) (not (eqb (r .world .position) 1) && not (eqb given 0)) (eqb (r .world .position) 1 && eqb (r .world .cycles) 1_000_000) e
 
   -- of the clauses of 12: position and count
-  some-clauses : (positionPossible m (r .world) ≡ true) × (countPossible m (r .world) ≡ true)
+  some-clauses : (positionPossible (parts m) (r .world) ≡ true) × (countPossible (r .world) ≡ true)
   some-clauses =
-      let p = allPlaces m r && placesPossible m r && variablesPossible m r && timersPossible m r in
-      let u = and-true (p && positionPossible m (r .world) && countPossible m (r .world) && eventsPossible m (r .world)) (unusedZero m r) (passed .0) in
-      let v = and-true (p && positionPossible m (r .world) && countPossible m (r .world)) (eventsPossible m (r .world)) (u .0) in
-      let w = and-true (p && positionPossible m (r .world)) (countPossible m (r .world)) (v .0) in
-      (and-true p (positionPossible m (r .world)) (w .0) .1, w .1)
+      let p = allPlaces m r && placesPossible (parts m) (m .homes) (r .at) && variablesPossible (m .variables) (r .world .vars) && timersPossible m r in
+      let u = and-true (p && positionPossible (parts m) (r .world) && countPossible (r .world) && eventsPossible (r .world)) (unusedZero m r) (passed .0) in
+      let v = and-true (p && positionPossible (parts m) (r .world) && countPossible (r .world)) (eventsPossible (r .world)) (u .0) in
+      let w = and-true (p && positionPossible (parts m) (r .world)) (countPossible (r .world)) (v .0) in
+      (and-true p (positionPossible (parts m) (r .world)) (w .0) .1, w .1)
 
   placed : (1 ≤ r .world .position) × (r .world .position ≤ parts m + 1)
   placed =

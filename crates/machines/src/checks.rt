@@ -5,10 +5,10 @@ ghost use mathlib.Core.List.{[]};
 ghost use Prim.Native.Nat.{_+_, _≤_};
 ghost use lib.Dec.{leb, ltb, eqb};
 ghost use Rattle.records.specs.Lists.{padded};
-ghost use Rattle.model.specs.Runs.{within};
+ghost use Rattle.model.specs.Runs.{inBounds, placesPossible, variablesPossible, restZero, restZeroValues, checkedBy};
 ghost use Rattle.machines.specs.Files.{initialsIn, homeIn, homesIn, variableIn, variablesIn, HasValues};
 ghost use Rattle.machines.specs.Worlds.{worldIn};
-ghost use Rattle.machines.specs.Checks.{placesFit, variablesFit, counts, zeros, zeroValues, shared, checkedBy, beforeOf};
+ghost use Rattle.machines.specs.Checks.{countsPossible, sharedPossible, beforeOf};
 use super::values::Values;
 use super::values::highest_of;
 use super::values::lowest_of;
@@ -43,7 +43,7 @@ fn events_possible(position: u32, events: u32) -> bool
 // What can be said of position, count and events without the file.
 fn counts_possible(parts: u16, events: u32, position: u32, cycles: u32) -> bool
     requires { ⌜ parts ≤ 8 ⌝ }
-    ensures { λ r. ⌜ r ≡ counts parts (worldIn [] events position cycles) ⌝ }
+    ensures { λ r. ⌜ r ≡ countsPossible parts (worldIn [] events position cycles) ⌝ }
 {
     position_possible(parts, position)
         & count_possible(position, cycles)
@@ -52,7 +52,7 @@ fn counts_possible(parts: u16, events: u32, position: u32, cycles: u32) -> bool
 
 // Places behind the parts' are 0.
 fn places_unused(parts: u16, at: [u16; 8]) -> bool
-    ensures { λ r. ⌜ r ≡ zeros parts at ⌝ }
+    ensures { λ r. ⌜ r ≡ restZero parts at ⌝ }
 {
     let mut k = parts as usize;
     while k < 8 {
@@ -66,7 +66,7 @@ fn places_unused(parts: u16, at: [u16; 8]) -> bool
 
 // All are looked at, so that the compiler takes several at once.
 fn variables_unused(count: u16, variables: [i16; 64]) -> bool
-    ensures { λ r. ⌜ r ≡ zeroValues count variables ⌝ }
+    ensures { λ r. ⌜ r ≡ restZeroValues count variables ⌝ }
 {
     let mut unused = true;
     let mut k = count as usize;
@@ -87,7 +87,7 @@ fn place_possible(s: &[u8], parts: u16, places: u16, part: u16, place: u16) -> b
 // Each part is in a place of its own.
 fn places_possible(s: &[u8], parts: u16, places: u16, at: [u16; 8]) -> bool
     requires { ⌜ parts ≤ 8 ⌝ }
-    ensures { λ r. ⌜ r ≡ placesFit parts (homesIn (now (s .entry)) parts places) at ⌝ }
+    ensures { λ r. ⌜ r ≡ placesPossible parts (homesIn (now (s .entry)) parts places) at ⌝ }
 {
     let mut c: u16 = 0;
     while c < parts {
@@ -102,7 +102,7 @@ fn places_possible(s: &[u8], parts: u16, places: u16, at: [u16; 8]) -> bool
 
 fn value_possible(s: &[u8], values: Values, v: u16, value: i16) -> bool
     requires { ⌜ HasValues (now s) values ⌝ }
-    ensures { λ r. ⌜ r ≡ within (variableIn (now (s .entry)) values v) value ⌝ }
+    ensures { λ r. ⌜ r ≡ inBounds (variableIn (now (s .entry)) values v) value ⌝ }
 {
     (lowest_of(s, values, v) <= value) & (value <= highest_of(s, values, v))
 }
@@ -110,7 +110,7 @@ fn value_possible(s: &[u8], values: Values, v: u16, value: i16) -> bool
 // Each variable is within its bounds.
 fn variables_possible(s: &[u8], values: Values, variables: [i16; 64]) -> bool
     requires { ⌜ HasValues (now s) values ⌝ }
-    ensures { λ r. ⌜ r ≡ variablesFit (variablesIn (now (s .entry)) values) variables ⌝ }
+    ensures { λ r. ⌜ r ≡ variablesPossible (variablesIn (now (s .entry)) values) variables ⌝ }
 {
     let mut v: u16 = 0;
     while v < values.variables {
@@ -137,7 +137,7 @@ pub fn shared_possible(
 ) -> bool
     requires { ⌜ parts ≤ 8 ⌝ }
     requires { ⌜ HasValues (now s) values ⌝ }
-    ensures { λ r. ⌜ r ≡ shared parts (homesIn (now (s .entry)) parts places) (variablesIn (now (s .entry)) values) at (worldIn variables events position cycles) ⌝ }
+    ensures { λ r. ⌜ r ≡ sharedPossible parts (homesIn (now (s .entry)) parts places) (variablesIn (now (s .entry)) values) at (worldIn variables events position cycles) ⌝ }
 {
     places_possible(s, parts, places, at)
         & variables_possible(s, values, variables)
@@ -148,7 +148,7 @@ pub fn shared_possible(
 
 // What is checked before a turn, or a cycle: the run, where events are given, and that a cycle is left to do.
 pub enum Before {
-    Fine,
+    Passed,
     Refused(Refusal),
 }
 
@@ -164,7 +164,7 @@ pub fn decide(possible: bool, events: u32, position: u32, cycles: u32) -> Before
     if (position == 1) & (cycles == 1000000) {
         return Before::Refused(Refusal::CyclesDone);
     }
-    Before::Fine
+    Before::Passed
 }
 
 // Input events are given at position 1.

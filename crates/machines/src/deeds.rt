@@ -8,7 +8,7 @@ ghost use lib.ListN.{getD};
 ghost use lib.Signed.{leZ, mag};
 ghost use Rattle.records.specs.Refusal.{fault};
 ghost use Rattle.expressions.specs.Answers as expressions-answers;
-ghost use Rattle.model.specs.Runs.{within, noVariable, present, raised, assign, deed};
+ghost use Rattle.model.specs.Runs.{inBounds, noVariable, present, raised, assign, deed};
 ghost use Rattle.machines.specs.Files.{variablesIn, nodesIn, HasValues};
 ghost use Rattle.machines.specs.Answers.{reasonOf};
 ghost use Rattle.machines.specs.Worlds.{worldIn, worldAfter, codedFault, coded, IsCode, worldBy};
@@ -58,7 +58,7 @@ fn is_between(z: i32, lowest: i16, highest: i16) -> bool
 
 fn is_within(s: &[u8], values: Values, v: u8, z: i32) -> bool
     requires { ⌜ HasValues (now s) values × (v < values .variables) ⌝ }
-    ensures { λ r. ⌜ (r ≡ within (getD (variablesIn (now (s .entry)) values) v noVariable) z) × (r ≡ true → mag z < 2 ^ 15) ⌝ }
+    ensures { λ r. ⌜ (r ≡ inBounds (getD (variablesIn (now (s .entry)) values) v noVariable) z) × (r ≡ true → mag z < 2 ^ 15) ⌝ }
 {
     is_between(
         z,
@@ -69,7 +69,7 @@ fn is_within(s: &[u8], values: Values, v: u8, z: i32) -> bool
 
 // Answers as one number: events are below 2^32, and a fault is 2^32 and its number in the refusal table. It stays in a register, where an enum goes through memory.
 pub fn fault_code(w: expressions::arithmetic::Reason) -> u64
-    ensures { λ r. ⌜ (4294967295 < r) × (coded r ≡ fault (expressions-answers.reasonOf w)) × IsCode r ⌝ }
+    ensures { λ r. ⌜ (4294967295 < r) × (coded r ≡ fault (expressions-answers.valueReasonOf w)) × IsCode r ⌝ }
 {
     match w {
         expressions::arithmetic::Reason::Range => 4294967311,

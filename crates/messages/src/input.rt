@@ -12,7 +12,7 @@ use libc::STDERR_FILENO;
 use records::refusals::Refusal;
 
 // So many bytes were read; where a read failed there may be more.
-pub struct Got {
+pub struct BytesRead {
     pub failed: bool,
     pub size: usize,
 }
@@ -31,10 +31,10 @@ struct Part {
     kind: u8,
 }
 
-fn nothing() -> Got
+fn nothing() -> BytesRead
     ensures { λ r. ⌜ r .size ≡ 0 ⌝ }
 {
-    Got {
+    BytesRead {
         failed: true,
         size: 0,
     }
@@ -53,15 +53,15 @@ pub fn arguments(least: usize, most: usize, usage: &[u8]) -> bool {
 }
 
 // An argument at the start of `name`; one that does not fit is told.
-pub fn argument(i: usize, name: &mut [u8]) -> Got
+pub fn argument(i: usize, name: &mut [u8]) -> BytesRead
     ensures { λ r. ⌜ Counts (r .size) (now (name .exit)) ⌝ }
 {
     let size = os::arg(i, name);
     if os::errno() != 0 {
         os::fail(b"file name");
-        return Got { failed: true, size };
+        return BytesRead { failed: true, size };
     }
-    Got {
+    BytesRead {
         failed: false,
         size,
     }
@@ -70,25 +70,25 @@ pub fn argument(i: usize, name: &mut [u8]) -> Got
 // ---- reading
 
 // Reads until the buffer is full or the input ends. Unlike `io::read_full` it tells a failed read from the end.
-pub fn fill(fd: i32, buf: &mut [u8]) -> Got
+pub fn fill(fd: i32, buf: &mut [u8]) -> BytesRead
     ensures { λ r. ⌜ Counts (r .size) (now (buf .exit)) ⌝ }
 {
     let mut size: usize = 0;
     while size < buf.len() {
         let got = libc::read(fd, &mut buf[size..]);
         if got < 0 {
-            return Got { failed: true, size };
+            return BytesRead { failed: true, size };
         }
         let more = io::count(got, &buf[size..]);
         if more == 0 {
-            return Got {
+            return BytesRead {
                 failed: false,
                 size,
             };
         }
         size += more;
     }
-    Got {
+    BytesRead {
         failed: false,
         size,
     }
@@ -177,7 +177,7 @@ fn refuse_full(fd: i32, name: &[u8], buf: &mut [u8], form: Form) {
 }
 
 // Reads a file into a buffer that is longer than any set or table. Where it is missing, unreadable or fills the buffer, that is told, and it counts as failed.
-pub fn read_file(name: &[u8], buf: &mut [u8], form: Form) -> Got
+pub fn read_file(name: &[u8], buf: &mut [u8], form: Form) -> BytesRead
     ensures { λ r. ⌜ Counts (r .size) (now (buf .exit)) ⌝ }
 {
     let fd = os::open_read(name);

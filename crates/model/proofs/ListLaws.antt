@@ -20,8 +20,8 @@ unfolding mem
 mem-cons e x xs h = to-right (eqb x e) (mem e xs) h
 
 -- in a list without u, nothing equals u
-pub apart : (u x : ℕ) (xs : List ℕ) → T (mem x xs) → mem u xs ≡ false → eqb x u ≡ false
-apart u x xs h e = go (eqb x u) refl
+pub mem-apart : (u x : ℕ) (xs : List ℕ) → T (mem x xs) → mem u xs ≡ false → eqb x u ≡ false
+mem-apart u x xs h e = go (eqb x u) refl
   where
     go : (p : Bool) → eqb x u ≡ p → p ≡ false
     go false d = refl

@@ -9,7 +9,7 @@ use Rattle.records.specs.Lists.{keep, mapFrom, upto}
 use Rattle.records.specs.Refusal.{none-open, many-open, Out, val, fault, _>>=_, choose}
 use Rattle.model.specs.Owned.{of}
 use Rattle.model.specs.Runs.{World, Run, present, deeds, guardHolds, Answer, taken, Machine, Runs}
-use Rattle.model.specs.AutomataTable.{Cause, always, event, clock, Edge, Literal, Timing, after, every, Clock, Automata, edge, clockAt, AutomataTable}
+use Rattle.model.specs.AutomataTable.{LiteralTrigger, always, event, clock, Edge, Literal, Timing, after, every, Clock, Automata, edge, clockAt, AutomataTable}
 
 -- ---- time
 
@@ -26,14 +26,14 @@ grown every d x = cond (eqb x d) 1 (x + 1)
 -- ---- open edges
 
 -- "An event trigger holds while the event is present; a clock trigger at clock = ticks."
-abbrev pub causeHolds : Automata → Run → Cause → Bool
-causeHolds au r always = true
-causeHolds au r (event e) = present e (r .world .events)
-causeHolds au r (clock k) = eqb (getD (r .timers) k 0) (clockAt au k .ticks)
+abbrev pub literalTriggerHolds : Automata → Run → LiteralTrigger → Bool
+literalTriggerHolds au r always = true
+literalTriggerHolds au r (event e) = present e (r .world .events)
+literalTriggerHolds au r (clock k) = eqb (getD (r .timers) k 0) (clockAt au k .ticks)
 
 -- "A literal's condition is its trigger and then, only if that holds, its guard."
 abbrev pub conditionHolds : Automata → Run → Literal → Out Bool
-conditionHolds au r l = cond (causeHolds au r (l .cause)) (guardHolds (au .nodes) (r .world .vars) (l .guard)) (val false)
+conditionHolds au r l = cond (literalTriggerHolds au r (l .trigger)) (guardHolds (au .nodes) (r .world .vars) (l .guard)) (val false)
 
 -- "1 must hold, 2 must not"
 abbrev pub literalHolds : Automata → Run → Literal → Out Bool

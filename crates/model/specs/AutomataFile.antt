@@ -11,7 +11,8 @@ use Rattle.records.specs.Bytes.{byte, records, kind}
 use Rattle.records.specs.Framing.{framingTests, Framing}
 use Rattle.expressions.specs.Nodes.{nodeOf}
 use Rattle.expressions.specs.Sorts.{sortOf, isNumber, isTruth, nodesNamed, operandsFit, operandUses, Sorts}
-use Rattle.model.specs.AutomataTable.{Cause, always, event, clock, Edge, Literal, Clock, Automata, readAutomata, AutomataTable}
+use Rattle.model.specs.Owned.{home}
+use Rattle.model.specs.AutomataTable.{LiteralTrigger, always, event, clock, Edge, Literal, Clock, Automata, readAutomata, AutomataTable}
 use Rattle.model.specs.ChartFile.{unusedAreZero, unusedVariable, unusedNode, between, isEvent, variableInCode, nodeInCode, deedInCode, guardNamed, deedNamed, guardNodes, assignedNodes}
 
 -- ---- "1 to 6 read for kinds 33 to 41"
@@ -59,10 +60,10 @@ tableInCode r =
     true
 
 -- 6
-abbrev pub causeNamed : ℕ → Cause → Bool
-causeNamed clocks always = true
-causeNamed clocks (event e) = true
-causeNamed clocks (clock k) = ltb k clocks
+abbrev pub literalTriggerNamed : ℕ → LiteralTrigger → Bool
+literalTriggerNamed clocks always = true
+literalTriggerNamed clocks (event e) = true
+literalTriggerNamed clocks (clock k) = ltb k clocks
 
 abbrev pub tableNamed : Automata → Bool
 tableNamed au =
@@ -75,7 +76,7 @@ tableNamed au =
     all (λ l. ltb l locations) (au .initial)
     && all (λ a. ltb a automata) (au .homes)
     && all (λ e. ltb (e .automaton) automata && ltb (e .source) locations && ltb (e .target) locations) (au .edges)
-    && all (λ x. ltb (x .0) edges && causeNamed clocks (x .1 .cause) && guardNamed nodes (x .1 .guard)) (au .literals)
+    && all (λ x. ltb (x .0) edges && literalTriggerNamed clocks (x .1 .trigger) && guardNamed nodes (x .1 .guard)) (au .literals)
     && nodesNamed (nodeOf (au .nodes)) nodes variables
     && all (λ x. ltb (x .0) edges && deedNamed variables nodes (x .1)) (au .updates)
     && all (λ x. ltb (x .0) edges && ltb (x .1) clocks) (au .resets)
@@ -87,14 +88,11 @@ module _ (au : Automata) where
   abbrev pub clocksTick : Bool
   clocksTick = all (λ c. between 1 36_000 (c .ticks)) (au .clocks)
 
-  abbrev pub homeOf : ℕ → ℕ
-  homeOf l = getD (au .homes) l 0
-
   -- not "ends or initial location in another automaton"
   abbrev pub insideAutomata : Bool
   insideAutomata =
-      all (λ e. eqb (homeOf (e .source)) (e .automaton) && eqb (homeOf (e .target)) (e .automaton)) (au .edges)
-      && all (λ a. eqb (homeOf (getD (au .initial) a 0)) a) (upto (length (au .initial)))
+      all (λ e. eqb (home (au .homes) (e .source)) (e .automaton) && eqb (home (au .homes) (e .target)) (e .automaton)) (au .edges)
+      && all (λ a. eqb (home (au .homes) (getD (au .initial) a 0)) a) (upto (length (au .initial)))
 
   -- not "an idle edge with two different ends"
   abbrev pub idleEdgesStay : Bool

@@ -12,10 +12,10 @@ use Rattle.model.specs.Runs.{Variable, Deed, assign, raise}
 use Rattle.model.specs.ChartSet.{readVariable, readGuard, readDeed}
 
 -- a literal's trigger: "0 none, 1 event, 2 clock"
-pub data Cause : Type 0 where
-  always : Cause
-  event : ℕ → Cause
-  clock : ℕ → Cause
+pub data LiteralTrigger : Type 0 where
+  always : LiteralTrigger
+  event : ℕ → LiteralTrigger
+  clock : ℕ → LiteralTrigger
 
 pub record Edge : Type 0 where
   pub automaton : ℕ
@@ -26,7 +26,7 @@ pub record Edge : Type 0 where
 pub record Literal : Type 0 where
   -- must hold, or must not
   pub must : Bool
-  pub cause : Cause
+  pub trigger : LiteralTrigger
   pub guard : Option ℕ
 
 -- "as trigger 2 or 3"
@@ -63,7 +63,7 @@ readLiteral r = (
   two r 2,
   record {
     must = eqb (byte r 1) 1;
-    cause = caseOf (byte r 4) ((1, event (byte r 5)) ∷ (2, clock (two r 6)) ∷ []) always;
+    trigger = caseOf (byte r 4) ((1, event (byte r 5)) ∷ (2, clock (two r 6)) ∷ []) always;
     guard = readGuard (two r 8);
   },
 )
@@ -102,17 +102,17 @@ bit false = 0
 abbrev pub writeEdge : Edge → List ℕ
 writeEdge e = e .automaton ∷ bytes2 (e .source) ++ bytes2 (e .target) ++ (bit (e .idles) ∷ [])
 
-abbrev pub writeCause : Cause → List ℕ
-writeCause always = 0 ∷ 0 ∷ bytes2 0
-writeCause (event e) = 1 ∷ e ∷ bytes2 0
-writeCause (clock k) = 2 ∷ 0 ∷ bytes2 k
+abbrev pub writeLiteralTrigger : LiteralTrigger → List ℕ
+writeLiteralTrigger always = 0 ∷ 0 ∷ bytes2 0
+writeLiteralTrigger (event e) = 1 ∷ e ∷ bytes2 0
+writeLiteralTrigger (clock k) = 2 ∷ 0 ∷ bytes2 k
 
 abbrev pub writeGuard : Option ℕ → List ℕ
 writeGuard none = bytes2 65535
 writeGuard (some n) = bytes2 n
 
 abbrev pub writeLiteral : ℕ × Literal → List ℕ
-writeLiteral l = cond (l .1 .must) 1 2 ∷ bytes2 (l .0) ++ writeCause (l .1 .cause) ++ writeGuard (l .1 .guard)
+writeLiteral l = cond (l .1 .must) 1 2 ∷ bytes2 (l .0) ++ writeLiteralTrigger (l .1 .trigger) ++ writeGuard (l .1 .guard)
 
 abbrev pub timingCode : Timing → ℕ
 timingCode after = 2

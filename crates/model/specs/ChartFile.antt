@@ -12,7 +12,7 @@ use Rattle.records.specs.Bytes.{byte, two, four, two±, records, kind, Bytes}
 use Rattle.records.specs.Framing.{framingTests, Framing}
 use Rattle.expressions.specs.Nodes.{Node, nodeOf}
 use Rattle.expressions.specs.Sorts.{sortOf, isNumber, isTruth, nodesNamed, operandsFit, operandUses, Sorts}
-use Rattle.model.specs.Owned.{of}
+use Rattle.model.specs.Owned.{of, home}
 use Rattle.model.specs.Runs.{Deed, assign, raise}
 use Rattle.model.specs.ChartSet.{Trigger, always, event, after, every, Transition, ChartSet, readCharts, transition, ChartSet·}
 use Rattle.model.specs.Charts.{ticks}
@@ -67,11 +67,11 @@ unusedAreZero ranges r = all (λ x. zeroBytes (x .0) (x .1) r) ranges
 abbrev pub between : ℕ → ℕ → ℕ → Bool
 between a b n = leb a n && leb n b
 
--- "event 0 to 31"
+-- the range "event 0 to 31"
 abbrev pub isEvent : ℕ → Bool
 isEvent e = leb e 31
 
--- "milliseconds 1 to 3,600,000"
+-- the range "milliseconds 1 to 3,600,000"
 abbrev pub isDuration : ℕ → Bool
 isDuration ms = between 1 3_600_000 ms
 
@@ -80,7 +80,7 @@ transitionInCode r =
     between 1 16 (byte r 1) && leb (byte r 6) 3
     && caseOf (byte r 6) ((1, isEvent (byte r 7)) ∷ (2, isDuration (four r 8)) ∷ (3, isDuration (four r 8)) ∷ []) true
 
--- "lowest ≤ start ≤ highest"
+-- the range "lowest ≤ start ≤ highest"
 abbrev pub variableInCode : List ℕ → Bool
 variableInCode r = leZ (two± r 2) (two± r 6) && leZ (two± r 6) (two± r 4)
 
@@ -140,23 +140,20 @@ abbrev pub atMostEight : List (ℕ × Deed) → ℕ → Bool
 atMostEight actions owner = leb (count (λ x. eqb (x .0) owner) actions) 8
 
 module _ (cs : ChartSet) where
-  abbrev pub home : ℕ → ℕ
-  home s = getD (cs .homes) s 0
-
-  -- "transition across charts"
+  -- not "transition across charts"
   abbrev pub insideCharts : Bool
-  insideCharts = all (λ t. eqb (home (t .source)) (home (t .target))) (cs .transitions)
+  insideCharts = all (λ t. eqb (home (cs .homes) (t .source)) (home (cs .homes) (t .target))) (cs .transitions)
 
   -- the transitions that leave a state, in file order
   abbrev pub leavingState : ℕ → List Transition
   leavingState s = keep (λ t. eqb (t .source) s) (cs .transitions)
 
-  -- "initial state of another chart; initial state without exactly one leaving transition, or that one with trigger or guard, or entered, or with entry
+  -- not "initial state of another chart; initial state without exactly one leaving transition, or that one with trigger or guard, or entered, or with entry
   -- or exit action"
   abbrev pub initialFits : ℕ → Bool
   initialFits c =
       let s = getD (cs .initial) c 0 in
-      eqb (home s) c
+      eqb (home (cs .homes) s) c
       && eqb (length (leavingState s)) 1
       && all (λ t. unconditional (t .trigger) (t .guard)) (leavingState s)
       && not (any (λ t. eqb (t .target) s) (cs .transitions))

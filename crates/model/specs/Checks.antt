@@ -1,60 +1,77 @@
--- Before a turn: 12, 13 and 14. Assumes nothing: these are definitions.
+-- Before a turn: 12, 13 and 14. Each clause of 12 is named by what holds where the run passes. Assumes nothing: these are definitions.
 use mathlib.Core.Bool.{Bool, not, cond, _&&_, _||_}
+use mathlib.Core.List.{List}
 use Prim.Native.Nat.{ℕ, _+_}
 use lib.Dec.{leb, ltb, eqb}
 use lib.ListN.{length, getD, drop}
-use lib.IntN.{pos}
+use lib.IntN.{ℤ, pos}
 use Rattle.records.specs.Lists.{all, upto}
 use Rattle.records.specs.Refusal.{impossible-run, misplaced-events, cycles-done, Out, _>>_, fault-if}
 use Rattle.expressions.specs.Values.{isZero}
-use Rattle.model.specs.World.{World, Run, noVariable, within}
+use Rattle.model.specs.Owned.{home}
+use Rattle.model.specs.World.{Variable, World, Run, noVariable, inBounds}
 use Rattle.model.specs.Machine.{Machine, parts}
 
-module _ (m : Machine) where
-  -- A lent run has fixed places: 8 for states, 8 for ages or 256 for clocks, 64 for variables.
-  abbrev pub allPlaces : Run → Bool
-  allPlaces r = eqb (length (r .at)) 8 && eqb (length (r .timers)) (m .timers-room) && eqb (length (r .world .vars)) 64
+-- ---- 12, clause by clause
 
-  -- "a location not of its chart"
-  abbrev pub placesPossible : Run → Bool
-  placesPossible r = all (λ c. ltb (getD (r .at) c 0) (length (m .homes)) && eqb (getD (m .homes) (getD (r .at) c 0) 0) c) (upto (parts m))
+-- A lent run has fixed places: 8 for states, 8 for ages or 256 for clocks, 64 for variables.
+abbrev pub allPlaces : Machine → Run → Bool
+allPlaces m r = eqb (length (r .at)) 8 && eqb (length (r .timers)) (m .timers-room) && eqb (length (r .world .vars)) 64
 
-  -- "a variable out of range"
-  abbrev pub variablesPossible : Run → Bool
-  variablesPossible r = all (λ v. within (getD (m .variables) v noVariable) (getD (r .world .vars) v (pos 0))) (upto (length (m .variables)))
+-- not "a location not of its chart", of so many charts, by the chart of each state
+abbrev pub placesPossible : ℕ → List ℕ → List ℕ → Bool
+placesPossible parts homes at = all (λ c. ltb (getD at c 0) (length homes) && eqb (home homes (getD at c 0)) c) (upto parts)
 
-  -- "age over cycle count, clock over its top"
-  abbrev pub timersPossible : Run → Bool
-  timersPossible r = all (λ k. m .timer-possible (r .world .cycles) k (getD (r .timers) k 0)) (upto (m .timers-used))
+-- not "a variable out of range"
+abbrev pub variablesPossible : List Variable → List ℤ → Bool
+variablesPossible variables vars = all (λ v. inBounds (getD variables v noVariable) (getD vars v (pos 0))) (upto (length variables))
 
-  -- "position 0 or over n + 1"
-  abbrev pub positionPossible : World → Bool
-  positionPossible w = leb 1 (w .position) && leb (w .position) (parts m + 1)
+-- not "age over cycle count, clock over its top"
+abbrev pub timersPossible : Machine → Run → Bool
+timersPossible m r = all (λ k. m .timer-possible (r .world .cycles) k (getD (r .timers) k 0)) (upto (m .timers-used))
 
-  -- "count over 1,000,000 or, past position 1, over 999,999"
-  abbrev pub countPossible : World → Bool
-  countPossible w = leb (w .cycles) (cond (eqb (w .position) 1) 1_000_000 999_999)
+-- not "position 0 or over n + 1"
+abbrev pub positionPossible : ℕ → World → Bool
+positionPossible parts w = leb 1 (w .position) && leb (w .position) (parts + 1)
 
-  -- "events present at position 1"
-  abbrev pub eventsPossible : World → Bool
-  eventsPossible w = not (eqb (w .position) 1) || eqb (w .events) 0
+-- not "count over 1,000,000 or, past position 1, over 999,999"
+abbrev pub countPossible : World → Bool
+countPossible w = leb (w .cycles) (cond (eqb (w .position) 1) 1_000_000 999_999)
 
-  -- "unused places not zero"
-  abbrev pub unusedZero : Run → Bool
-  unusedZero r =
-      all (λ s. eqb s 0) (drop (parts m) (r .at))
-      && all (λ t. eqb t 0) (drop (m .timers-used) (r .timers))
-      && all isZero (drop (length (m .variables)) (r .world .vars))
+-- not "events present at position 1"
+abbrev pub eventsPossible : World → Bool
+eventsPossible w = not (eqb (w .position) 1) || eqb (w .events) 0
 
-  -- 12: not "state impossible for the table"
-  abbrev pub possible : Run → Bool
-  possible r =
-      allPlaces r && placesPossible r && variablesPossible r && timersPossible r
-      && positionPossible (r .world) && countPossible (r .world) && eventsPossible (r .world) && unusedZero r
+-- not "unused places not zero": places behind those in use
+abbrev pub restZero : ℕ → List ℕ → Bool
+restZero used places = all (λ x. eqb x 0) (drop used places)
 
-  -- 12, 13 "events given elsewhere than at position 1", 14 "position 1 and 1,000,000 cycles done"
-  abbrev pub checked : ℕ → Run → Out (Unit {0})
-  checked given r = do
-    fault-if (not (possible r)) impossible-run
-    fault-if (not (eqb (r .world .position) 1) && not (eqb given 0)) misplaced-events
-    fault-if (eqb (r .world .position) 1 && eqb (r .world .cycles) 1_000_000) cycles-done
+abbrev pub restZeroValues : ℕ → List ℤ → Bool
+restZeroValues used vars = all isZero (drop used vars)
+
+abbrev pub unusedZero : Machine → Run → Bool
+unusedZero m r = restZero (parts m) (r .at) && restZero (m .timers-used) (r .timers) && restZeroValues (length (m .variables)) (r .world .vars)
+
+-- ---- 12 to 14
+
+-- not "state impossible for the table"
+abbrev pub possible : Machine → Run → Bool
+possible m r =
+    allPlaces m r
+    && placesPossible (parts m) (m .homes) (r .at)
+    && variablesPossible (m .variables) (r .world .vars)
+    && timersPossible m r
+    && positionPossible (parts m) (r .world)
+    && countPossible (r .world)
+    && eventsPossible (r .world)
+    && unusedZero m r
+
+-- 12 where the run is not possible; 13 "events given elsewhere than at position 1"; 14 "position 1 and 1,000,000 cycles done"
+abbrev pub checkedBy : Bool → (given position cycles : ℕ) → Out (Unit {0})
+checkedBy passes given position cycles = do
+  fault-if (not passes) impossible-run
+  fault-if (not (eqb position 1) && not (eqb given 0)) misplaced-events
+  fault-if (eqb position 1 && eqb cycles 1_000_000) cycles-done
+
+abbrev pub checked : Machine → ℕ → Run → Out (Unit {0})
+checked m given r = checkedBy (possible m r) given (r .world .position) (r .world .cycles)

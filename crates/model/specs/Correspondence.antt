@@ -11,7 +11,7 @@ use Rattle.model.specs.Owned.{of}
 use Rattle.model.specs.Outcome.{Outcome}
 use Rattle.model.specs.Runs.{World, Run, give, Answer, taken, idle, time, Call, one-turn, whole-cycle, Trace, done, stopped, turned}
 use Rattle.model.specs.ChartSet.{ChartSet, readCharts}
-use Rattle.model.specs.AutomataTable.{Automata, Timing, after, every, Cause, always, event, clock, Literal, clockAt, edge, readAutomata}
+use Rattle.model.specs.AutomataTable.{Automata, Timing, after, every, LiteralTrigger, always, event, clock, Literal, clockAt, edge, readAutomata}
 use Rattle.model.specs.Automata.{top, leaving, openEdges}
 use Rattle.model.specs.Translation.{translate}
 use Rattle.model.specs.Calls.{Format, chartSets, automataTables, startCall, turnCall, cycleCall, callTrace}
@@ -23,14 +23,14 @@ abbrev pub clockFor : Timing → ℕ → ℕ → ℕ
 clockFor after d age = min age (top after d)
 clockFor every d age = cond (eqb age 0) 0 ((age - 1) % d + 1)
 
-abbrev pub clockRead : Cause → List ℕ
+abbrev pub clockRead : LiteralTrigger → List ℕ
 clockRead always = []
 clockRead (event e) = []
 clockRead (clock k) = k ∷ []
 
 -- a location's clocks, "which are those that literals of edges leaving it read"
 abbrev pub clocksRead : Automata → ℕ → ℕ → List ℕ
-clocksRead au a l = gather (λ e. gather (λ x. clockRead (x .cause)) (of e (au .literals))) (leaving au a l)
+clocksRead au a l = gather (λ e. gather (λ x. clockRead (x .trigger)) (of e (au .literals))) (leaving au a l)
 
 pub record Corresponds (cs : ChartSet) (au : Automata) (r q : Run) : Type 0 where
   -- "position, cycle count, variables and present events are equal"

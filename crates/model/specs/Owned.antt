@@ -3,6 +3,7 @@
 use mathlib.Core.List.{List, map}
 use Prim.Native.Nat.{ℕ}
 use lib.Dec.{eqb}
+use lib.ListN.{getD}
 use Rattle.records.specs.Lists.{keep, gather, upto}
 
 -- those of one owner, in file order
@@ -12,3 +13,7 @@ of n xs = map (λ x. x .1) (keep (λ x. eqb (x .0) n) xs)
 -- the other way, for n owners: the things of owner 0, then those of owner 1, …
 abbrev pub byOwner : {A : Type 0} → ℕ → (ℕ → List A) → List (ℕ × A)
 byOwner n f = gather (λ k. map (λ x. (k, x)) (f k)) (upto n)
+
+-- the chart that a state is in, and the automaton that a location is in, by the list of all
+abbrev pub home : List ℕ → ℕ → ℕ
+home homes s = getD homes s 0

@@ -10,7 +10,7 @@ use Rattle.model.specs.Outcome.{Outcome, settled}
 use Rattle.model.specs.ChartSet.{ChartSet, readCharts}
 use Rattle.model.specs.ChartFile.{chartsRefusal}
 use Rattle.model.specs.AutomataTable.{Automata, Edge, edge}
-use Rattle.model.specs.Translation.{twin, size, Translation}
+use Rattle.model.specs.Translation.{twin, transitionCount, Translation}
 
 -- "65,535 for time"
 abbrev pub timeMark : ℕ
@@ -55,8 +55,8 @@ module _ (cs : ChartSet) where
       (record { locations = set (w .locations) (edge (twin cs) e .automaton) (edge (twin cs) e .target); position = w .position + 1; cycles = w .cycles })
 
   -- "Each edge that came of a transition gives one row. Idle edges and time give none."
-  abbrev pub rowsOf : ℕ → Walk → List Row
-  rowsOf e w = cond (ltb e (size cs)) (record { cycle = w .cycles; chart = w .position - 1; transition = e } ∷ []) []
+  abbrev pub stepRows : ℕ → Walk → List Row
+  stepRows e w = cond (ltb e (transitionCount cs)) (record { cycle = w .cycles; chart = w .position - 1; transition = e } ∷ []) []
 
   -- "follows the turns; it may stop anywhere"
   unfoldable pub ledBack : List ℕ → Walk → Out (List Row)
@@ -64,7 +64,7 @@ module _ (cs : ChartSet) where
   ledBack (e ∷ es) w = do
     fault-if (not (stepFits e w)) broken-path
     rows ← ledBack es (walked e w)
-    val (rowsOf e w ++ rows)
+    val (stepRows e w ++ rows)
 
 -- three words a row
 abbrev pub rowWords : List Row → List ℕ

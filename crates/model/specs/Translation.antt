@@ -6,7 +6,7 @@ use lib.Dec.{ltb, eqb}
 use lib.ListN.{length, getD, take, drop}
 use Rattle.records.specs.Lists.{keep, gather, from, upto}
 use Rattle.records.specs.Refusal.{short-buffer, Out, val, _>>=_, _>>_, fault-if, unless-refused}
-use Rattle.model.specs.Owned.{of, byOwner}
+use Rattle.model.specs.Owned.{of, byOwner, home}
 use Rattle.model.specs.Outcome.{Outcome, settled}
 use Rattle.model.specs.Runs.{Deed}
 use Rattle.model.specs.ChartSet as C
@@ -14,7 +14,7 @@ use Rattle.model.specs.ChartSet.{ChartSet, Transition, transition, readC
 use Rattle.model.specs.Charts.{ticks, Charts}
 use Rattle.model.specs.ChartFile.{chartsRefusal, ChartFile}
 use Rattle.model.specs.AutomataTable as A
-use Rattle.model.specs.AutomataTable.{Automata, Edge, Literal, Cause, Clock, writeAutomata}
+use Rattle.model.specs.AutomataTable.{Automata, Edge, Literal, LiteralTrigger, Clock, writeAutomata}
 use Rattle.model.specs.Automata.{Automata·}
 
 -- a timing trigger's clock
@@ -25,26 +25,23 @@ clocksOf (C.after ms) = record { timing = A.after; ticks = ticks ms } ∷ []
 clocksOf (C.every ms) = record { timing = A.every; ticks = ticks ms } ∷ []
 
 module _ (cs : ChartSet) where
-  abbrev pub states : ℕ
-  states = length (cs .homes)
+  abbrev pub stateCount : ℕ
+  stateCount = length (cs .homes)
 
-  abbrev pub size : ℕ
-  size = length (cs .transitions)
-
-  abbrev pub chartOf : ℕ → ℕ
-  chartOf s = getD (cs .homes) s 0
+  abbrev pub transitionCount : ℕ
+  transitionCount = length (cs .transitions)
 
   -- ---- "Edges: one per transition, in order, then one idle edge per state, in state order."
 
   abbrev pub edgeOf : ℕ → Edge
-  edgeOf t = record { automaton = chartOf (transition cs t .source); source = transition cs t .source; target = transition cs t .target; idles = false }
+  edgeOf t = record { automaton = home (cs .homes) (transition cs t .source); source = transition cs t .source; target = transition cs t .target; idles = false }
 
   abbrev pub idleOf : ℕ → Edge
-  idleOf s = record { automaton = chartOf s; source = s; target = s; idles = true }
+  idleOf s = record { automaton = home (cs .homes) s; source = s; target = s; idles = true }
 
   -- what belongs to edge e: transition e's part, or, past the transitions, that of a state's idle edge
   abbrev pub onEdge : {A : Type 0} → (ℕ → A) → (ℕ → A) → ℕ → A
-  onEdge ofTransition ofState e = cond (ltb e size) (ofTransition e) (ofState (e - size))
+  onEdge ofTransition ofState e = cond (ltb e transitionCount) (ofTransition e) (ofState (e - transitionCount))
 
   -- ---- "Clocks: one per timing trigger, in transition order."
 
@@ -52,28 +49,28 @@ module _ (cs : ChartSet) where
   abbrev pub clockOf : ℕ → ℕ
   clockOf t = length (gather (λ x. clocksOf (x .trigger)) (take t (cs .transitions)))
 
-  abbrev pub causeOf : ℕ → C.Trigger → Cause
-  causeOf t C.always = A.always
-  causeOf t (C.event e) = A.event e
-  causeOf t (C.after ms) = A.clock (clockOf t)
-  causeOf t (C.every ms) = A.clock (clockOf t)
+  abbrev pub literalTriggerOf : ℕ → C.Trigger → LiteralTrigger
+  literalTriggerOf t C.always = A.always
+  literalTriggerOf t (C.event e) = A.event e
+  literalTriggerOf t (C.after ms) = A.clock (clockOf t)
+  literalTriggerOf t (C.every ms) = A.clock (clockOf t)
 
   -- ---- "Literals by edge: for each leaving transition of higher priority, ascending, one that must not hold; then the edge's own. An idle edge has the
   -- must-nots of all. Negations come first."
 
   abbrev pub literal : Bool → ℕ → Literal
-  literal must t = record { must = must; cause = causeOf t (transition cs t .trigger); guard = transition cs t .guard }
+  literal must t = record { must = must; trigger = literalTriggerOf t (transition cs t .trigger); guard = transition cs t .guard }
 
-  -- the transitions that leave s with priority 1, then those with 2, …: those of priority below p
-  abbrev pub above : ℕ → ℕ → List ℕ
-  above s p = gather (λ q. keep (λ u. eqb (transition cs u .source) s && eqb (transition cs u .priority) q) (upto size)) (from 1 (p - 1))
+  -- the transitions that leave s and are tried before one of priority p: those of priority 1, then of 2, … up to p − 1
+  abbrev pub triedBefore : ℕ → ℕ → List ℕ
+  triedBefore s p = gather (λ q. keep (λ u. eqb (transition cs u .source) s && eqb (transition cs u .priority) q) (upto transitionCount)) (from 1 (p - 1))
 
   abbrev pub literalsOf : ℕ → List Literal
-  literalsOf t = map (literal false) (above (transition cs t .source) (transition cs t .priority)) ++ (literal true t ∷ [])
+  literalsOf t = map (literal false) (triedBefore (transition cs t .source) (transition cs t .priority)) ++ (literal true t ∷ [])
 
   -- priorities are 1 to 16
   abbrev pub idleLiterals : ℕ → List Literal
-  idleLiterals s = map (literal false) (above s 17)
+  idleLiterals s = map (literal false) (triedBefore s 17)
 
   -- ---- "Updates by edge: exit, transition, entry."
 
@@ -84,7 +81,7 @@ module _ (cs : ChartSet) where
 
   abbrev pub clocksLeaving : ℕ → List ℕ
   clocksLeaving s =
-      gather (λ t. cond (eqb (transition cs t .source) s) (map (λ _. clockOf t) (clocksOf (transition cs t .trigger))) []) (upto size)
+      gather (λ t. cond (eqb (transition cs t .source) s) (map (λ _. clockOf t) (clocksOf (transition cs t .trigger))) []) (upto transitionCount)
 
   abbrev pub resetsOf : ℕ → List ℕ
   resetsOf t = clocksLeaving (transition cs t .target)
@@ -95,13 +92,13 @@ module _ (cs : ChartSet) where
   twin = record {
     initial = cs .initial;
     homes = cs .homes;
-    edges = map edgeOf (upto size) ++ map idleOf (upto states);
-    literals = byOwner (size + states) (onEdge literalsOf idleLiterals);
+    edges = map edgeOf (upto transitionCount) ++ map idleOf (upto stateCount);
+    literals = byOwner (transitionCount + stateCount) (onEdge literalsOf idleLiterals);
     clocks = gather (λ x. clocksOf (x .trigger)) (cs .transitions);
     variables = cs .variables;
     nodes = cs .nodes;
-    updates = byOwner (size + states) (onEdge updatesOf (λ s. []));
-    resets = byOwner (size + states) (onEdge resetsOf (λ s. []));
+    updates = byOwner (transitionCount + stateCount) (onEdge updatesOf (λ s. []));
+    resets = byOwner (transitionCount + stateCount) (onEdge resetsOf (λ s. []));
   }
 
 -- the twin's file

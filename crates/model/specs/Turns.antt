@@ -24,7 +24,7 @@ module _ (m : Machine) where
       (val (time, timePassed r))
 
   abbrev pub turn : ℕ → Run → Out (Answer × Run)
-  turn given r = checked m given r >> stepped (give given r)
+  turn inputEvents r = checked m inputEvents r >> stepped (give inputEvents r)
 
 -- ---- calls
 
@@ -33,9 +33,9 @@ pub data Call : Type 0 where
   one-turn : ℕ → Call
   whole-cycle : ℕ → Call
 
-abbrev pub given : Call → ℕ
-given (one-turn events) = events
-given (whole-cycle events) = events
+abbrev pub inputEvents : Call → ℕ
+inputEvents (one-turn events) = events
+inputEvents (whole-cycle events) = events
 
 -- What a call goes through: for each turn the run in which it was taken, its answer, and the run after it.
 pub data Trace : Type 0 where
@@ -60,11 +60,11 @@ module _ (m : Machine) where
 
   -- "a cycle: the turns from the present position up to n + 1"
   abbrev pub turnsOf : Call → Run → ℕ
-  turnsOf (one-turn given) r = 1
-  turnsOf (whole-cycle given) r = parts m + 2 - r .world .position
+  turnsOf (one-turn inputEvents) r = 1
+  turnsOf (whole-cycle inputEvents) r = parts m + 2 - r .world .position
 
   abbrev pub trace : Call → Run → Trace
-  trace c r = unless-stopped (checked m (given c) r) (turns (turnsOf c r) (give (given c) r))
+  trace c r = unless-stopped (checked m (inputEvents c) r) (turns (turnsOf c r) (give (inputEvents c) r))
 
 -- the run after all turns, from r on
 unfoldable pub ended : Run → Trace → Out Run
@@ -73,4 +73,4 @@ ended r (stopped w) = fault w
 ended r (turned r₀ a r₁ t) = ended r₁ t
 
 abbrev pub cycle : Machine → ℕ → Run → Out (Unit {0} × Run)
-cycle m given r = ended r (trace m (whole-cycle given) r) >>= λ r₁. val (tt, r₁)
+cycle m inputEvents r = ended r (trace m (whole-cycle inputEvents) r) >>= λ r₁. val (tt, r₁)

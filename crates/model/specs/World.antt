@@ -19,8 +19,8 @@ pub record Variable : Type 0 where
   pub highest : ℤ
   pub start : ℤ
 
-abbrev pub within : Variable → ℤ → Bool
-within v z = leZ (v .lowest) z && leZ z (v .highest)
+abbrev pub inBounds : Variable → ℤ → Bool
+inBounds v z = leZ (v .lowest) z && leZ z (v .highest)
 
 abbrev pub noVariable : Variable
 noVariable = record { lowest = pos 0; highest = pos 0; start = pos 0 }
@@ -65,7 +65,7 @@ module _ (nodes : List Node) (variables : List Variable) where
   abbrev pub deed : Deed → World → Out World
   deed (assign v n) w = do
     z ← number (nodeOf nodes) (w .vars) n
-    fault-if (not (within (getD variables v noVariable) z)) out-of-bounds
+    fault-if (not (inBounds (getD variables v noVariable) z)) out-of-bounds
     val (setVar v z w)
   deed (raise e) w = val (setEvents (raised e (w .events)) w)
 

@@ -21,13 +21,13 @@ use Rattle.model.specs.PathBack.{walkStart, ledBack, rowsWritten, pathBack}
 use Rattle.model.specs.Calls.{Format, startCall, turnCall, cycleCall}
 use Rattle.model.specs.Correspondence.{Demand₃}
 use Rattle.model.specs.TakenPath.{takenPath, takenRows}
-use Rattle.model.proofs.Demand3.{demand-3}
-use Rattle.model.proofs.TwinFits.{twin-back}
-use Rattle.model.proofs.TwinAccepted.{twin-accepted}
-use Rattle.model.proofs.TwinPath.{twin-path-back}
-use Rattle.model.proofs.CyclesByTurns.{after-turn, charts-cycle-by-turns, table-cycle-by-turns}
+use Rattle.model.proofs.CorrespondenceDemand3.{demand-3}
+use Rattle.model.proofs.TranslationWritten.{twin-back}
+use Rattle.model.proofs.TranslationAccepted.{twin-accepted}
+use Rattle.model.proofs.TakenPathTwin.{twinPath-pathBack}
+use Rattle.model.proofs.TurnsCycle.{after-turn, charts-cycle-by-turns, table-cycle-by-turns}
 use Rattle.machines.specs.Playing.{playing, playCall}
-use Rattle.machines.proofs.PlayCalls.{callsLeave, CallsDone, StopsAt, played-as-calls, refused-as-call}
+use Rattle.machines.proofs.PlayingCalls.{callsLeave, CallsDone, StopsAt, played-as-calls, refused-as-call}
 use Rattle.monuvaleck.proofs.Settled.{settled-kept}
 
 -- ---- demand 1: "A bad set, table, state or path gets the refusal number the paper fixes, and nothing lent has changed."
@@ -103,4 +103,4 @@ twin-and-charts-move-alike = demand-3
 -- For every accepted set and every list of turns and cycles from the start: the path that the twin takes, led back into any lent rows, gives the rows that the charts' transitions make, or 21 where they have no room.
 path-led-back : (s : List ℕ) → T (all (λ b. ltb b 256) s) → chartsRefusal s ≡ none → (calls : List Call) (lent : List ℕ) →
     pathBack s (takenPath (twinBytes s) calls (start (automata (readAutomata (twinBytes s))))) lent ≡ settled lent (rowsWritten (takenRows s calls (start (charts (readCharts s)))) lent)
-path-led-back = twin-path-back
+path-led-back = twinPath-pathBack

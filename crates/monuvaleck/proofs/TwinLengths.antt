@@ -11,7 +11,7 @@ use Rattle.records.specs.Refusal.{Refusal, short-buffer, Out, val, fault, _>>_,
 use Rattle.model.specs.Outcome.{settled}
 use Rattle.model.specs.ChartFile.{chartsRefusal}
 use Rattle.model.specs.Translation.{twinBytes, written, translate}
-use Rattle.model.proofs.TwinAccepted.{short-twin}
+use Rattle.model.proofs.TranslationAccepted.{short-twin}
 
 module _ (s buffer : List ℕ) (n : ℕ) where
   abbrev text : List ℕ

@@ -5,7 +5,7 @@ use mathlib.Core.List.{List, [], _∷_, _++_, append-assoc, append-nil}
 use Prim.Native.Nat.{ℕ}
 use Rattle.records.specs.Refusal.{broken-path, Out, val, fault, _>>=_, _>>_, fault-if}
 use Rattle.model.specs.ChartSet.{ChartSet}
-use Rattle.model.specs.PathBack.{Walk, Row, stepFits, walked, rowsOf, ledBack}
+use Rattle.model.specs.PathBack.{Walk, Row, stepFits, walked, stepRows, ledBack}
 use Rattle.paths.specs.Along.{allFit, walkAlong, rowsAlong}
 
 module _ (cs : ChartSet) where
@@ -27,8 +27,8 @@ module _ (cs : ChartSet) where
   unfolding rowsAlong walkAlong
   rows-append [] ys w = refl
   rows-append (x ∷ xs) ys w =
-      ap (λ t. rowsOf cs x w ++ t) (rows-append xs ys (walked cs x w))
-      ∙ sym (append-assoc (rowsOf cs x w) (rowsAlong cs xs (walked cs x w)) (rowsAlong cs ys (walkAlong cs xs (walked cs x w))))
+      ap (λ t. stepRows cs x w ++ t) (rows-append xs ys (walked cs x w))
+      ∙ sym (append-assoc (stepRows cs x w) (rowsAlong cs xs (walked cs x w)) (rowsAlong cs ys (walkAlong cs xs (walked cs x w))))
 
   -- the model's answer
   pub led-is : (path : List ℕ) (w : Walk) → ledBack cs path w ≡ cond (allFit cs path w) (val (rowsAlong cs path w)) (fault broken-path)
@@ -37,13 +37,13 @@ module _ (cs : ChartSet) where
   led-is (e ∷ es) w = go (stepFits cs e w) (led-is es (walked cs e w))
     where
       rest : Bool → Out (List Row) → Out (List Row)
-      rest b o = fault-if (not b) broken-path >> (o >>= λ rows. val (rowsOf cs e w ++ rows))
+      rest b o = fault-if (not b) broken-path >> (o >>= λ rows. val (stepRows cs e w ++ rows))
 
       go : (b : Bool) → ledBack cs es (walked cs e w) ≡ cond (allFit cs es (walked cs e w)) (val (rowsAlong cs es (walked cs e w))) (fault broken-path) →
-          rest b (ledBack cs es (walked cs e w)) ≡ cond (b && allFit cs es (walked cs e w)) (val (rowsOf cs e w ++ rowsAlong cs es (walked cs e w))) (fault broken-path)
+          rest b (ledBack cs es (walked cs e w)) ≡ cond (b && allFit cs es (walked cs e w)) (val (stepRows cs e w ++ rowsAlong cs es (walked cs e w))) (fault broken-path)
       go false ih = refl
       go true ih = ap (rest true) ih ∙ by (allFit cs es (walked cs e w))
         where
-          by : (b : Bool) → rest true (cond b (val (rowsAlong cs es (walked cs e w))) (fault broken-path)) ≡ cond b (val (rowsOf cs e w ++ rowsAlong cs es (walked cs e w))) (fault broken-path)
+          by : (b : Bool) → rest true (cond b (val (rowsAlong cs es (walked cs e w))) (fault broken-path)) ≡ cond b (val (stepRows cs e w ++ rowsAlong cs es (walked cs e w))) (fault broken-path)
           by true = refl
           by false = refl

@@ -1,6 +1,6 @@
 pub mod Along
-pub mod Edges
-pub mod Steps
-pub mod Following
-pub mod Leading
-pub mod Bounds
+pub mod LedOfEdges
+pub mod LedOfSteps
+pub mod AlongFollowed
+pub mod LedOf
+pub mod AlongBounds

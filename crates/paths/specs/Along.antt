@@ -4,7 +4,7 @@ use mathlib.Core.Bool.{Bool, true, _&&_}
 use mathlib.Core.List.{List, [], _∷_, _++_}
 use Prim.Native.Nat.{ℕ}
 use Rattle.model.specs.ChartSet.{ChartSet}
-use Rattle.model.specs.PathBack.{Walk, Row, stepFits, walked, rowsOf}
+use Rattle.model.specs.PathBack.{Walk, Row, stepFits, walked, stepRows}
 
 module _ (cs : ChartSet) where
   unfoldable pub allFit : List ℕ → Walk → Bool
@@ -17,4 +17,4 @@ module _ (cs : ChartSet) where
 
   unfoldable pub rowsAlong : List ℕ → Walk → List Row
   rowsAlong [] w = []
-  rowsAlong (e ∷ es) w = rowsOf cs e w ++ rowsAlong es (walked cs e w)
+  rowsAlong (e ∷ es) w = stepRows cs e w ++ rowsAlong es (walked cs e w)

@@ -1,7 +1,9 @@
+-- What the paper says: words about lists, the refusal table, bytes and records, refusals 1 to 3.
 pub mod Lists
 pub mod Refusal
-pub mod RefusalOf
 pub mod Bytes
 pub mod Framing
+-- What the code says: its refusals as those of the table, the answers of framing, writing into a buffer.
+pub mod RefusalOf
 pub mod Frame
 pub mod Wrote

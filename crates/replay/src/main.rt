@@ -1,7 +1,7 @@
 // Replays a chart set: the file named, or set.bin in the folder that it is run in. Reads event masks of four bytes, little-endian, from standard
 // input; plays a cycle for each mask and prints a line for each chart's turn: cycle, chart, transition or -, state after, variables. It stops at a refusal
 // or fault, whose number and meaning go to standard error, at a partial mask, or at the end.
-ghost use Rattle.charts.specs.TurnOf.{Known};
+ghost use Rattle.charts.specs.TurnOf.{Prepared};
 use chart_files::Checked;
 use chart_files::Shape;
 use chart_files::check;
@@ -53,7 +53,7 @@ fn play_mask(
     run: Run,
     mask: u32,
 ) -> Played
-    requires { ⌜ Known (now s) shape (now rows) (now ends) (now first) (now next) ⌝ }
+    requires { ⌜ Prepared (now s) shape (now rows) (now ends) (now first) (now next) ⌝ }
 {
     let mut text = io::buffer();
     let lined = cycle_into(s, shape, rows, ends, first, next, run, mask, &mut text);
@@ -79,7 +79,7 @@ fn play_next(
     next: &[u16; 512],
     run: Run,
 ) -> Played
-    requires { ⌜ Known (now s) shape (now rows) (now ends) (now first) (now next) ⌝ }
+    requires { ⌜ Prepared (now s) shape (now rows) (now ends) (now first) (now next) ⌝ }
 {
     let mut four = [0u8; 4];
     let got = fill(STDIN_FILENO, &mut four);
@@ -102,7 +102,7 @@ fn play(
     first: &[u16; 512],
     next: &[u16; 512],
 )
-    requires { ⌜ Known (now s) shape (now rows) (now ends) (now first) (now next) ⌝ }
+    requires { ⌜ Prepared (now s) shape (now rows) (now ends) (now first) (now next) ⌝ }
 {
     let mut run = start(s, shape);
     let mut left = u64::MAX;

@@ -1,7 +1,7 @@
 // Replays a table of automata: the file named, or twin.bin in the folder that it is run in. Reads event masks of four bytes, little-endian, from standard
 // input; plays a cycle for each mask and prints a line for each automaton's turn: cycle, automaton, edge, location after, variables. It stops at a refusal
 // or fault, whose number and meaning go to standard error, at a partial mask, or at the end.
-ghost use Rattle.automata.specs.TurnOf.{Known};
+ghost use Rattle.automata.specs.TurnOf.{Prepared};
 use automata::index::index_of;
 use automata::runs::Run;
 use automata::runs::start;
@@ -50,7 +50,7 @@ fn play_mask(
     run: Run,
     mask: u32,
 ) -> Played
-    requires { ⌜ Known (now s) shape (now first) (now next) ⌝ }
+    requires { ⌜ Prepared (now s) shape (now first) (now next) ⌝ }
 {
     let mut text = io::buffer();
     let lined = cycle_into(s, shape, first, next, run, mask, &mut text);
@@ -68,7 +68,7 @@ fn play_mask(
 }
 
 fn play_next(s: &[u8], shape: Shape, first: &[u16; 896], next: &[u16], run: Run) -> Played
-    requires { ⌜ Known (now s) shape (now first) (now next) ⌝ }
+    requires { ⌜ Prepared (now s) shape (now first) (now next) ⌝ }
 {
     let mut four = [0u8; 4];
     let got = fill(STDIN_FILENO, &mut four);
@@ -84,7 +84,7 @@ fn play_next(s: &[u8], shape: Shape, first: &[u16; 896], next: &[u16], run: Run)
 
 // Refusal 14 ends any replay long before the count of turns does.
 fn play(s: &[u8], shape: Shape, first: &[u16; 896], next: &[u16])
-    requires { ⌜ Known (now s) shape (now first) (now next) ⌝ }
+    requires { ⌜ Prepared (now s) shape (now first) (now next) ⌝ }
 {
     let mut run = start(s, shape);
     let mut left = u64::MAX;

@@ -9,10 +9,10 @@ use Rattle.records.specs.Wrote.{Wrote, Begins}
 use Rattle.records.proofs.Wrote.{nothing-wrote, wrote-then}
 use Rattle.model.specs.Outcome.{Outcome, settled}
 use Rattle.model.specs.Runs.{Run, Answer, taken, idle, time, Machine, parts, give, turn, whole-cycle, trace, ended, cycle}
-use Rattle.model.proofs.StaysPossible.{NotTime, Steady}
-use Rattle.model.proofs.CyclesByTurns.{traced, trace-by-turns, turn-begun}
+use Rattle.model.proofs.ChecksKept.{NotTime, Steady}
+use Rattle.model.proofs.TurnsCycle.{traced, trace-by-turns, turn-begun}
 use Rattle.machines.specs.Turns.{finish}
-use Rattle.machines.proofs.ByTurns.{turning, goes-on, moves-on, ends-at-time, ends-in-fault}
+use Rattle.machines.proofs.TurnsCycle.{turning, goes-on, moves-on, ends-at-time, ends-in-fault}
 use Rattle.lines.specs.Text.{turnText, traceText}
 use Rattle.replays.specs.Played.{answerText, endedOf}
 

@@ -3,8 +3,8 @@ use Rattle.model.specs.Outcome.{Outcome}
 use Rattle.model.specs.Runs.{Run}
 use Rattle.machines.specs.Answers.{endingOf}
 use Rattle.charts.specs.RunOf.{runOf}
-use Rattle.replays.specs.declared.sets.Lined.{Lined}
+use Rattle.replays.specs.declared.sets.ReplayedCycle.{ReplayedCycle}
 
 -- how the cycle ended, and the lent run afterwards
-abbrev pub linedOf : Lined → Outcome (Unit {0}) Run
-linedOf p = record { answer = endingOf (p .answer); lent = runOf (p .run) }
+abbrev pub replayedCycleOf : ReplayedCycle → Outcome (Unit {0}) Run
+replayedCycleOf p = record { answer = endingOf (p .answer); lent = runOf (p .run) }

@@ -7,9 +7,9 @@ ghost use Rattle.model.specs.ChartSet.{readCharts};
 ghost use Rattle.model.specs.Charts.{charts as machine};
 ghost use Rattle.model.specs.Replay.{traceLines};
 ghost use Rattle.charts.specs.RunOf.{runOf};
-ghost use Rattle.charts.specs.TurnOf.{Known};
+ghost use Rattle.charts.specs.TurnOf.{Prepared};
 ghost use Rattle.records.specs.Wrote.{Begins};
-ghost use Rattle.replays.specs.Sets.{linedOf};
+ghost use Rattle.replays.specs.Sets.{replayedCycleOf};
 use super::parts::tell;
 use chart_files::Shape;
 use charts::runs::Run;
@@ -18,7 +18,7 @@ use machines::answers::Answer;
 use machines::answers::Ending;
 
 // The length of the lines written, how the cycle ended, and the run after it.
-pub struct Lined {
+pub struct ReplayedCycle {
     pub size: usize,
     pub answer: Ending,
     pub run: Run,
@@ -36,11 +36,11 @@ pub fn cycle_into(
     run: Run,
     events: u32,
     out: &mut [u8],
-) -> Lined
-    requires { ⌜ Known (now s) shape (now rows) (now ends) (now first) (now next) ⌝ }
+) -> ReplayedCycle
+    requires { ⌜ Prepared (now s) shape (now rows) (now ends) (now first) (now next) ⌝ }
     ensures { λ r. ⌜ Begins (now (out .entry)) (traceLines (readCharts (now (s .entry))) (trace (machine (readCharts (now (s .entry)))) (whole-cycle events) (runOf run))) (now (out .exit)) (r .size) ⌝ }
     ensures { λ r. ⌜ r .size ≤ 3856 ⌝ }
-    ensures { λ r. ⌜ linedOf r ≡ settled (runOf run) (model-cycle (machine (readCharts (now (s .entry)))) events (runOf run)) ⌝ }
+    ensures { λ r. ⌜ replayedCycleOf r ≡ settled (runOf run) (model-cycle (machine (readCharts (now (s .entry)))) events (runOf run)) ⌝ }
 {
     let mut present = run;
     let mut given = events;
@@ -68,21 +68,21 @@ pub fn cycle_into(
                 given = 0;
             }
             Answer::Time => {
-                return Lined {
+                return ReplayedCycle {
                     size,
                     answer: Ending::Done,
                     run: after,
                 };
             }
             Answer::Fault(w) => {
-                return Lined {
+                return ReplayedCycle {
                     size,
                     answer: Ending::Fault(w),
                     run,
                 };
             }
             Answer::Refused(w) => {
-                return Lined {
+                return ReplayedCycle {
                     size,
                     answer: Ending::Refused(w),
                     run,

@@ -6,10 +6,10 @@ ghost use Rattle.model.specs.Runs.{whole-cycle, trace, cycle as model-cycle};
 ghost use Rattle.model.specs.AutomataTable.{readAutomata};
 ghost use Rattle.model.specs.Automata.{automata as machine};
 ghost use Rattle.automata.specs.RunOf.{runOf};
-ghost use Rattle.automata.specs.TurnOf.{Known};
+ghost use Rattle.automata.specs.TurnOf.{Prepared};
 ghost use Rattle.records.specs.Wrote.{Begins};
 ghost use Rattle.lines.specs.Text.{traceText};
-ghost use Rattle.replays.specs.Twins.{linedOf};
+ghost use Rattle.replays.specs.Twins.{replayedCycleOf};
 use super::parts::tell;
 use automata::runs::Run;
 use automata::turns::turn;
@@ -18,7 +18,7 @@ use machines::answers::Answer;
 use machines::answers::Ending;
 
 // The length of the lines written, how the cycle ended, and the run after it.
-pub struct Lined {
+pub struct ReplayedCycle {
     pub size: usize,
     pub answer: Ending,
     pub run: Run,
@@ -33,11 +33,11 @@ pub fn cycle_into(
     run: Run,
     events: u32,
     out: &mut [u8],
-) -> Lined
-    requires { ⌜ Known (now s) shape (now first) (now next) ⌝ }
+) -> ReplayedCycle
+    requires { ⌜ Prepared (now s) shape (now first) (now next) ⌝ }
     ensures { λ r. ⌜ Begins (now (out .entry)) (traceText (machine (readAutomata (now (s .entry)))) (trace (machine (readAutomata (now (s .entry)))) (whole-cycle events) (runOf run))) (now (out .exit)) (r .size) ⌝ }
     ensures { λ r. ⌜ r .size ≤ 3856 ⌝ }
-    ensures { λ r. ⌜ linedOf r ≡ settled (runOf run) (model-cycle (machine (readAutomata (now (s .entry)))) events (runOf run)) ⌝ }
+    ensures { λ r. ⌜ replayedCycleOf r ≡ settled (runOf run) (model-cycle (machine (readAutomata (now (s .entry)))) events (runOf run)) ⌝ }
 {
     let mut present = run;
     let mut given = events;
@@ -65,21 +65,21 @@ pub fn cycle_into(
                 given = 0;
             }
             Answer::Time => {
-                return Lined {
+                return ReplayedCycle {
                     size,
                     answer: Ending::Done,
                     run: after,
                 };
             }
             Answer::Fault(w) => {
-                return Lined {
+                return ReplayedCycle {
                     size,
                     answer: Ending::Fault(w),
                     run,
                 };
             }
             Answer::Refused(w) => {
-                return Lined {
+                return ReplayedCycle {
                     size,
                     answer: Ending::Refused(w),
                     run,

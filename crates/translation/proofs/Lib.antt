@@ -1,9 +1,9 @@
 -- Laws that the proofs of several functions use, and that crates above cite.
 pub mod Gathered
-pub mod Written
-pub mod SectionLaws
-pub mod ClockLaws
-pub mod EdgeLaws
-pub mod FileLaws
-pub mod CountLaws
-pub mod NodeLaws
+pub mod TextsWritten
+pub mod TextsSections
+pub mod TablesClocks
+pub mod TextsEdges
+pub mod TextsFile
+pub mod TablesCounts
+pub mod TextsNodes

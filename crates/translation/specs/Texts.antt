@@ -17,17 +17,17 @@ abbrev pub section : ℕ → List (List ℕ) → List ℕ
 section kind bodies = gather (recordText kind) bodies
 
 -- the records of the things of an edge
-abbrev pub owned : {A : Type 0} → ℕ → (ℕ × A → List ℕ) → ℕ → List A → List ℕ
-owned kind body e xs = gather (λ x. recordText kind (body (e, x))) xs
+abbrev pub edgeTexts : {A : Type 0} → ℕ → (ℕ × A → List ℕ) → ℕ → List A → List ℕ
+edgeTexts kind body e xs = gather (λ x. recordText kind (body (e, x))) xs
 
 abbrev pub literalTexts : ℕ → List Literal → List ℕ
-literalTexts = owned 36 writeLiteral
+literalTexts = edgeTexts 36 writeLiteral
 
 abbrev pub updateTexts : ℕ → List Deed → List ℕ
-updateTexts = owned 40 writeUpdate
+updateTexts = edgeTexts 40 writeUpdate
 
 abbrev pub resetTexts : ℕ → List ℕ → List ℕ
-resetTexts = owned 41 writeReset
+resetTexts = edgeTexts 41 writeReset
 
 -- The file in three parts: kinds 33 to 35, 36 to 39, 40 and 41.
 module _ (au : Automata) where

@@ -5,7 +5,7 @@ ghost use Prim.Native.Nat.{_<_, _^_};
 ghost use Rattle.records.specs.Lists.{upto};
 ghost use Rattle.model.specs.ChartSet.{readCharts};
 ghost use Rattle.model.specs.AutomataTable.{writeEdge};
-ghost use Rattle.model.specs.Translation.{size, states, edgeOf, idleOf};
+ghost use Rattle.model.specs.Translation.{transitionCount, stateCount, edgeOf, idleOf};
 ghost use Rattle.charts.specs.Accepted.{Accepted};
 ghost use Rattle.translation.specs.Texts.{recordText, section, Puts};
 use super::writing::edge_bytes;
@@ -32,7 +32,7 @@ fn idle_record(s: &[u8], shape: Shape, state: u16) -> [u8; 16]
 
 pub fn put_edges(s: &[u8], shape: Shape, out: &mut [u8], at: usize) -> usize
     requires { ⌜ Accepted (now s) shape × (at < 2 ^ 60) ⌝ }
-    ensures { λ r. ⌜ Puts (now (out .entry)) at (section 35 (map writeEdge (map (edgeOf (readCharts (now (s .entry)))) (upto (size (readCharts (now (s .entry)))))))) (now (out .exit)) r (2 ^ 40) ⌝ }
+    ensures { λ r. ⌜ Puts (now (out .entry)) at (section 35 (map writeEdge (map (edgeOf (readCharts (now (s .entry)))) (upto (transitionCount (readCharts (now (s .entry)))))))) (now (out .exit)) r (2 ^ 40) ⌝ }
 {
     let mut next = at;
     let mut t: u16 = 0;
@@ -46,7 +46,7 @@ pub fn put_edges(s: &[u8], shape: Shape, out: &mut [u8], at: usize) -> usize
 
 pub fn put_idles(s: &[u8], shape: Shape, out: &mut [u8], at: usize) -> usize
     requires { ⌜ Accepted (now s) shape × (at < 2 ^ 60) ⌝ }
-    ensures { λ r. ⌜ Puts (now (out .entry)) at (section 35 (map writeEdge (map (idleOf (readCharts (now (s .entry)))) (upto (states (readCharts (now (s .entry)))))))) (now (out .exit)) r (2 ^ 40) ⌝ }
+    ensures { λ r. ⌜ Puts (now (out .entry)) at (section 35 (map writeEdge (map (idleOf (readCharts (now (s .entry)))) (upto (stateCount (readCharts (now (s .entry)))))))) (now (out .exit)) r (2 ^ 40) ⌝ }
 {
     let mut next = at;
     let mut state: u16 = 0;

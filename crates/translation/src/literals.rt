@@ -6,8 +6,8 @@ ghost use Prim.Native.Nat.{_+_, _≤_, _<_, _^_};
 ghost use Rattle.records.specs.Lists.{gather, upto};
 ghost use Rattle.records.specs.Bytes.{bytes2};
 ghost use Rattle.model.specs.ChartSet.{readCharts, transition};
-ghost use Rattle.model.specs.AutomataTable.{writeCause, writeGuard};
-ghost use Rattle.model.specs.Translation.{size, states, causeOf, literal, above, literalsOf, idleLiterals};
+ghost use Rattle.model.specs.AutomataTable.{writeLiteralTrigger, writeGuard};
+ghost use Rattle.model.specs.Translation.{transitionCount, stateCount, literalTriggerOf, literal, triedBefore, literalsOf, idleLiterals};
 ghost use Rattle.chart_files.specs.Parts.{guardFor};
 ghost use Rattle.charts.specs.Accepted.{Accepted};
 ghost use Rattle.charts.specs.Tables.{HasRows, HasEnds, named};
@@ -43,7 +43,7 @@ fn literal_record(
     t: u16,
 ) -> [u8; 16]
     requires { ⌜ Accepted (now s) shape × HasClocks (readCharts (now s)) (now clocks) × (t < shape .transitions) ⌝ }
-    ensures { λ r. ⌜ r ≡ recordText 36 (sign ∷ bytes2 edge ++ writeCause (causeOf (readCharts (now (s .entry))) t (transition (readCharts (now (s .entry))) t .trigger)) ++ writeGuard (transition (readCharts (now (s .entry))) t .guard)) ⌝ }
+    ensures { λ r. ⌜ r ≡ recordText 36 (sign ∷ bytes2 edge ++ writeLiteralTrigger (literalTriggerOf (readCharts (now (s .entry))) t (transition (readCharts (now (s .entry))) t .trigger)) ++ writeGuard (transition (readCharts (now (s .entry))) t .guard)) ⌝ }
 {
     let guard = guard_number(guard_of(s, shape, t));
     let clock = clocks[t as usize];
@@ -89,7 +89,7 @@ fn put_negations(
     count: usize,
 ) -> usize
     requires { ⌜ Accepted (now s) shape × HasClocks (readCharts (now s)) (now clocks) × HasRows (readCharts (now s)) (now rows) × (state < shape .states) × (count ≤ 16) × (at < 2 ^ 61) ⌝ }
-    ensures { λ r. ⌜ Puts (now (out .entry)) at (literalTexts edge (map (literal (readCharts (now (s .entry))) false) (above (readCharts (now (s .entry))) state (count + 1)))) (now (out .exit)) r (2 ^ 20) ⌝ }
+    ensures { λ r. ⌜ Puts (now (out .entry)) at (literalTexts edge (map (literal (readCharts (now (s .entry))) false) (triedBefore (readCharts (now (s .entry))) state (count + 1)))) (now (out .exit)) r (2 ^ 20) ⌝ }
 {
     let mut next = at;
     let mut j: usize = 0;
@@ -130,7 +130,7 @@ pub fn put_literals(
     at: usize,
 ) -> usize
     requires { ⌜ Accepted (now s) shape × HasClocks (readCharts (now s)) (now clocks) × HasRows (readCharts (now s)) (now rows) × (at < 2 ^ 60) ⌝ }
-    ensures { λ r. ⌜ Puts (now (out .entry)) at (gather (λ t. literalTexts t (literalsOf (readCharts (now (s .entry))) t)) (upto (size (readCharts (now (s .entry)))))) (now (out .exit)) r (2 ^ 40) ⌝ }
+    ensures { λ r. ⌜ Puts (now (out .entry)) at (gather (λ t. literalTexts t (literalsOf (readCharts (now (s .entry))) t)) (upto (transitionCount (readCharts (now (s .entry)))))) (now (out .exit)) r (2 ^ 40) ⌝ }
 {
     let mut next = at;
     let mut t: u16 = 0;
@@ -152,7 +152,7 @@ pub fn put_idle_literals(
     at: usize,
 ) -> usize
     requires { ⌜ Accepted (now s) shape × HasClocks (readCharts (now s)) (now clocks) × HasRows (readCharts (now s)) (now rows) × HasEnds (readCharts (now s)) (now rows) (now ends) × (at < 2 ^ 60) ⌝ }
-    ensures { λ r. ⌜ Puts (now (out .entry)) at (gather (λ st. literalTexts (size (readCharts (now (s .entry))) + st) (idleLiterals (readCharts (now (s .entry))) st)) (upto (states (readCharts (now (s .entry)))))) (now (out .exit)) r (2 ^ 40) ⌝ }
+    ensures { λ r. ⌜ Puts (now (out .entry)) at (gather (λ st. literalTexts (transitionCount (readCharts (now (s .entry))) + st) (idleLiterals (readCharts (now (s .entry))) st)) (upto (stateCount (readCharts (now (s .entry)))))) (now (out .exit)) r (2 ^ 40) ⌝ }
 {
     let mut next = at;
     let mut state: u16 = 0;

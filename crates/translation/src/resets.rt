@@ -5,7 +5,7 @@ ghost use Prim.Native.Nat.{_<_, _^_};
 ghost use lib.ListN.{drop, replicate};
 ghost use Rattle.records.specs.Lists.{gather, upto};
 ghost use Rattle.model.specs.ChartSet.{readCharts};
-ghost use Rattle.model.specs.Translation.{size, clocksOf, clocksLeaving, resetsOf};
+ghost use Rattle.model.specs.Translation.{transitionCount, clocksOf, clocksLeaving, resetsOf};
 ghost use Rattle.chart_files.specs.Parts.{triggerFor};
 ghost use Rattle.charts.specs.Accepted.{Accepted};
 ghost use Rattle.translation.specs.Tables.{HasClocks, HasLeaving};
@@ -22,7 +22,7 @@ use charts::transitions::target_of;
 // so that each finds the one behind it; places past the transitions are kept.
 pub fn fill_leaving(s: &[u8], shape: Shape, first: &mut [u16; 128], next: &mut [u16; 256])
     requires { ⌜ Accepted (now s) shape × (now first ≡ replicate 128 65535) × (now next ≡ replicate 256 65535) ⌝ }
-    ensures { λ _. ⌜ HasLeaving (readCharts (now (s .entry))) (now (first .exit)) (now (next .exit)) × (drop (size (readCharts (now (s .entry)))) (now (next .exit)) ≡ drop (size (readCharts (now (s .entry)))) (now (next .entry))) ⌝ }
+    ensures { λ _. ⌜ HasLeaving (readCharts (now (s .entry))) (now (first .exit)) (now (next .exit)) × (drop (transitionCount (readCharts (now (s .entry)))) (now (next .exit)) ≡ drop (transitionCount (readCharts (now (s .entry)))) (now (next .entry))) ⌝ }
 {
     let mut t = shape.transitions;
     while 0 < t {
@@ -82,7 +82,7 @@ pub fn put_resets(
     at: usize,
 ) -> usize
     requires { ⌜ Accepted (now s) shape × HasClocks (readCharts (now s)) (now clocks) × HasLeaving (readCharts (now s)) (now first) (now next) × (at < 2 ^ 60) ⌝ }
-    ensures { λ r. ⌜ Puts (now (out .entry)) at (gather (λ t. resetTexts t (resetsOf (readCharts (now (s .entry))) t)) (upto (size (readCharts (now (s .entry)))))) (now (out .exit)) r (2 ^ 40) ⌝ }
+    ensures { λ r. ⌜ Puts (now (out .entry)) at (gather (λ t. resetTexts t (resetsOf (readCharts (now (s .entry))) t)) (upto (transitionCount (readCharts (now (s .entry)))))) (now (out .exit)) r (2 ^ 40) ⌝ }
 {
     let mut place = at;
     let mut t: u16 = 0;

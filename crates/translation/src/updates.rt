@@ -5,7 +5,7 @@ ghost use Prim.Native.Nat.{_+_, _<_, _^_};
 ghost use Rattle.records.specs.Lists.{keep, gather, upto};
 ghost use Rattle.model.specs.ChartSet.{readCharts};
 ghost use Rattle.model.specs.AutomataTable.{writeDeed};
-ghost use Rattle.model.specs.Translation.{size, updatesOf};
+ghost use Rattle.model.specs.Translation.{transitionCount, updatesOf};
 ghost use Rattle.chart_files.specs.Parts.{deedFor};
 ghost use Rattle.chart_files.specs.Places.{actionAt};
 ghost use Rattle.charts.specs.Accepted.{Accepted};
@@ -82,7 +82,7 @@ pub fn put_updates(
     at: usize,
 ) -> usize
     requires { ⌜ Accepted (now s) shape × HasActions (now s) shape (now first) (now next) × (at < 2 ^ 60) ⌝ }
-    ensures { λ r. ⌜ Puts (now (out .entry)) at (gather (λ t. updateTexts t (updatesOf (readCharts (now (s .entry))) t)) (upto (size (readCharts (now (s .entry)))))) (now (out .exit)) r (2 ^ 40) ⌝ }
+    ensures { λ r. ⌜ Puts (now (out .entry)) at (gather (λ t. updateTexts t (updatesOf (readCharts (now (s .entry))) t)) (upto (transitionCount (readCharts (now (s .entry)))))) (now (out .exit)) r (2 ^ 40) ⌝ }
 {
     let mut place = at;
     let mut t: u16 = 0;

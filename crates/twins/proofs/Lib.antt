@@ -1,6 +1,6 @@
-pub mod AlikeLaws
+pub mod Alike
 pub mod Matched
-pub mod BothLaws
-pub mod CompareLaws
+pub mod AlikeBoth
+pub mod ComparedCalls
 pub mod PlaysAlike
 pub mod PathsAlike

@@ -14,38 +14,38 @@ use Rattle.model.specs.Owned.{of}
 use Rattle.model.specs.Runs.{Run, give, Answer, taken, idle, time, Call, one-turn, whole-cycle}
 use Rattle.model.specs.ChartSet.{readCharts}
 use Rattle.model.specs.AutomataTable as M
-use Rattle.model.specs.AutomataTable.{Cause, always, event, clock, Literal, Edge, edge, noEdge, readAutomata}
+use Rattle.model.specs.AutomataTable.{LiteralTrigger, always, event, clock, Literal, Edge, edge, noEdge, readAutomata}
 use Rattle.model.specs.Automata.{leaving}
 use Rattle.model.specs.Calls.{chartSets, automataTables, turnCall, cycleCall}
 use Rattle.model.specs.Correspondence.{clockFor, clockRead, clocksRead, Corresponds, AnswersMatch, OutsMatch, CallMatches, lentAfter, MoveAlike}
 use Rattle.model.proofs.BoolLaws.{of-true, both-of, clash}
 use Rattle.model.proofs.ListLaws.{mem-left, mem-right, mem-gather, mem-kept, mem-from}
-use Rattle.chart_files.proofs.Numbers.{all-by}
+use Rattle.chart_files.proofs.NumberLaws.{all-by}
 use Rattle.automata_files.specs.declared.Shape.{Shape}
 use Rattle.automata_files.specs.Places.{edgeAt, literalAt}
-use Rattle.automata_files.proofs.Readings.{length-edges, length-literals, edge-is, literal-is, clock-is}
-use Rattle.automata_files.proofs.Sound.{automaton-known, literal-edge-known}
+use Rattle.automata_files.proofs.PlacesRead.{length-edges, length-literals, edge-is, literal-is, clock-is}
+use Rattle.automata_files.proofs.NamedThings.{automaton-known, literal-edge-known}
 use Rattle.automata.specs.Accepted.{Accepted}
-use Rattle.twins.specs.Alike.{valuesAlike, variablesAlike, placesAlike, causeAlike, literalAlike, timersAlike, runsAlike, idleAt, answersAlike, outsAlike, stateAt, repliesAlike, callAlike}
-use Rattle.twins.proofs.AlikeLaws.{clock-in}
+use Rattle.twins.specs.Alike.{valuesAlike, variablesAlike, placesAlike, literalTriggerAlike, literalAlike, timersAlike, runsAlike, idleAt, answersAlike, outsAlike, stateAt, repliesAlike, callAlike}
+use Rattle.twins.proofs.Alike.{clock-in}
 
 -- ---- the clocks that a location's literals read
 
 -- a literal of a table is one of its edge's
-literal-read : (xs : List (ℕ × Literal)) (d : ℕ × Literal) (l k : ℕ) → l < length xs → clock k ≡ getD xs l d .1 .cause →
-    T (mem k (gather (λ x. clockRead (x .cause)) (of (getD xs l d .0) xs)))
+literal-read : (xs : List (ℕ × Literal)) (d : ℕ × Literal) (l k : ℕ) → l < length xs → clock k ≡ getD xs l d .1 .trigger →
+    T (mem k (gather (λ x. clockRead (x .trigger)) (of (getD xs l d .0) xs)))
 unfolding gather keep mem
 literal-read [] d l k h e = absurd (omega (arith, h))
 literal-read (x ∷ xs) d zero k h e = go (eqb (x .0) (x .0)) (eq-eqb (x .0) (x .0) refl)
   where
-    go : (b : Bool) → b ≡ true → T (mem k (gather (λ y. clockRead (y .cause)) (map (λ y. y .1) (cond b (x ∷ keep (λ y. eqb (y .0) (x .0)) xs) (keep (λ y. eqb (y .0) (x .0)) xs)))))
-    go true q = mem-left k (clockRead (x .1 .cause)) (gather (λ y. clockRead (y .cause)) (of (x .0) xs)) (subst (λ z. T (mem k (clockRead z))) e (of-true (ap (λ b. b || false) (eq-eqb k k refl))))
+    go : (b : Bool) → b ≡ true → T (mem k (gather (λ y. clockRead (y .trigger)) (map (λ y. y .1) (cond b (x ∷ keep (λ y. eqb (y .0) (x .0)) xs) (keep (λ y. eqb (y .0) (x .0)) xs)))))
+    go true q = mem-left k (clockRead (x .1 .trigger)) (gather (λ y. clockRead (y .trigger)) (of (x .0) xs)) (subst (λ z. T (mem k (clockRead z))) e (of-true (ap (λ b. b || false) (eq-eqb k k refl))))
     go false q = clash {b = true} tt (sym q)
 literal-read (x ∷ xs) d (suc l) k h e = go (eqb (x .0) (getD xs l d .0)) (literal-read xs d l k (omega (arith, h)) e)
   where
-    go : (b : Bool) → T (mem k (gather (λ y. clockRead (y .cause)) (of (getD xs l d .0) xs))) →
-        T (mem k (gather (λ y. clockRead (y .cause)) (map (λ y. y .1) (cond b (x ∷ keep (λ y. eqb (y .0) (getD xs l d .0)) xs) (keep (λ y. eqb (y .0) (getD xs l d .0)) xs)))))
-    go true m = mem-right k (clockRead (x .1 .cause)) (gather (λ y. clockRead (y .cause)) (of (getD xs l d .0) xs)) m
+    go : (b : Bool) → T (mem k (gather (λ y. clockRead (y .trigger)) (of (getD xs l d .0) xs))) →
+        T (mem k (gather (λ y. clockRead (y .trigger)) (map (λ y. y .1) (cond b (x ∷ keep (λ y. eqb (y .0) (getD xs l d .0)) xs) (keep (λ y. eqb (y .0) (getD xs l d .0)) xs)))))
+    go true m = mem-right k (clockRead (x .1 .trigger)) (gather (λ y. clockRead (y .trigger)) (of (getD xs l d .0) xs)) m
     go false m = m
 
 value-itself : (z : ℤ) → valuesAlike z z ≡ true
@@ -72,7 +72,7 @@ module _ (s t : List ℕ) (sh : Shape) (ok : Accepted t sh) where
     in-edges : e < sh .edges
     in-edges = literal-edge-known t sh (ok .shape) (ok .unrefused) l h
 
-    clock-of : (k : ℕ) → clock k ≡ literalAt t sh l .1 .cause → T (mem k (clocksRead au (edgeAt t sh e .automaton) (edgeAt t sh e .source)))
+    clock-of : (k : ℕ) → clock k ≡ literalAt t sh l .1 .trigger → T (mem k (clocksRead au (edgeAt t sh e .automaton) (edgeAt t sh e .source)))
     clock-of k q =
         let is = ok .shape in
         let lit : getD (au .literals) l (e, literalAt t sh l .1) ≡ literalAt t sh l = literal-is t sh is (e, literalAt t sh l .1) l h in
@@ -80,9 +80,9 @@ module _ (s t : List ℕ) (sh : Shape) (ok : Accepted t sh) where
         mem-kept (λ x. eqb (edge au x .automaton) (edgeAt t sh e .automaton) && eqb (edge au x .source) (edgeAt t sh e .source)) e (upto (length (au .edges)))
         (both-of (eqb (edge au e .automaton) (edgeAt t sh e .automaton)) (eqb (edge au e .source) (edgeAt t sh e .source)) (of-true (eq-eqb _ _ (ap (λ x. x .automaton) (edge-is t sh is e in-edges)))) (of-true (eq-eqb _ _ (ap (λ x. x .source) (edge-is t sh is e in-edges)))))
         (mem-from e 0 (length (au .edges)) (omega arith) (omega (arith, in-edges, length-edges t sh is))) in
-        mem-gather (λ x. gather (λ y. clockRead (y .cause)) (of x (au .literals))) k e (leaving au (edgeAt t sh e .automaton) (edgeAt t sh e .source)) leaves
-        (subst (λ x. T (mem k (gather (λ y. clockRead (y .cause)) (of (x .0) (au .literals))))) lit
-        (literal-read (au .literals) (e, literalAt t sh l .1) l k (omega (arith, h, length-literals t sh is)) (q ∙ ap (λ x. x .1 .cause) (sym lit))))
+        mem-gather (λ x. gather (λ y. clockRead (y .trigger)) (of x (au .literals))) k e (leaving au (edgeAt t sh e .automaton) (edgeAt t sh e .source)) leaves
+        (subst (λ x. T (mem k (gather (λ y. clockRead (y .trigger)) (of (x .0) (au .literals))))) lit
+        (literal-read (au .literals) (e, literalAt t sh l .1) l k (omega (arith, h, length-literals t sh is)) (q ∙ ap (λ x. x .1 .trigger) (sym lit))))
 
   module _ (charts : length (readCharts s .initial) ≡ sh .automata) (r q : Run) (h : Corresponds (readCharts s) au r q) where
     literal-alike : (l : ℕ) → l < sh .literals → literalAlike t sh (r .timers) (q .at) (q .timers) l ≡ true
@@ -91,7 +91,7 @@ module _ (s t : List ℕ) (sh : Shape) (ok : Accepted t sh) where
         x : Edge
         x = edgeAt t sh (literalAt t sh l .0)
 
-        by : getD (q .at) (x .automaton) 0 ≡ x .source → (c : Cause) → c ≡ literalAt t sh l .1 .cause → causeAlike t sh (q .timers) (getD (r .timers) (x .automaton) 0) c ≡ true
+        by : getD (q .at) (x .automaton) 0 ≡ x .source → (c : LiteralTrigger) → c ≡ literalAt t sh l .1 .trigger → literalTriggerAlike t sh (q .timers) (getD (r .timers) (x .automaton) 0) c ≡ true
         by there always d = refl
         by there (event n) d = refl
         by there (clock n) d =
@@ -99,8 +99,8 @@ module _ (s t : List ℕ) (sh : Shape) (ok : Accepted t sh) where
             let m : T (mem n (clocksRead au (x .automaton) (getD (q .at) (x .automaton) 0))) = subst (λ y. T (mem n (clocksRead au (x .automaton) y))) (sym there) (clock-of l k n d) in
             eq-eqb _ _ (h .timers (x .automaton) a n m ∙ ap (λ y. clockFor (y .timing) (y .ticks) (getD (r .timers) (x .automaton) 0)) (clock-is t sh (ok .shape) n (clock-in t sh ok l k n d)))
 
-        at : (b : Bool) → eqb (getD (q .at) (x .automaton) 0) (x .source) ≡ b → cond b (causeAlike t sh (q .timers) (getD (r .timers) (x .automaton) 0) (literalAt t sh l .1 .cause)) true ≡ true
-        at true d = by (eqb-true _ _ d) (literalAt t sh l .1 .cause) refl
+        at : (b : Bool) → eqb (getD (q .at) (x .automaton) 0) (x .source) ≡ b → cond b (literalTriggerAlike t sh (q .timers) (getD (r .timers) (x .automaton) 0) (literalAt t sh l .1 .trigger)) true ≡ true
+        at true d = by (eqb-true _ _ d) (literalAt t sh l .1 .trigger) refl
         at false d = refl
 
     pub corresponding-alike : runsAlike t sh r q ≡ true

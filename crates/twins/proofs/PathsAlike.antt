@@ -16,9 +16,9 @@ use Rattle.model.specs.Translation.{translate}
 use Rattle.model.specs.PathBack.{rowsWritten, pathBack}
 use Rattle.model.specs.Calls.{Format, chartSets, automataTables, startCall}
 use Rattle.model.specs.TakenPath.{takenPath, takenRows}
-use Rattle.model.proofs.Demand3.{translated}
-use Rattle.model.proofs.TwinAccepted.{twin-accepted}
-use Rattle.model.proofs.TwinPath.{twin-path-back}
+use Rattle.model.proofs.CorrespondenceDemand3.{translated}
+use Rattle.model.proofs.TranslationAccepted.{twin-accepted}
+use Rattle.model.proofs.TakenPathTwin.{twinPath-pathBack}
 
 -- a start on a file that is not refused leaves the fresh run
 started : (f : Format) (s : List ℕ) (r : Run) → f .refusal s ≡ none → startCall f s r .lent ≡ start (f .machine s)
@@ -35,5 +35,5 @@ path-led-back s buffer bytes n out e calls r q words =
     let accepted : automataRefusal (take n out) ≡ none = subst (λ u. automataRefusal u ≡ none) (sym (h .1)) (twin-accepted s bytes (h .0)) in
     ap (λ z. pathBack s (takenPath (take n out) calls z) words) (started automataTables (take n out) q accepted)
     ∙ ap (λ u. pathBack s (takenPath u calls (start (automata (readAutomata u)))) words) (h .1)
-    ∙ twin-path-back s bytes (h .0) calls words
+    ∙ twinPath-pathBack s bytes (h .0) calls words
     ∙ ap (λ z. settled words (rowsWritten (takenRows s calls z) words)) (sym (started chartSets s r (h .0)))

@@ -10,7 +10,7 @@ use lib.Signed.{leZ}
 use Rattle.records.specs.Lists.{all, upto}
 use Rattle.records.specs.Refusal.{Out, val, fault, refusalNumber}
 use Rattle.model.specs.Runs.{Run, Answer, taken, idle, time, Call, one-turn, whole-cycle}
-use Rattle.model.specs.AutomataTable.{Cause, always, event, clock}
+use Rattle.model.specs.AutomataTable.{LiteralTrigger, always, event, clock}
 use Rattle.model.specs.Calls.{chartSets, automataTables, turnCall, cycleCall}
 use Rattle.model.specs.Correspondence.{clockFor, lentAfter}
 use Rattle.automata_files.specs.declared.Shape.{Shape}
@@ -33,16 +33,16 @@ module _ (t : List ℕ) (sh : Shape) where
   abbrev pub clockAlike : List ℕ → ℕ → ℕ → Bool
   clockAlike clocks age k = eqb (getD clocks k 0) (clockFor (clockAt t sh k .timing) (clockAt t sh k .ticks) age)
 
-  abbrev pub causeAlike : List ℕ → ℕ → Cause → Bool
-  causeAlike clocks age always = true
-  causeAlike clocks age (event e) = true
-  causeAlike clocks age (clock k) = clockAlike clocks age k
+  abbrev pub literalTriggerAlike : List ℕ → ℕ → LiteralTrigger → Bool
+  literalTriggerAlike clocks age always = true
+  literalTriggerAlike clocks age (event e) = true
+  literalTriggerAlike clocks age (clock k) = clockAlike clocks age k
 
   -- the clock that literal l reads stands as the age of its chart's state says, if the literal's edge leaves its automaton's location
   abbrev pub literalAlike : List ℕ → List ℕ → List ℕ → ℕ → Bool
   literalAlike ages locations clocks l =
       let e = edgeAt t sh (literalAt t sh l .0) in
-      cond (eqb (getD locations (e .automaton) 0) (e .source)) (causeAlike clocks (getD ages (e .automaton) 0) (literalAt t sh l .1 .cause)) true
+      cond (eqb (getD locations (e .automaton) 0) (e .source)) (literalTriggerAlike clocks (getD ages (e .automaton) 0) (literalAt t sh l .1 .trigger)) true
 
   abbrev pub timersAlike : List ℕ → List ℕ → List ℕ → Bool
   timersAlike ages locations clocks = all (literalAlike ages locations clocks) (upto (sh .literals))

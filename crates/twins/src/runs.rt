@@ -10,10 +10,10 @@ ghost use Rattle.twins.specs.Alike.{valuesAlike, variablesAlike, placesA
 use automata::fields::is_after;
 use automata::fields::ticks_of;
 use automata_files::Shape;
-use automata_files::fields::Cause;
+use automata_files::fields::LiteralTrigger;
 use automata_files::fields::automaton_of;
-use automata_files::fields::cause_of;
 use automata_files::fields::literal_edge;
+use automata_files::fields::literal_trigger_of;
 use automata_files::fields::source_of;
 
 fn values_alike(a: i16, b: i16) -> bool
@@ -91,10 +91,10 @@ fn literal_alike(
     if locations[a] != source_of(t, shape, e) {
         return true;
     }
-    match cause_of(t, shape, l) {
-        Cause::Always => true,
-        Cause::Event(_) => true,
-        Cause::Clock(k) => clock_alike(t, shape, clocks, ages[a], k),
+    match literal_trigger_of(t, shape, l) {
+        LiteralTrigger::Always => true,
+        LiteralTrigger::Event(_) => true,
+        LiteralTrigger::Clock(k) => clock_alike(t, shape, clocks, ages[a], k),
     }
 }
 

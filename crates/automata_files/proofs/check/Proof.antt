@@ -2,7 +2,7 @@
 use mathlib.Core.Path.{sym, ap, _∙_}
 use denote.Ref.{now}
 use Rattle.automata_files.specs.Shape.{refusalOf}
-use Rattle.automata_files.proofs.CheckLaws.{refused-framing, refused, accepted}
+use Rattle.automata_files.proofs.ChecksFramed.{refused-framing, refused, accepted}
 use borrow.Author.Needs.{needs}
 use Rattle.automata_files.proofs.check.Statement.{statement}
 use Rattle.automata_files.proofs.check.Tie as tie

@@ -4,11 +4,11 @@ use mathlib.Core.Bool.{_&&_}
 use lib.ListN.{replicate}
 use Rattle.records.specs.Bytes.{records}
 use Rattle.expressions.specs.Nodes.{nodeAt}
-use Rattle.expressions.specs.Sorts.{verdictOf}
+use Rattle.expressions.specs.Verdicts.{verdictOf}
 use Rattle.expressions.specs.Uses.{addUses, allOperands}
 use Rattle.model.specs.ChartFile.{unusedAreZero}
 use Rattle.model.specs.AutomataFile.{unusedInTable, tableInCode}
-use Rattle.chart_files.proofs.Numbers.{all-both}
+use Rattle.chart_files.proofs.NumberLaws.{all-both}
 use borrow.Author.Needs.{needs}
 use Rattle.automata_files.proofs.passes.Statement.{statement}
 use Rattle.automata_files.proofs.passes.Tie as tie

@@ -1,7 +1,7 @@
 -- `check` meets its contract: what framing refuses is refused so, and the others are of the shape that is checked. Assumes nothing.
 use mathlib.Core.Path.{sym, ap, _∙_}
 use Rattle.chart_files.specs.Shape.{refusalOf}
-use Rattle.chart_files.proofs.CheckLaws.{refused-framing, refused}
+use Rattle.chart_files.proofs.ShapeChecked.{refused-framing, refused}
 use borrow.Author.Needs.{needs}
 use Rattle.chart_files.proofs.check.Statement.{statement}
 use Rattle.chart_files.proofs.check.Tie as tie

@@ -7,12 +7,12 @@ use Rattle.records.specs.Lists.{all}
 use Rattle.records.specs.Refusal.{lowest}
 use Rattle.records.specs.Bytes.{records}
 use Rattle.expressions.specs.Nodes.{nodeAt}
-use Rattle.expressions.specs.Sorts.{verdictOf}
+use Rattle.expressions.specs.Verdicts.{verdictOf}
 use Rattle.expressions.specs.Uses.{addUses, allOperands}
 use Rattle.model.specs.ChartSet.{readCharts}
 use Rattle.model.specs.ChartFile.{unused, unusedAreZero, inCode, allNamed, structured, nodesFit, ticking}
 use Rattle.records.specs.declared.refusals.Refusal.the-variants.{StrayByte, BrokenCode, DanglingNumber, BrokenStructure, BrokenNode, ZeroTicks}
-use Rattle.chart_files.proofs.CheckLaws.{refusal-is, refused, accepted}
+use Rattle.chart_files.proofs.ShapeChecked.{refusal-is, refused, accepted}
 use borrow.Author.Needs.{needs}
 use Rattle.chart_files.proofs.check_framed.Statement.{statement}
 use Rattle.chart_files.proofs.check_framed.Tie as tie

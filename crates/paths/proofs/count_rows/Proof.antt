@@ -9,10 +9,10 @@ use denote.Ref.{now}
 use lib.Dec.{ltb}
 use lib.ListN.{length, getD}
 use Rattle.model.specs.ChartSet.{readCharts}
-use Rattle.chart_files.proofs.Readings.{length-transitions}
+use Rattle.chart_files.proofs.PlacesRead.{length-transitions}
 use Rattle.paths.specs.LedOf.{walkIn, nextPosition, nextCycles}
-use Rattle.paths.proofs.Following.{Followed, at-most-one, followed-none, followed-more, followed-all, followed-broken, rows-many}
-use Rattle.paths.proofs.Steps.{in-turn}
+use Rattle.paths.proofs.AlongFollowed.{Followed, at-most-one, followed-none, followed-more, followed-all, followed-broken, rows-many}
+use Rattle.paths.proofs.LedOfSteps.{in-turn}
 use Rattle.paths.proofs.count_rows.Statement.{statement}
 use Rattle.paths.proofs.count_rows.Tie as tie
 

@@ -7,8 +7,8 @@ use borrow.Author.Needs.{needs}
 use borrow.Author.Tests.{eq-eqb, ne-eqb}
 use denote.Ref.{now}
 use lib.ListN.{getD}
-use Rattle.chart_files.proofs.Readings.{most-states, most-transitions}
-use Rattle.paths.proofs.Steps.{edge-out, edge-other, edge-there, held, edge-room, few-automata}
+use Rattle.chart_files.proofs.PlacesRead.{most-states, most-transitions}
+use Rattle.paths.proofs.LedOfSteps.{edge-out, edge-other, edge-there, held, edge-room, few-automata}
 use Rattle.paths.proofs.edge_fits.Statement.{statement}
 use Rattle.paths.proofs.edge_fits.Tie as tie
 use Rattle.paths.proofs.edge_fits.Reads as reads

@@ -9,7 +9,7 @@ use denote.Ref.{now}
 use lib.Dec.{eqb}
 use lib.ListN.{length, getD, set, length-set}
 use lib.Seq.{getD-set-same, getD-set-other}
-use Rattle.chart_files.proofs.Readings.{most-states, most-transitions}
+use Rattle.chart_files.proofs.PlacesRead.{most-states, most-transitions}
 use Rattle.chart_files.specs.declared.Shape.{Shape}
 use Rattle.chart_files.specs.Shape.{IsShape}
 use Rattle.paths.specs.declared.Edge.{Edge}

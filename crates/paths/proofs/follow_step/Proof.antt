@@ -6,7 +6,7 @@ use borrow.Author.Needs.{needs}
 use denote.Ref.{now}
 use lib.ListN.{getD}
 use Rattle.paths.specs.LedOf.{walkIn}
-use Rattle.paths.proofs.Steps.{held, edge-room, few-automata, led-edge, led-time, fits-edge}
+use Rattle.paths.proofs.LedOfSteps.{held, edge-room, few-automata, led-edge, led-time, fits-edge}
 use Rattle.paths.proofs.follow_step.Statement.{statement}
 use Rattle.paths.proofs.follow_step.Tie as tie
 use Rattle.paths.proofs.follow_step.Reads as reads

@@ -5,7 +5,7 @@ use denote.Ref.{now}
 use Rattle.model.specs.ChartSet.{readCharts}
 use Rattle.paths.specs.LedOf.{countOf, answerOf}
 use Rattle.paths.specs.declared.Led.the-variants.{Rows}
-use Rattle.paths.proofs.Leading.{led-broken, led-many, led-short, led-room, led-written}
+use Rattle.paths.proofs.LedOf.{led-broken, led-many, led-short, led-room, led-written}
 use Rattle.paths.proofs.path_back.Statement.{statement}
 use Rattle.paths.proofs.path_back.Tie as tie
 

@@ -9,7 +9,7 @@ use lib.Dec.{eqb}
 use lib.ListN.{length, length-set, set}
 use Rattle.model.specs.ChartSet.{readCharts}
 use Rattle.model.specs.PathBack.{edgeFits, stepFits}
-use Rattle.chart_files.proofs.Readings.{most-charts, most-states, most-transitions}
+use Rattle.chart_files.proofs.PlacesRead.{most-charts, most-states, most-transitions}
 use borrow.Author.Needs.{needs}
 use Rattle.paths.proofs.put_row.Statement.{statement}
 use Rattle.paths.proofs.put_row.Tie as tie

@@ -14,11 +14,11 @@ use Rattle.model.specs.ChartSet.{readCharts}
 use Rattle.model.specs.PathBack.{walkStart, rowWords}
 use Rattle.chart_files.specs.declared.Shape.{Shape}
 use Rattle.charts.specs.Accepted.{Accepted}
-use Rattle.chart_files.proofs.Readings.{length-transitions, most-transitions}
+use Rattle.chart_files.proofs.PlacesRead.{length-transitions, most-transitions}
 use Rattle.paths.specs.LedOf.{stepWords, nextPosition, nextCycles}
 use Rattle.paths.specs.Along.{allFit, walkAlong, rowsAlong}
-use Rattle.paths.proofs.Following.{Followed, at-most-one, followed-none, followed-more, followed-fits, rows-many, words-are, room-next, written, written-none, written-more, walk-next}
-use Rattle.paths.proofs.Steps.{fits-edge, in-turn, position-next, cycles-next}
+use Rattle.paths.proofs.AlongFollowed.{Followed, at-most-one, followed-none, followed-more, followed-fits, rows-many, words-are, room-next, written, written-none, written-more, walk-next}
+use Rattle.paths.proofs.LedOfSteps.{fits-edge, in-turn, position-next, cycles-next}
 use Rattle.paths.proofs.put_rows.Statement.{statement}
 use Rattle.paths.proofs.put_rows.Tie as tie
 

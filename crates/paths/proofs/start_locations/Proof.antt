@@ -5,7 +5,7 @@ use denote.Ref.{now}
 use lib.ListN.{length, take, replicate}
 use lib.Seq.{take-at}
 use Rattle.model.specs.ChartSet.{readCharts}
-use Rattle.chart_files.proofs.Readings.{length-initial}
+use Rattle.chart_files.proofs.PlacesRead.{length-initial}
 use borrow.Author.Needs.{needs}
 use Rattle.paths.proofs.start_locations.Statement.{statement}
 use Rattle.paths.proofs.start_locations.Tie as tie

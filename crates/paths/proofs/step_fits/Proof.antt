@@ -2,7 +2,7 @@
 use mathlib.Core.Path.{_≡_, sym, _∙_}
 use denote.Ref.{now}
 use Rattle.paths.specs.LedOf.{walkIn}
-use Rattle.paths.proofs.Steps.{step-late, step-time, step-edge}
+use Rattle.paths.proofs.LedOfSteps.{step-late, step-time, step-edge}
 use borrow.Author.Needs.{needs}
 use Rattle.paths.proofs.step_fits.Statement.{statement}
 use Rattle.paths.proofs.step_fits.Tie as tie

@@ -2,9 +2,9 @@
 use borrow.Author.Needs.{needs}
 use denote.Ref.{now}
 use Rattle.automata.specs.Accepted.{Accepted}
-use Rattle.automata.proofs.Checking.{accepted-of}
-use Rattle.automata.proofs.LinkLaws.{blank}
-use Rattle.automata.proofs.TableLaws.{room-long}
+use Rattle.automata.proofs.AcceptedByCheck.{accepted-of}
+use Rattle.automata.proofs.IndexLinked.{blank}
+use Rattle.automata.proofs.IndexRecords.{room-long}
 use Rattle.replay_twin.proofs.play_file.Statement.{statement}
 use Rattle.replay_twin.proofs.play_file.Tie as tie
 

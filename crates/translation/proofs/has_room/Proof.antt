@@ -7,7 +7,7 @@ use lib.Dec.{leb, le→leb}
 use lib.ListN.{length}
 use Rattle.model.specs.Translation.{twinBytes}
 use Rattle.model.proofs.BoolLaws.{is-true}
-use Rattle.model.proofs.TwinAccepted.{short-twin}
+use Rattle.model.proofs.TranslationAccepted.{short-twin}
 use Rattle.translation.proofs.has_room.Statement.{statement}
 use Rattle.translation.proofs.has_room.Tie as tie
 

@@ -6,10 +6,10 @@ use native.Mathlib.Omega.{arith}
 use borrow.Author.Needs.{needs}
 use denote.Ref.{now}
 use Rattle.model.specs.ChartSet.{readCharts}
-use Rattle.translation.proofs.Written.{puts-as, puts-then}
+use Rattle.translation.proofs.TextsWritten.{puts-as, puts-then}
 use Rattle.model.specs.AutomataTable.{writeUpdate, writeReset}
 use Rattle.model.specs.Translation.{updatesOf, resetsOf}
-use Rattle.translation.proofs.FileLaws.{transitions-text}
+use Rattle.translation.proofs.TextsFile.{transitions-text}
 use Rattle.translation.proofs.put_effects.Statement.{statement}
 use Rattle.translation.proofs.put_effects.Tie as tie
 

@@ -9,10 +9,10 @@ use Rattle.records.specs.Bytes.{bytes2}
 use Rattle.records.specs.Lists.{upto}
 use Rattle.model.specs.ChartSet.{readCharts}
 use Rattle.translation.specs.Texts.{section}
-use Rattle.translation.proofs.Written.{puts-as, puts-then}
+use Rattle.translation.proofs.TextsWritten.{puts-as, puts-then}
 use Rattle.model.specs.AutomataTable.{writeEdge}
-use Rattle.model.specs.Translation.{size, states, edgeOf, idleOf}
-use Rattle.translation.proofs.FileLaws.{section-append}
+use Rattle.model.specs.Translation.{transitionCount, stateCount, edgeOf, idleOf}
+use Rattle.translation.proofs.TextsFile.{section-append}
 use Rattle.translation.proofs.put_places.Statement.{statement}
 use Rattle.translation.proofs.put_places.Tie as tie
 
@@ -44,8 +44,8 @@ returns c =
     let entry = c .before .before .before .before .before .before .before .before .before .before .before .before .before .before .before .before .before .before in
     let cs = readCharts (now (entry .args .s)) in
     let before = section 33 (map (λ i. 0 ∷ bytes2 i) (cs .initial)) ++ section 34 (map (λ h. h ∷ []) (cs .homes)) in
-    let edges = map (edgeOf cs) (upto (size cs)) in
-    let idles = map (idleOf cs) (upto (states cs)) in
+    let edges = map (edgeOf cs) (upto (transitionCount cs)) in
+    let idles = map (idleOf cs) (upto (stateCount cs)) in
     puts-as _
     (append-assoc before (section 35 (map writeEdge edges)) (section 35 (map writeEdge idles)) ∙ ap (λ l. before ++ l) (sym (section-append 35 writeEdge edges idles)))
     (puts-then (2 ^ 42) (omega arith) (puts-then (3 * 2 ^ 40) (omega arith) (puts-then (2 ^ 41) (omega arith) (c .before .before .before .before .before .before .before .before .before .before .before .before .before .before .put-initials .ensures) (c .before .before .before .before .before .before .before .before .before .before .put-homes .ensures)) (c .before .before .before .before .before .before .put-edges .ensures)) (c .before .before .put-idles .ensures))

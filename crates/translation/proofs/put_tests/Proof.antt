@@ -11,8 +11,8 @@ use Rattle.model.specs.ChartSet.{readCharts}
 use Rattle.model.specs.AutomataTable.{writeLiteral, writeClock, writeVariable}
 use Rattle.model.specs.Translation.{clocksOf, literalsOf, idleLiterals}
 use Rattle.translation.specs.Texts.{section}
-use Rattle.translation.proofs.Written.{puts-as, puts-then}
-use Rattle.translation.proofs.FileLaws.{owned-text}
+use Rattle.translation.proofs.TextsWritten.{puts-as, puts-then}
+use Rattle.translation.proofs.TextsFile.{owned-text}
 use Rattle.translation.proofs.put_tests.Statement.{statement}
 use Rattle.translation.proofs.put_tests.Tie as tie
 

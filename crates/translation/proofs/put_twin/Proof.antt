@@ -6,8 +6,8 @@ use borrow.Author.Needs.{needs}
 use denote.Ref.{now}
 use Rattle.model.specs.ChartSet.{readCharts}
 use Rattle.model.specs.Translation.{twin}
-use Rattle.translation.proofs.Written.{puts-as, puts-then}
-use Rattle.translation.proofs.FileLaws.{file-text}
+use Rattle.translation.proofs.TextsWritten.{puts-as, puts-then}
+use Rattle.translation.proofs.TextsFile.{file-text}
 use Rattle.translation.proofs.put_twin.Statement.{statement}
 use Rattle.translation.proofs.put_twin.Tie as tie
 

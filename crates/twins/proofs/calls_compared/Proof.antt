@@ -1,5 +1,5 @@
 -- `calls_compared` meets its contract. Assumes nothing.
-use Rattle.twins.proofs.CompareLaws.{charts-are, fresh-alike}
+use Rattle.twins.proofs.ComparedCalls.{charts-are, fresh-alike}
 use Rattle.twins.proofs.Matched.{corresponding-alike, next-alike, then-alike, now-corresponds, moved-to}
 use Rattle.twins.specs.Alike.{callFor}
 use Rattle.twins.specs.declared.Compared.the-variants.{Alike}

@@ -1,6 +1,6 @@
 -- `plays_compared` meets its contract. Assumes nothing.
 use Rattle.twins.proofs.PlaysAlike.{plays-alike}
-use Rattle.twins.proofs.CompareLaws.{charts-are, fresh-alike}
+use Rattle.twins.proofs.ComparedCalls.{charts-are, fresh-alike}
 use Rattle.twins.proofs.Matched.{outs, corresponding-alike, now-corresponds}
 use Rattle.twins.specs.Alike.{outsAlike, runsAlike}
 use Rattle.model.proofs.BoolLaws.{clash, of-true}

@@ -1,8 +1,8 @@
 -- `set_compared` meets its contract. Assumes nothing.
-use Rattle.twins.proofs.CompareLaws.{translated-is, written-length}
+use Rattle.twins.proofs.ComparedCalls.{translated-is, written-length}
 use Rattle.twins.specs.Compared.{verdictOf, verdict}
 use Rattle.translation.specs.Answer.{translatedOf}
-use Rattle.model.proofs.Demand3.{translated}
+use Rattle.model.proofs.CorrespondenceDemand3.{translated}
 use Rattle.model.specs.Translation.{twinBytes}
 use lib.ListN.{length, length-take}
 use denote.Ref.{now}

@@ -7,11 +7,11 @@ use denote.Ref.{now}
 use lib.Dec.{eqb}
 use borrow.Author.Tests.{eq-eqb, ne-eqb}
 use Rattle.records.specs.Refusal.{Out, val, fault}
-use Rattle.expressions.specs.Answers.{reasonOf, truthOf}
+use Rattle.expressions.specs.Answers.{valueReasonOf, truthOf}
 use Rattle.model.specs.AutomataTable.{readAutomata}
 use Rattle.automata_files.specs.Places.{edgeAt}
 use Rattle.automata.specs.StepOf.{bareRun, edgeOpen, oneOpen}
-use Rattle.automata.proofs.OpenLaws.{open-fault, open-not, open-more}
+use Rattle.automata.proofs.StepOfOpen.{open-fault, open-not, open-more}
 use borrow.Author.Needs.{needs}
 use Rattle.automata.proofs.edges.count_edge.Statement.{statement}
 use Rattle.automata.proofs.edges.count_edge.Tie as tie
@@ -60,7 +60,7 @@ returns-2 : tie.Need-returns-2
 returns-2 c =
     let i = c .before .before .before .before .before in
     let a = i .before .before .before .before in
-    let w = reasonOf (c .before .before .w .given .0 .0) in (
+    let w = valueReasonOf (c .before .before .w .given .0 .0) in (
       λ es.
           ap fault (c .read-fault .ensures)
           ∙ open-fault (reading a) (a .args .e) (a .args .tally) w (ap truthOf (sym (c .before .before .w .given .1)) ∙ c .before .before .before .before .edge-open .ensures) es

@@ -6,17 +6,17 @@ use borrow.Author.Needs.{needs}
 use native.Mathlib.Omega.{arith}
 use denote.Ref.{now}
 use lib.ListN.{length}
-use Rattle.expressions.specs.Answers.{reasonOf, truthOf}
+use Rattle.expressions.specs.Answers.{valueReasonOf, truthOf}
 use Rattle.records.specs.Refusal.{val, fault}
 use Rattle.model.specs.AutomataTable.{readAutomata}
 use Rattle.model.specs.Automata.{literalHolds, reads}
 use Rattle.automata_files.specs.Places.{firstLiteral, firstClock, literalIn}
-use Rattle.automata_files.proofs.Readings.{most-edges}
+use Rattle.automata_files.proofs.PlacesRead.{most-edges}
 use Rattle.automata.specs.Index.{ownerIn}
 use Rattle.automata.specs.StepOf.{bareRun, edgeOpen}
-use Rattle.automata.proofs.Chained.{Walk, walk-from, walk-at, walk-rises, walk-more, walk-ends, walk-done}
-use Rattle.automata.proofs.TableLaws.{few-records, literals-of}
-use Rattle.automata.proofs.OpenLaws.{readOn, read-true, read-false, read-fault, read-none}
+use Rattle.automata.proofs.IndexWalk.{Walk, walk-from, walk-at, walk-rises, walk-more, walk-ends, walk-done}
+use Rattle.automata.proofs.IndexRecords.{few-records, literals-of}
+use Rattle.automata.proofs.StepOfOpen.{readOn, read-true, read-false, read-fault, read-none}
 use Rattle.automata.proofs.edges.edge_open.Statement.{statement}
 use Rattle.automata.proofs.edges.edge_open.Tie as tie
 
@@ -70,8 +70,8 @@ returns c =
     let x = a .args in
     let r = bareRun (now (x .clocks)) (now (x .vars)) (x .events) in
     sym
-    (walk-ends (small a) (i .before .loop .inv) (i .loop-test .taken) (fault (reasonOf (c .before .w .given .0 .0)))
-    (read-fault (literalHolds (readAutomata (now (x .s))) r) (λ m. literalIn (now (x .s)) m .1) (i .before .loop .n) (reasonOf (c .before .w .given .0 .0))
+    (walk-ends (small a) (i .before .loop .inv) (i .loop-test .taken) (fault (valueReasonOf (c .before .w .given .0 .0)))
+    (read-fault (literalHolds (readAutomata (now (x .s))) r) (λ m. literalIn (now (x .s)) m .1) (i .before .loop .n) (valueReasonOf (c .before .w .given .0 .0))
     (ap truthOf (sym (c .before .w .given .1)) ∙ c .before .before .before .literal-holds .ensures)))
 
 enum-known-holding : tie.Need-enum-known-holding Inv-loop μ-loop

@@ -14,14 +14,14 @@ use Rattle.records.specs.Refusal.{Out, fault, _>>=_}
 use Rattle.model.specs.AutomataTable.{readAutomata}
 use Rattle.model.specs.Automata.{opens, theOne}
 use Rattle.automata_files.specs.Places.{firstEdge, firstLiteral, edgeIn, edgeAt}
-use Rattle.automata_files.proofs.Readings.{most-locations}
+use Rattle.automata_files.proofs.PlacesRead.{most-locations}
 use Rattle.machines.specs.Answers.{reasonOf}
 use Rattle.automata.specs.declared.edges.Tally.the-variants.{Nothing}
 use Rattle.automata.specs.Index.{ownerIn}
 use Rattle.automata.specs.StepOf.{bareRun, edgeOpen, oneOpen, countedOf, theOpen, TallyIn, CountedIn}
-use Rattle.automata.proofs.Chained.{Walk, walk-from, walk-at, walk-rises, walk-more, walk-ends, walk-done}
-use Rattle.automata.proofs.TableLaws.{few-records, ownEdge, leaving-none}
-use Rattle.automata.proofs.OpenLaws.{countOn, counted, count-none, all-leaving}
+use Rattle.automata.proofs.IndexWalk.{Walk, walk-from, walk-at, walk-rises, walk-more, walk-ends, walk-done}
+use Rattle.automata.proofs.IndexRecords.{few-records, ownEdge, leaving-none}
+use Rattle.automata.proofs.StepOfOpen.{countOn, counted, count-none, all-leaving}
 use Rattle.automata.proofs.edges.open_edge.Statement.{statement}
 use Rattle.automata.proofs.edges.open_edge.Tie as tie
 

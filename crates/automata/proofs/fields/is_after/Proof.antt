@@ -8,7 +8,7 @@ use Rattle.records.specs.Lists.{caseOf}
 use Rattle.records.specs.Bytes.{byte}
 use Rattle.automata.specs.RunOf.{timingIf}
 use Rattle.automata.specs.Accepted.{FewRecords}
-use Rattle.automata.proofs.TableLaws.{few-records, in-file}
+use Rattle.automata.proofs.IndexRecords.{few-records, in-file}
 use Rattle.automata.proofs.fields.is_after.Statement.{statement}
 use Rattle.automata.proofs.fields.is_after.Tie as tie
 

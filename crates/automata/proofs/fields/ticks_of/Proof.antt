@@ -5,7 +5,7 @@ use native.Mathlib.Omega.{arith}
 use denote.Ref.{now}
 use Rattle.records.specs.Bytes.{two}
 use Rattle.automata.specs.Accepted.{FewRecords}
-use Rattle.automata.proofs.TableLaws.{few-records, in-file}
+use Rattle.automata.proofs.IndexRecords.{few-records, in-file}
 use Rattle.automata.proofs.fields.ticks_of.Statement.{statement}
 use Rattle.automata.proofs.fields.ticks_of.Tie as tie
 

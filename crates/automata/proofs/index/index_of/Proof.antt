@@ -4,10 +4,10 @@ use Prim.Native.Nat.{_+_}
 use native.Mathlib.Omega.{arith}
 use denote.Ref.{now}
 use Rattle.automata_files.specs.Places.{firstEdge, firstLiteral, firstClock, firstUpdate, firstReset}
-use Rattle.automata_files.proofs.Readings.{inside, most-locations, most-edges}
+use Rattle.automata_files.proofs.PlacesRead.{inside, most-locations, most-edges}
 use Rattle.automata.specs.Accepted.{FewRecords}
-use Rattle.automata.proofs.TableLaws.{few-records, source-in, literal-in, effect-in}
-use Rattle.automata.proofs.LinkLaws.{apart-within, linkable, linked-before, vacant-behind, relinked}
+use Rattle.automata.proofs.IndexRecords.{few-records, source-in, literal-in, effect-in}
+use Rattle.automata.proofs.IndexLinked.{apart-within, linkable, linked-before, vacant-behind, relinked}
 use borrow.Author.Needs.{needs}
 use Rattle.automata.proofs.index.index_of.Statement.{statement}
 use Rattle.automata.proofs.index.index_of.Tie as tie

@@ -4,7 +4,7 @@ use Prim.Native.Nat.{_+_, _-_, _<_}
 use native.Mathlib.Omega.{arith}
 use denote.Ref.{now}
 use lib.ListN.{length}
-use Rattle.automata.proofs.LinkLaws.{Filling, filling-none, filling-more, filling-done}
+use Rattle.automata.proofs.IndexLinked.{Filling, filling-none, filling-more, filling-done}
 use Rattle.automata.proofs.index.link.Statement.{statement}
 use Rattle.automata.proofs.index.link.Tie as tie
 

@@ -7,11 +7,11 @@ use Rattle.model.specs.AutomataTable.{readAutomata}
 use Rattle.model.specs.Automata.{automata}
 use Rattle.machines.specs.Answers.{cyclesOf}
 use Rattle.machines.specs.Playing.{playing}
-use Rattle.machines.proofs.AnswerTypes.{cycles-type}
+use Rattle.machines.proofs.LentAnswers.{cycles-type}
 use Rattle.machines.proofs.LentMasks.{lent}
 use Rattle.automata.specs.Accepted.{Accepted}
 use Rattle.automata.specs.RunOf.{runOf}
-use Rattle.automata.proofs.Types.{run-type, shape-type, played-type}
+use Rattle.automata.proofs.LentTypes.{run-type, shape-type, played-type}
 use Rattle.automata.proofs.plays.play_in_place as step
 use Rattle.automata.proofs.plays.play_in_place.Symbol as step-def
 use Rattle.automata.proofs.plays.play_in_place.Symbol.{name as #step}

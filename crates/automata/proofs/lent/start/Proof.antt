@@ -8,11 +8,11 @@ use Rattle.model.specs.Runs.{start}
 use Rattle.model.specs.AutomataTable.{readAutomata}
 use Rattle.model.specs.Automata.{automata}
 use Rattle.machines.specs.Answers.{endingOf}
-use Rattle.machines.proofs.AnswerTypes.{ending-type}
+use Rattle.machines.proofs.LentAnswers.{ending-type}
 use Rattle.machines.proofs.LentAlone.{lent}
 use Rattle.automata.specs.Accepted.{Accepted}
 use Rattle.automata.specs.RunOf.{runOf}
-use Rattle.automata.proofs.Types.{run-type, shape-type, called-type}
+use Rattle.automata.proofs.LentTypes.{run-type, shape-type, called-type}
 use Rattle.automata.proofs.lent.fresh as step
 use Rattle.automata.proofs.lent.fresh.Symbol as step-def
 use Rattle.automata.proofs.lent.fresh.Symbol.{name as #step}

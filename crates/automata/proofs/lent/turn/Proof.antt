@@ -7,11 +7,11 @@ use Rattle.model.specs.Runs.{turn}
 use Rattle.model.specs.AutomataTable.{readAutomata}
 use Rattle.model.specs.Automata.{automata}
 use Rattle.machines.specs.Answers.{answerOf}
-use Rattle.machines.proofs.AnswerTypes.{answer-type}
+use Rattle.machines.proofs.LentAnswers.{answer-type}
 use Rattle.machines.proofs.LentEvents.{lent}
 use Rattle.automata.specs.Accepted.{Accepted}
 use Rattle.automata.specs.RunOf.{runOf}
-use Rattle.automata.proofs.Types.{run-type, shape-type, turned-type}
+use Rattle.automata.proofs.LentTypes.{run-type, shape-type, turned-type}
 use Rattle.automata.proofs.turns.one_turn as step
 use Rattle.automata.proofs.turns.one_turn.Symbol as step-def
 use Rattle.automata.proofs.turns.one_turn.Symbol.{name as #step}

@@ -9,8 +9,8 @@ use Rattle.records.specs.Refusal.{val}
 use Rattle.model.specs.Runs.{guardHolds}
 use Rattle.model.specs.ChartSet.{readGuard}
 use Rattle.model.specs.AutomataTable.{readAutomata}
-use Rattle.automata.proofs.InFile.{has-values, nodes-in}
-use Rattle.automata.proofs.TableLaws.{in-file}
+use Rattle.automata.proofs.ValuesRead.{has-values, nodes-in}
+use Rattle.automata.proofs.IndexRecords.{in-file}
 use borrow.Author.Needs.{needs}
 use Rattle.automata.proofs.literals.condition_holds.Statement.{statement}
 use Rattle.automata.proofs.literals.condition_holds.Tie as tie

@@ -2,12 +2,12 @@
 use mathlib.Core.Path.{_≡_, sym, ap, _∙_}
 use native.Mathlib.Omega.{arith}
 use denote.Ref.{now}
-use Rattle.expressions.specs.Answers.{reasonOf, truthOf}
+use Rattle.expressions.specs.Answers.{valueReasonOf, truthOf}
 use Rattle.model.specs.AutomataTable.{readAutomata}
 use Rattle.automata_files.specs.Places.{literalIn}
 use Rattle.automata.specs.StepOf.{bareRun}
-use Rattle.automata.proofs.TableLaws.{in-file}
-use Rattle.automata.proofs.OpenLaws.{literal-fault, literal-must, literal-must-not}
+use Rattle.automata.proofs.IndexRecords.{in-file}
+use Rattle.automata.proofs.StepOfOpen.{literal-fault, literal-must, literal-must-not}
 use borrow.Author.Needs.{needs}
 use Rattle.automata.proofs.literals.literal_holds.Statement.{statement}
 use Rattle.automata.proofs.literals.literal_holds.Tie as tie
@@ -29,7 +29,7 @@ enum-known-holding c = search needs
 returns : tie.Need-returns
 returns c =
     let x = c .before .before .before .before .before .before .args in
-    literal-fault (readAutomata (now (x .s))) (bareRun (now (x .clocks)) (now (x .vars)) (x .events)) (literalIn (now (x .s)) (x .n) .1) (reasonOf (c .before .w .given .0 .0))
+    literal-fault (readAutomata (now (x .s))) (bareRun (now (x .clocks)) (now (x .vars)) (x .events)) (literalIn (now (x .s)) (x .n) .1) (valueReasonOf (c .before .w .given .0 .0))
     (ap truthOf (sym (c .before .w .given .1)) ∙ c .before .before .before .condition-holds .ensures)
 
 returns-2 : tie.Need-returns-2

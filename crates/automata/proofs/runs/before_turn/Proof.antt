@@ -1,6 +1,6 @@
 -- `runs::before_turn` meets its contract. Assumes nothing.
 use mathlib.Core.Path.{ap, _∙_}
-use Rattle.machines.specs.Checks.{checkedBy}
+use Rattle.model.specs.Runs.{checkedBy}
 use borrow.Author.Needs.{needs}
 use Rattle.automata.proofs.runs.before_turn.Statement.{statement}
 use Rattle.automata.proofs.runs.before_turn.Tie as tie

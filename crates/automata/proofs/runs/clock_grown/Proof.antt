@@ -5,10 +5,10 @@ use native.Mathlib.Omega.{arith}
 use borrow.Author.Needs.{needs}
 use denote.Ref.{now}
 use Rattle.automata_files.specs.Places.{clockAt}
-use Rattle.automata_files.proofs.Readings.{most-clocks}
-use Rattle.automata_files.proofs.Sound.{ticks-known}
+use Rattle.automata_files.proofs.PlacesRead.{most-clocks}
+use Rattle.automata_files.proofs.NamedThings.{ticks-known}
 use Rattle.automata.specs.RunOf.{grownTo}
-use Rattle.automata.proofs.Clocks.{limit}
+use Rattle.automata.proofs.RunOfClocks.{limit}
 use Rattle.automata.proofs.runs.clock_grown.Statement.{statement}
 use Rattle.automata.proofs.runs.clock_grown.Tie as tie
 

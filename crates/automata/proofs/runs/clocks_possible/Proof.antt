@@ -8,7 +8,7 @@ use denote.Ref.{now}
 use lib.Dec.{leb}
 use lib.ListN.{getD}
 use Rattle.automata_files.specs.declared.Shape.{Shape}
-use Rattle.automata_files.proofs.Readings.{most-clocks}
+use Rattle.automata_files.proofs.PlacesRead.{most-clocks}
 use Rattle.automata.specs.RunOf.{topAt}
 use Rattle.automata.proofs.AllRead.{Read, read-none, read-more, read-all}
 use Rattle.automata.proofs.runs.clocks_possible.Statement.{statement}

@@ -2,15 +2,15 @@
 use mathlib.Core.Path.{sym, _∙_}
 use mathlib.Core.Bool.{_&&_}
 use denote.Ref.{now}
-use Rattle.model.specs.Runs.{timersPossible}
+use Rattle.model.specs.Runs.{timersPossible, restZero}
 use Rattle.model.specs.AutomataTable.{readAutomata}
 use Rattle.model.specs.Automata.{automata}
-use Rattle.automata_files.proofs.Readings.{most-automata, length-initial, length-clocks}
-use Rattle.machines.specs.Checks.{zeros, shared}
-use Rattle.machines.proofs.Possible.{possible-is}
+use Rattle.automata_files.proofs.PlacesRead.{most-automata, length-initial, length-clocks}
+use Rattle.machines.specs.Checks.{sharedPossible}
+use Rattle.machines.proofs.ChecksClauses.{possible-is}
 use Rattle.automata.specs.RunOf.{runIn}
-use Rattle.automata.proofs.InFile.{homes-in, has-values, variables-in}
-use Rattle.automata.proofs.Clocks.{clocks-are}
+use Rattle.automata.proofs.ValuesRead.{homes-in, has-values, variables-in}
+use Rattle.automata.proofs.RunOfClocks.{clocks-are}
 use borrow.Author.Needs.{needs}
 use Rattle.automata.proofs.runs.is_possible.Statement.{statement}
 use Rattle.automata.proofs.runs.is_possible.Tie as tie
@@ -41,9 +41,9 @@ returns c =
     let v = c .before .before .before .before .before .values-of in
     let n = sym (length-initial s sh is) in
     (λ i. c .before .before .shared-possible .ensures i && (c .before .clocks-possible .ensures ∙ sym (clocks-are s sh is r)) i && c .clocks-unused .ensures i)
-    ∙ (λ i. shared (n i) (homes-in s sh is i) (variables-in s sh is (v .result) (v .ensures) i) (r .at) (r .world)
+    ∙ (λ i. sharedPossible (n i) (homes-in s sh is i) (variables-in s sh is (v .result) (v .ensures) i) (r .at) (r .world)
     && timersPossible (automata (readAutomata s)) r
-    && zeros (sym (length-clocks s sh is) i) (r .timers))
+    && restZero (sym (length-clocks s sh is) i) (r .timers))
     ∙ sym (possible-is (automata (readAutomata s)) r (b .pre .1 .0) (b .pre .1 .1) (b .pre .1 .2))
 
 pub is-possible-spec : {M : Type 1} → statement M

@@ -7,8 +7,8 @@ use borrow.Author.Needs.{needs}
 use denote.Ref.{now}
 use Rattle.automata_files.specs.declared.Shape.{Shape}
 use Rattle.automata_files.specs.Places.{clockAt}
-use Rattle.automata_files.proofs.Readings.{most-clocks}
-use Rattle.automata_files.proofs.Sound.{ticks-known}
+use Rattle.automata_files.proofs.PlacesRead.{most-clocks}
+use Rattle.automata_files.proofs.NamedThings.{ticks-known}
 use Rattle.machines.proofs.Filled.{Filled, filled-none, filled-more, filled-mapped}
 use Rattle.automata.specs.RunOf.{turnFor, capFor}
 use Rattle.automata.proofs.runs.limits_of.Statement.{statement}

@@ -1,6 +1,6 @@
 -- `runs::pass_time` meets its contract: the limits are written, and by them the clocks grow. Assumes nothing.
 use denote.Ref.{now}
-use Rattle.automata.proofs.Clocks.{room-for-limits, has-limits}
+use Rattle.automata.proofs.RunOfClocks.{room-for-limits, has-limits}
 use borrow.Author.Needs.{needs}
 use Rattle.automata.proofs.runs.pass_time.Statement.{statement}
 use Rattle.automata.proofs.runs.pass_time.Tie as tie

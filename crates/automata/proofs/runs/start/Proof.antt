@@ -6,9 +6,9 @@ use lib.IntN.{pos}
 use lib.ListN.{replicate}
 use Rattle.records.specs.Lists.{upto, padded}
 use Rattle.chart_files.proofs.ListLaws.{map-map}
-use Rattle.automata_files.proofs.Readings.{most-automata, initial-are}
+use Rattle.automata_files.proofs.PlacesRead.{most-automata, initial-are}
 use Rattle.machines.specs.Files.{variableIn}
-use Rattle.automata.proofs.InFile.{has-values, variables-in}
+use Rattle.automata.proofs.ValuesRead.{has-values, variables-in}
 use borrow.Author.Needs.{needs}
 use Rattle.automata.proofs.runs.start.Statement.{statement}
 use Rattle.automata.proofs.runs.start.Tie as tie

@@ -4,7 +4,7 @@ use Prim.Native.Nat.{_<_}
 use native.Mathlib.Omega.{arith}
 use denote.Ref.{now}
 use Rattle.automata_files.specs.Places.{resetIn}
-use Rattle.automata.proofs.TableLaws.{in-file, clock-in, reset-at}
+use Rattle.automata.proofs.IndexRecords.{in-file, clock-in, reset-at}
 use Rattle.automata.proofs.steps.clock_of.Statement.{statement}
 use Rattle.automata.proofs.steps.clock_of.Tie as tie
 

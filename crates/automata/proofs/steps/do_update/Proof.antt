@@ -15,8 +15,8 @@ use Rattle.automata_files.specs.Places.{updateIn}
 use Rattle.automata_files.specs.Known.{DeedKnown}
 use Rattle.machines.specs.Worlds.{worldIn}
 use Rattle.automata.specs.Accepted.{InFile}
-use Rattle.automata.proofs.InFile.{has-values, variables-in, nodes-in}
-use Rattle.automata.proofs.TableLaws.{in-file, deed-in, update-at}
+use Rattle.automata.proofs.ValuesRead.{has-values, variables-in, nodes-in}
+use Rattle.automata.proofs.IndexRecords.{in-file, deed-in, update-at}
 use Rattle.automata.proofs.steps.do_update.Statement.{statement}
 use Rattle.automata.proofs.steps.do_update.Tie as tie
 

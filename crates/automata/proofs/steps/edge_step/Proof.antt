@@ -5,11 +5,11 @@ use native.Mathlib.Omega.{arith}
 use borrow.Author.Needs.{needs}
 use denote.Ref.{now}
 use Rattle.model.specs.AutomataTable.{readAutomata}
-use Rattle.automata_files.proofs.Readings.{most-automata}
+use Rattle.automata_files.proofs.PlacesRead.{most-automata}
 use Rattle.machines.specs.Answers.{reasonOf}
 use Rattle.automata.specs.RunOf.{runIn}
 use Rattle.automata.specs.StepOf.{choiceOf, ChoiceIn}
-use Rattle.automata.proofs.StepLaws.{step-fault, step-takes}
+use Rattle.automata.proofs.StepOf.{step-fault, step-takes}
 use Rattle.automata.proofs.steps.edge_step.Statement.{statement}
 use Rattle.automata.proofs.steps.edge_step.Tie as tie
 

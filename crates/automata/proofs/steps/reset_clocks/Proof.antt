@@ -8,11 +8,11 @@ use Rattle.model.specs.Owned.{of}
 use Rattle.model.specs.AutomataTable.{readAutomata}
 use Rattle.model.specs.Automata.{reset}
 use Rattle.automata_files.specs.Places.{firstReset, resetIn}
-use Rattle.automata_files.proofs.Readings.{most-clocks}
+use Rattle.automata_files.proofs.PlacesRead.{most-clocks}
 use Rattle.automata.specs.Index.{ownerIn}
-use Rattle.automata.proofs.Chained.{Walk, walk-from, walk-at, walk-rises, walk-more, walk-done}
-use Rattle.automata.proofs.TableLaws.{few-records, resets-of}
-use Rattle.automata.proofs.StepLaws.{resetOn, reset-one, reset-none}
+use Rattle.automata.proofs.IndexWalk.{Walk, walk-from, walk-at, walk-rises, walk-more, walk-done}
+use Rattle.automata.proofs.IndexRecords.{few-records, resets-of}
+use Rattle.automata.proofs.StepOf.{resetOn, reset-one, reset-none}
 use Rattle.automata.proofs.steps.reset_clocks.Statement.{statement}
 use Rattle.automata.proofs.steps.reset_clocks.Tie as tie
 

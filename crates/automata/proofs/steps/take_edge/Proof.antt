@@ -13,23 +13,23 @@ use Rattle.model.specs.Owned.{of}
 use Rattle.model.specs.Runs.{World, deeds}
 use Rattle.model.specs.AutomataTable.{readAutomata}
 use Rattle.automata_files.specs.Places.{firstUpdate, firstReset, updateIn}
-use Rattle.automata_files.proofs.Readings.{most-edges, edge-is}
+use Rattle.automata_files.proofs.PlacesRead.{most-edges, edge-is}
 use Rattle.machines.specs.Chains.{earliest}
 use Rattle.machines.specs.Answers.{reasonOf}
 use Rattle.machines.specs.Worlds.{worldIn, worldAfter}
-use Rattle.automata.specs.Index.{ownerIn, owned}
+use Rattle.automata.specs.Index.{ownerIn, ownedBy}
 use Rattle.automata.specs.RunOf.{runIn}
-use Rattle.automata.proofs.Chained.{Walk, walk-from, walk-at, walk-to, walk-ends, walk-done, upTo, Ahead, ahead-first, ahead-second, rises}
-use Rattle.automata.proofs.Kept.{length-reset}
-use Rattle.automata.proofs.TableLaws.{few-records, updates-of}
-use Rattle.automata.proofs.StepLaws.{doOn, do-fault, do-more, do-none, take-fault, take-done}
+use Rattle.automata.proofs.IndexWalk.{Walk, walk-from, walk-at, walk-to, walk-ends, walk-done, upTo, Ahead, ahead-first, ahead-second, rises}
+use Rattle.automata.proofs.TurnOfKept.{length-reset}
+use Rattle.automata.proofs.IndexRecords.{few-records, updates-of}
+use Rattle.automata.proofs.StepOf.{doOn, do-fault, do-more, do-none, take-fault, take-done}
 use Rattle.automata.proofs.steps.take_edge.Statement.{statement}
 use Rattle.automata.proofs.steps.take_edge.Tie as tie
 
 abbrev Inv-loop : tie.InvT-loop
 Inv-loop s shape first next automaton locations clocks vars₀ events e reset raised₀ n₀ vars raised n =
     Walk (doOn (readAutomata s .nodes) (readAutomata s .variables) (λ m. updateIn s m .1)) (λ q c. deeds (readAutomata s .nodes) (readAutomata s .variables) (of e (readAutomata s .updates)) (worldIn vars₀ events q c)) s (firstUpdate shape) (firstReset shape) e (worldIn vars raised) (upTo (firstReset shape) n)
-    × Ahead (owned s e) (firstReset shape) (firstReset shape + shape .resets) n
+    × Ahead (ownedBy s e) (firstReset shape) (firstReset shape + shape .resets) n
 
 abbrev μ-loop : tie.MeasureT-loop
 μ-loop s shape first next automaton locations clocks vars₀ events e reset raised₀ n₀ vars raised n = 65536 - n
@@ -45,11 +45,11 @@ few-updates c = omega (arith, small c)
 
 -- the place in the chain as the updates see it
 seen : (c : tie.Start Inv-loop μ-loop) (n : ℕ) → let x = c .args in
-    (h : Ahead (owned (now (x .s)) (x .e)) (firstReset (x .shape)) (firstReset (x .shape) + x .shape .resets) n) →
-    upTo (firstReset (x .shape)) n ≡ earliest (owned (now (x .s)) (x .e)) (h .since) (firstReset (x .shape) - h .since)
+    (h : Ahead (ownedBy (now (x .s)) (x .e)) (firstReset (x .shape)) (firstReset (x .shape) + x .shape .resets) n) →
+    upTo (firstReset (x .shape)) n ≡ earliest (ownedBy (now (x .s)) (x .e)) (h .since) (firstReset (x .shape) - h .since)
 seen c n h =
     let x = c .args in
-    ahead-first (owned (now (x .s)) (x .e)) (firstReset (x .shape)) (firstReset (x .shape) + x .shape .resets) (omega arith) (omega (arith, small c)) h
+    ahead-first (ownedBy (now (x .s)) (x .e)) (firstReset (x .shape)) (firstReset (x .shape) + x .shape .resets) (omega arith) (omega (arith, small c)) h
 
 first-reset-requires : tie.Need-first-reset-requires Inv-loop μ-loop
 first-reset-requires c κs = small (c .before .before)
@@ -70,7 +70,7 @@ loop-holds : tie.Need-loop-holds Inv-loop μ-loop
 loop-holds c =
     let a = c .before .before .before .before in
     let x = a .args in
-    let h : Ahead (owned (now (x .s)) (x .e)) (firstReset (x .shape)) (firstReset (x .shape) + x .shape .resets) (getD (now (x .first)) (512 + x .e) 0)
+    let h : Ahead (ownedBy (now (x .s)) (x .e)) (firstReset (x .shape)) (firstReset (x .shape) + x .shape .resets) (getD (now (x .first)) (512 + x .e) 0)
     = record { since = firstUpdate (x .shape); early = omega arith; at = a .pre .1 .effects .first-of (x .e) (few-edges a) } in (
       walk-from (few-updates a) (worldIn (now (x .vars)) (x .events)) _ (seen a (getD (now (x .first)) (512 + x .e) 0) h)
           (λ i q c. deeds (readAutomata (now (x .s)) .nodes) (readAutomata (now (x .s)) .variables) (updates-of (now (x .s)) (x .shape) (a .pre .0 .shape) (x .e) i) (worldIn (now (x .vars)) (x .events) q c)),
@@ -113,13 +113,13 @@ place c = walk-at (few-updates (start c)) (walk c) (some-record c)
 next-is : (c : tie.In-loop Inv-loop μ-loop) →
     let x = start c .args in
     let n = c .before .loop .n in
-    getD (now (x .next)) n 0 ≡ earliest (owned (now (x .s)) (x .e)) (n + 1) (firstReset (x .shape) + x .shape .resets - (n + 1))
+    getD (now (x .next)) n 0 ≡ earliest (ownedBy (now (x .s)) (x .e)) (n + 1) (firstReset (x .shape) + x .shape .resets - (n + 1))
 next-is c =
     let a = start c in
     let x = a .args in
     let n = c .before .loop .n in
     a .pre .1 .effects .next-of n (place c .0) (omega (arith, here c))
-    ∙ ap (λ k. earliest (owned (now (x .s)) k) (n + 1) (firstReset (x .shape) + x .shape .resets - (n + 1))) (place c .2)
+    ∙ ap (λ k. earliest (ownedBy (now (x .s)) k) (n + 1) (firstReset (x .shape) + x .shape .resets - (n + 1))) (place c .2)
 
 do-update-requires : tie.Need-do-update-requires Inv-loop μ-loop
 do-update-requires c κs = let p = place (c .before) in (start (c .before) .pre .0, p .0, p .1)
@@ -168,7 +168,7 @@ loop-less c =
     omega (
       arith,
       here i,
-      rises (owned (now (x .s)) (x .e)) (firstReset (x .shape) + x .shape .resets) (omega (arith, small (start i))) n (getD (now (x .next)) n 0) (omega (arith, here i)) (next-is i),
+      rises (ownedBy (now (x .s)) (x .e)) (firstReset (x .shape) + x .shape .resets) (omega (arith, small (start i))) n (getD (now (x .next)) n 0) (omega (arith, here i)) (next-is i),
     )
 
 loop-again : tie.Need-loop-again Inv-loop μ-loop
@@ -179,7 +179,7 @@ loop-again c =
     let x = a .args in
     let l = i .before .loop in
     let g = c .before .before .x .given in
-    let h : Ahead (owned (now (x .s)) (x .e)) (firstReset (x .shape)) (firstReset (x .shape) + x .shape .resets) (getD (now (x .next)) (l .n) 0)
+    let h : Ahead (ownedBy (now (x .s)) (x .e)) (firstReset (x .shape)) (firstReset (x .shape) + x .shape .resets) (getD (now (x .next)) (l .n) 0)
     = record { since = l .n + 1; early = omega (arith, here i); at = next-is i } in (
       walk-to (few-updates a) (walk i) (some-record i) _ (seen a (getD (now (x .next)) (l .n) 0) h) (worldIn (j .do-update .last .1 .1 .1 .0) (g .0 .0))
           (do-more (readAutomata (now (x .s)) .nodes) (readAutomata (now (x .s)) .variables) (λ m. updateIn (now (x .s)) m .1) (l .n) (worldIn (l .vars) (l .raised)) (worldIn (j .do-update .last .1 .1 .1 .0) (g .0 .0))
@@ -199,7 +199,7 @@ reset-clocks-requires c κs =
       a .pre .0,
       λ n h k. a .pre .1 .effects .next-of n (omega arith) k,
       a .pre .1 .places,
-      ahead-second (owned (now (x .s)) (x .e)) (firstReset (x .shape)) (firstReset (x .shape) + x .shape .resets) (omega arith) (omega (arith, small a)) (c .before .before .loop .inv .1) (done (c .before)),
+      ahead-second (ownedBy (now (x .s)) (x .e)) (firstReset (x .shape)) (firstReset (x .shape) + x .shape .resets) (omega arith) (omega (arith, small a)) (c .before .before .loop .inv .1) (done (c .before)),
     )
 
 target-of-requires : tie.Need-target-of-requires Inv-loop μ-loop

@@ -6,10 +6,10 @@ use Rattle.records.specs.Refusal.{val, _>>=_}
 use Rattle.model.specs.Runs.{moved}
 use Rattle.model.specs.AutomataTable.{readAutomata}
 use Rattle.model.specs.Automata.{automata}
-use Rattle.automata_files.proofs.Readings.{length-initial}
+use Rattle.automata_files.proofs.PlacesRead.{length-initial}
 use Rattle.automata.specs.RunOf.{runIn}
-use Rattle.automata.specs.StepOf.{wentOf}
-use Rattle.machines.proofs.Turning.{at-part}
+use Rattle.automata.specs.StepOf.{steppedOf}
+use Rattle.machines.proofs.Turns.{at-part}
 use borrow.Author.Needs.{needs}
 use Rattle.automata.proofs.turns.automaton_turn.Statement.{statement}
 use Rattle.automata.proofs.turns.automaton_turn.Tie as tie
@@ -42,7 +42,7 @@ returns c = λ k.
     sym
     (at-part (automata (readAutomata (now (x .s)))) (x .shape .automata) (length-initial (now (x .s)) (x .shape) (b .pre .0 .accepted .shape)) r (b .pre .1 .1)
     ∙ ap (λ o. o >>= λ z. val (z .0, moved (z .1)))
-    (sym (y .ensures .0 p k) ∙ ap (λ w. wentOf w (y .last .1 .1 .1 .1 .1 .0) (y .last .1 .1 .1 .1 .1 .1 .0) (y .last .1 .1 .1 .1 .1 .1 .1 .0) p k) (c .before .w .given .1)))
+    (sym (y .ensures .0 p k) ∙ ap (λ w. steppedOf w (y .last .1 .1 .1 .1 .1 .0) (y .last .1 .1 .1 .1 .1 .1 .0) (y .last .1 .1 .1 .1 .1 .1 .1 .0) p k) (c .before .w .given .1)))
 
 returns-2 : tie.Need-returns-2
 returns-2 c = λ k.
@@ -54,7 +54,7 @@ returns-2 c = λ k.
     sym
     (at-part (automata (readAutomata (now (x .s)))) (x .shape .automata) (length-initial (now (x .s)) (x .shape) (b .pre .0 .accepted .shape)) r (b .pre .1 .1)
     ∙ ap (λ o. o >>= λ z. val (z .0, moved (z .1)))
-    (sym (y .ensures .0 p k) ∙ ap (λ w. wentOf w (y .last .1 .1 .1 .1 .1 .0) (y .last .1 .1 .1 .1 .1 .1 .0) (y .last .1 .1 .1 .1 .1 .1 .1 .0) p k) (c .before .e .given .1)))
+    (sym (y .ensures .0 p k) ∙ ap (λ w. steppedOf w (y .last .1 .1 .1 .1 .1 .0) (y .last .1 .1 .1 .1 .1 .1 .0) (y .last .1 .1 .1 .1 .1 .1 .1 .0) p k) (c .before .e .given .1)))
 
 pub automaton-turn-spec : {M : Type 1} → statement M
 automaton-turn-spec = tie.close (tie.spec sub-edge-step cast-edge-step edge-step-requires enum-known-w enum-known-e add-position returns returns-2)

@@ -9,8 +9,8 @@ use Rattle.model.specs.Automata.{automata}
 use Rattle.machines.specs.Checks.{beforeOf}
 use Rattle.automata.specs.RunOf.{runIn}
 use Rattle.automata.specs.TurnOf.{Ready}
-use Rattle.machines.proofs.Turning.{turn-refused, turn-fine}
-use Rattle.automata.proofs.Turning.{ready}
+use Rattle.machines.proofs.Turns.{turn-refused, turn-fine}
+use Rattle.automata.proofs.TurnOf.{ready}
 use borrow.Author.Needs.{needs}
 use Rattle.automata.proofs.turns.turn_in_place.Statement.{statement}
 use Rattle.automata.proofs.turns.turn_in_place.Tie as tie

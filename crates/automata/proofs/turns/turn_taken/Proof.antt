@@ -6,10 +6,10 @@ use Rattle.records.specs.Refusal.{val}
 use Rattle.model.specs.Runs.{time}
 use Rattle.model.specs.AutomataTable.{readAutomata}
 use Rattle.model.specs.Automata.{automata}
-use Rattle.automata_files.proofs.Readings.{length-initial}
+use Rattle.automata_files.proofs.PlacesRead.{length-initial}
 use Rattle.automata.specs.RunOf.{runIn}
-use Rattle.automata.proofs.Clocks.{grown-are}
-use Rattle.machines.proofs.Turning.{at-time}
+use Rattle.automata.proofs.RunOfClocks.{grown-are}
+use Rattle.machines.proofs.Turns.{at-time}
 use borrow.Author.Needs.{needs}
 use Rattle.automata.proofs.turns.turn_taken.Statement.{statement}
 use Rattle.automata.proofs.turns.turn_taken.Tie as tie

@@ -18,15 +18,15 @@ byte-at-requires-2 c κs = search needs
 byte-at-requires-3 : tie.Need-byte-at-requires-3
 byte-at-requires-3 c κs = search needs
 
-cause-in-code-requires : tie.Need-cause-in-code-requires
-cause-in-code-requires c κs = search needs
+literal-trigger-in-code-requires : tie.Need-literal-trigger-in-code-requires
+literal-trigger-in-code-requires c κs = search needs
 
 returns : tie.Need-returns
 returns c =
     let p = c .before .before .before .byte-at .ensures in
     let k = c .before .before .byte-at2 .ensures in
     let e = c .before .byte-at3 .ensures in
-    λ i. ((leb 1 (p i) && leb (p i) 2) && leb (k i) 2) && (c .cause-in-code .ensures ∙ (λ j. caseOf (k j) ((1, isEvent (e j)) ∷ []) true)) i
+    λ i. ((leb 1 (p i) && leb (p i) 2) && leb (k i) 2) && (c .literal-trigger-in-code .ensures ∙ (λ j. caseOf (k j) ((1, isEvent (e j)) ∷ []) true)) i
 
 pub literal-in-code-spec : {M : Type 1} → statement M
 literal-in-code-spec =
@@ -35,5 +35,5 @@ literal-in-code-spec =
     byte-at-requires
     byte-at-requires-2
     byte-at-requires-3
-    cause-in-code-requires
+    literal-trigger-in-code-requires
     returns)

@@ -3,7 +3,7 @@ use mathlib.Core.Path.{ap, _∙_}
 use mathlib.Core.Bool.{_&&_}
 use lib.Dec.{ltb}
 use Rattle.model.specs.ChartFile.{guardNamed}
-use Rattle.model.specs.AutomataFile.{causeNamed}
+use Rattle.model.specs.AutomataFile.{literalTriggerNamed}
 use borrow.Author.Needs.{needs}
 use Rattle.automata_files.proofs.names.literal_named.Statement.{statement}
 use Rattle.automata_files.proofs.names.literal_named.Tie as tie
@@ -11,11 +11,11 @@ use Rattle.automata_files.proofs.names.literal_named.Tie as tie
 literal-edge-requires : tie.Need-literal-edge-requires
 literal-edge-requires c κs = search needs
 
-cause-of-requires : tie.Need-cause-of-requires
-cause-of-requires c κs = search needs
+literal-trigger-of-requires : tie.Need-literal-trigger-of-requires
+literal-trigger-of-requires c κs = search needs
 
-cause-named-requires : tie.Need-cause-named-requires
-cause-named-requires c κs = search needs
+literal-trigger-named-requires : tie.Need-literal-trigger-named-requires
+literal-trigger-named-requires c κs = search needs
 
 guard-of-requires : tie.Need-guard-of-requires
 guard-of-requires c κs = search needs
@@ -28,7 +28,7 @@ returns c =
     let sh = c .before .before .before .before .before .before .before .args .shape in
     λ i.
     ltb (c .before .before .before .before .before .literal-edge .ensures i) (sh .edges)
-    && (c .before .before .cause-named .ensures ∙ ap (causeNamed (sh .clocks)) (c .before .before .before .cause-of .ensures)) i
+    && (c .before .before .literal-trigger-named .ensures ∙ ap (literalTriggerNamed (sh .clocks)) (c .before .before .before .literal-trigger-of .ensures)) i
     && (c .guard-named .ensures ∙ ap (guardNamed (sh .nodes)) (c .before .guard-of .ensures)) i
 
 pub literal-named-spec : {M : Type 1} → statement M
@@ -36,8 +36,8 @@ literal-named-spec =
     tie.close
     (tie.spec
     literal-edge-requires
-    cause-of-requires
-    cause-named-requires
+    literal-trigger-of-requires
+    literal-trigger-named-requires
     guard-of-requires
     guard-named-requires
     returns)

@@ -2,10 +2,11 @@
 use mathlib.Core.Path.{sym, ap, _∙_}
 use mathlib.Core.Bool.{_&&_}
 use Rattle.expressions.specs.Nodes.{nodeAt}
-use Rattle.expressions.specs.Sorts.{nodesNamed, operandsFit, saysNamed}
+use Rattle.expressions.specs.Sorts.{nodesNamed, operandsFit}
+use Rattle.expressions.specs.Verdicts.{saysNamed}
 use Rattle.expressions.proofs.Verdicts.{named-said}
 use Rattle.automata_files.specs.Places.{nodePart}
-use Rattle.automata_files.proofs.TableLaws.{named-is}
+use Rattle.automata_files.proofs.StructureTests.{named-is}
 use borrow.Author.Needs.{needs}
 use Rattle.automata_files.proofs.names.table_named.Statement.{statement}
 use Rattle.automata_files.proofs.names.table_named.Tie as tie

@@ -6,13 +6,14 @@ use native.Mathlib.Omega.{arith}
 use denote.Ref.{now}
 use lib.ListN.{length, replicate, length-replicate}
 use Rattle.expressions.specs.Nodes.{nodeAt}
-use Rattle.expressions.specs.Sorts.{nodesNamed, operandsFit, saysFit}
+use Rattle.expressions.specs.Sorts.{nodesNamed, operandsFit}
+use Rattle.expressions.specs.Verdicts.{saysFit}
 use Rattle.expressions.specs.Uses.{allOperands}
 use Rattle.expressions.proofs.Uses.{adds-length}
 use Rattle.expressions.proofs.Verdicts.{fit-said}
 use Rattle.automata_files.specs.Places.{nodePart}
-use Rattle.automata_files.proofs.Readings.{most-nodes}
-use Rattle.automata_files.proofs.TableLaws.{nodes-is, used-is}
+use Rattle.automata_files.proofs.PlacesRead.{most-nodes}
+use Rattle.automata_files.proofs.StructureTests.{nodes-is, used-is}
 use borrow.Author.Needs.{needs}
 use Rattle.automata_files.proofs.nodes.table_nodes_fit.Statement.{statement}
 use Rattle.automata_files.proofs.nodes.table_nodes_fit.Tie as tie

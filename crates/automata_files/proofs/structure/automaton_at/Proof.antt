@@ -5,7 +5,7 @@ use borrow.Author.Needs.{needs}
 use denote.Ref.{now}
 use lib.ListN.{List·getD-eq-default}
 use Rattle.model.specs.AutomataTable.{readAutomata}
-use Rattle.automata_files.proofs.Readings.{home-is, length-homes}
+use Rattle.automata_files.proofs.PlacesRead.{home-is, length-homes}
 use Rattle.automata_files.proofs.structure.automaton_at.Statement.{statement}
 use Rattle.automata_files.proofs.structure.automaton_at.Tie as tie
 

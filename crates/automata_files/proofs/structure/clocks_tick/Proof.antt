@@ -6,7 +6,7 @@ use borrow.Author.Tests.{not-true, not-false}
 use denote.Ref.{now}
 use Rattle.expressions.proofs.Loops.{Passed, passed-none, passed-more, passed-all, passed-not}
 use Rattle.automata_files.specs.Structure.{clockTicks}
-use Rattle.automata_files.proofs.TableLaws.{clocks-is}
+use Rattle.automata_files.proofs.StructureTests.{clocks-is}
 use Rattle.automata_files.proofs.structure.clocks_tick.Statement.{statement}
 use Rattle.automata_files.proofs.structure.clocks_tick.Tie as tie
 

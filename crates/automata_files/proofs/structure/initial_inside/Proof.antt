@@ -2,8 +2,8 @@
 use mathlib.Core.Path.{ap, _∙_}
 use denote.Ref.{now}
 use lib.Dec.{eqb}
+use Rattle.model.specs.Owned.{home}
 use Rattle.model.specs.AutomataTable.{readAutomata}
-use Rattle.model.specs.AutomataFile.{homeOf}
 use borrow.Author.Needs.{needs}
 use Rattle.automata_files.proofs.structure.initial_inside.Statement.{statement}
 use Rattle.automata_files.proofs.structure.initial_inside.Tie as tie
@@ -20,7 +20,7 @@ cast-home c = search needs
 returns : tie.Need-returns
 returns c =
     let a = c .before .before .before .args in
-    ap (λ h. eqb h (a .a)) (c .automaton-at .ensures ∙ ap (homeOf (readAutomata (now (a .s)))) (c .before .initial-of .ensures))
+    ap (λ h. eqb h (a .a)) (c .automaton-at .ensures ∙ ap (home (readAutomata (now (a .s)) .homes)) (c .before .initial-of .ensures))
 
 pub initial-inside-spec : {M : Type 1} → statement M
 initial-inside-spec =

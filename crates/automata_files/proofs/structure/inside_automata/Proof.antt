@@ -2,7 +2,7 @@
 use mathlib.Core.Path.{sym, _∙_}
 use mathlib.Core.Bool.{_&&_}
 use denote.Ref.{now}
-use Rattle.automata_files.proofs.TableLaws.{inside-is}
+use Rattle.automata_files.proofs.StructureTests.{inside-is}
 use borrow.Author.Needs.{needs}
 use Rattle.automata_files.proofs.structure.inside_automata.Statement.{statement}
 use Rattle.automata_files.proofs.structure.inside_automata.Tie as tie

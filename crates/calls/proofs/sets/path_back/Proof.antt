@@ -7,7 +7,7 @@ use Rattle.model.specs.Outcome.{settled}
 use Rattle.model.specs.ChartSet.{readCharts}
 use Rattle.model.specs.PathBack.{walkStart, ledBack, rowsWritten}
 use Rattle.charts.specs.Accepted.{Accepted}
-use Rattle.charts.proofs.Checking.{accepted-of, refused-of}
+use Rattle.charts.proofs.AcceptedByCheck.{accepted-of, refused-of}
 use Rattle.calls.proofs.sets.path_back.Statement.{statement}
 use Rattle.calls.proofs.sets.path_back.Tie as tie
 

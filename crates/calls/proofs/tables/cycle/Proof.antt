@@ -6,13 +6,13 @@ use denote.Triple.Table.{entered, cited}
 use Rattle.model.specs.Calls.{automataTables}
 use Rattle.model.specs.Runs.{cycle}
 use Rattle.machines.specs.Answers.{endingOf}
-use Rattle.machines.proofs.AnswerTypes.{ending-type}
+use Rattle.machines.proofs.LentAnswers.{ending-type}
 use Rattle.automata_files.proofs.check as check
 use Rattle.automata_files.proofs.check.Symbol as check-def
 use Rattle.automata_files.proofs.check.Symbol.{name as #check}
 use Rattle.automata_files.proofs.check.Met as check-thm
 use Rattle.automata.specs.RunOf.{runOf}
-use Rattle.automata.proofs.Types.{run-type, shape-type}
+use Rattle.automata.proofs.LentTypes.{run-type, shape-type}
 use Rattle.automata.proofs.lent.cycle as step
 use Rattle.automata.proofs.lent.cycle.Symbol as step-def
 use Rattle.automata.proofs.lent.cycle.Symbol.{name as #step}

@@ -3,7 +3,7 @@ use mathlib.Core.Path.{_≡_}
 use Prim.Native.Nat.{_+_, _-_, _*_}
 use native.Mathlib.Omega.{arith}
 use lib.ListN.{take, drop}
-use Rattle.chart_files.proofs.Readings.{inside}
+use Rattle.chart_files.proofs.PlacesRead.{inside}
 use borrow.Author.Needs.{needs}
 use Rattle.chart_files.proofs.fields.node_records.Statement.{statement}
 use Rattle.chart_files.proofs.fields.node_records.Tie as tie

@@ -2,10 +2,11 @@
 use mathlib.Core.Path.{sym, ap, _∙_}
 use mathlib.Core.Bool.{_&&_}
 use Rattle.expressions.specs.Nodes.{nodeAt}
-use Rattle.expressions.specs.Sorts.{nodesNamed, operandsFit, saysNamed}
+use Rattle.expressions.specs.Sorts.{nodesNamed, operandsFit}
+use Rattle.expressions.specs.Verdicts.{saysNamed}
 use Rattle.expressions.proofs.Verdicts.{named-said}
 use Rattle.chart_files.specs.Places.{nodePart}
-use Rattle.chart_files.proofs.NameLaws.{named-is}
+use Rattle.chart_files.proofs.NamesFramed.{named-is}
 use borrow.Author.Needs.{needs}
 use Rattle.chart_files.proofs.names.all_named.Statement.{statement}
 use Rattle.chart_files.proofs.names.all_named.Tie as tie

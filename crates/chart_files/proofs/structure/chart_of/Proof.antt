@@ -5,7 +5,7 @@ use borrow.Author.Needs.{needs}
 use denote.Ref.{now}
 use lib.ListN.{List·getD-eq-default}
 use Rattle.model.specs.ChartSet.{readCharts}
-use Rattle.chart_files.proofs.Readings.{home-is, length-homes}
+use Rattle.chart_files.proofs.PlacesRead.{home-is, length-homes}
 use Rattle.chart_files.proofs.structure.chart_of.Statement.{statement}
 use Rattle.chart_files.proofs.structure.chart_of.Tie as tie
 

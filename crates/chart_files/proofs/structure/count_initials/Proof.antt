@@ -8,7 +8,7 @@ use Rattle.expressions.specs.Uses.{addUse, addUses}
 use Rattle.records.specs.Lists.{upto}
 use Rattle.records.specs.Bytes.{two}
 use Rattle.chart_files.proofs.ListLaws.{gather-singles}
-use Rattle.chart_files.proofs.NodeUses.{Gathered, gathered-none, gathered-more, gathered-all}
+use Rattle.chart_files.proofs.Used.{Gathered, gathered-none, gathered-more, gathered-all}
 use Rattle.chart_files.proofs.structure.count_initials.Statement.{statement}
 use Rattle.chart_files.proofs.structure.count_initials.Tie as tie
 

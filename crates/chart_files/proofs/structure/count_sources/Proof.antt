@@ -8,7 +8,7 @@ use Rattle.expressions.specs.Uses.{addUse, addUses}
 use Rattle.records.specs.Lists.{upto}
 use Rattle.chart_files.specs.Structure.{sourceAt}
 use Rattle.chart_files.proofs.ListLaws.{gather-singles}
-use Rattle.chart_files.proofs.NodeUses.{Gathered, gathered-none, gathered-more, gathered-all}
+use Rattle.chart_files.proofs.Used.{Gathered, gathered-none, gathered-more, gathered-all}
 use Rattle.chart_files.proofs.structure.count_sources.Statement.{statement}
 use Rattle.chart_files.proofs.structure.count_sources.Tie as tie
 

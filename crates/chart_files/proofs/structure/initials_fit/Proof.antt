@@ -4,8 +4,8 @@ use mathlib.Core.Bool.{_&&_}
 use borrow.Author.Needs.{needs}
 use denote.Ref.{now}
 use Rattle.records.specs.Lists.{all, upto}
-use Rattle.chart_files.specs.Structure.{apart, idle, leftOnce}
-use Rattle.chart_files.proofs.Structures.{initials-is}
+use Rattle.chart_files.specs.Structure.{transitionFitsInitials, actionFitsInitials, leftOnce}
+use Rattle.chart_files.proofs.StructureFramed.{initials-is}
 use Rattle.chart_files.proofs.structure.initials_fit.Statement.{statement}
 use Rattle.chart_files.proofs.structure.initials_fit.Tie as tie
 
@@ -27,17 +27,17 @@ slice-aggregate-all-left-once c = search needs
 all-left-once-requires : tie.Need-all-left-once-requires
 all-left-once-requires c κs = search needs
 
-slice-aggregate-all-apart : tie.Need-slice-aggregate-all-apart
-slice-aggregate-all-apart c = search needs
+slice-aggregate-transitions-fit-initials : tie.Need-slice-aggregate-transitions-fit-initials
+slice-aggregate-transitions-fit-initials c = search needs
 
-all-apart-requires : tie.Need-all-apart-requires
-all-apart-requires c κs = search needs
+transitions-fit-initials-requires : tie.Need-transitions-fit-initials-requires
+transitions-fit-initials-requires c κs = search needs
 
-slice-aggregate-all-idle : tie.Need-slice-aggregate-all-idle
-slice-aggregate-all-idle c = search needs
+slice-aggregate-actions-fit-initials : tie.Need-slice-aggregate-actions-fit-initials
+slice-aggregate-actions-fit-initials c = search needs
 
-all-idle-requires : tie.Need-all-idle-requires
-all-idle-requires c κs = search needs
+actions-fit-initials-requires : tie.Need-actions-fit-initials-requires
+actions-fit-initials-requires c κs = search needs
 
 returns : tie.Need-returns
 returns c =
@@ -47,8 +47,8 @@ returns c =
     let initial = c .before .before .before .before .before .before .before .before .before .before .count-initials .ensures in
     let left = c .before .before .before .before .before .before .before .count-sources .ensures in
     (λ j. (c .before .before .before .before .all-left-once .ensures ∙ ap (λ l. all (leftOnce s sh l) (upto (sh .charts))) left) j
-    && (c .before .before .all-apart .ensures ∙ ap (λ l. all (apart s sh l) (upto (sh .transitions))) initial) j
-    && (c .all-idle .ensures ∙ ap (λ l. all (idle s sh l) (upto (sh .actions))) initial) j)
+    && (c .before .before .transitions-fit-initials .ensures ∙ ap (λ l. all (transitionFitsInitials s sh l) (upto (sh .transitions))) initial) j
+    && (c .actions-fit-initials .ensures ∙ ap (λ l. all (actionFitsInitials s sh l) (upto (sh .actions))) initial) j)
     ∙ sym (initials-is s sh (b .pre .0) (b .pre .1))
 
 pub initials-fit-spec : {M : Type 1} → statement M
@@ -61,8 +61,8 @@ initials-fit-spec =
     count-sources-requires
     slice-aggregate-all-left-once
     all-left-once-requires
-    slice-aggregate-all-apart
-    all-apart-requires
-    slice-aggregate-all-idle
-    all-idle-requires
+    slice-aggregate-transitions-fit-initials
+    transitions-fit-initials-requires
+    slice-aggregate-actions-fit-initials
+    actions-fit-initials-requires
     returns)

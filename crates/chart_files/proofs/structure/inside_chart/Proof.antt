@@ -3,8 +3,8 @@ use mathlib.Core.Path.{ap, _∙_}
 use borrow.Author.Needs.{needs}
 use denote.Ref.{now}
 use lib.Dec.{eqb}
+use Rattle.model.specs.Owned.{home}
 use Rattle.model.specs.ChartSet.{readCharts}
-use Rattle.model.specs.ChartFile.{home}
 use Rattle.chart_files.proofs.structure.inside_chart.Statement.{statement}
 use Rattle.chart_files.proofs.structure.inside_chart.Tie as tie
 
@@ -25,8 +25,8 @@ returns c =
     let s = now (c .before .before .before .before .before .args .s) in
     λ j.
     eqb
-    ((c .before .before .chart-of .ensures ∙ ap (home (readCharts s)) (c .before .before .before .source-of .ensures)) j)
-    ((c .chart-of2 .ensures ∙ ap (home (readCharts s)) (c .before .target-of .ensures)) j)
+    ((c .before .before .chart-of .ensures ∙ ap (home (readCharts s .homes)) (c .before .before .before .source-of .ensures)) j)
+    ((c .chart-of2 .ensures ∙ ap (home (readCharts s .homes)) (c .before .target-of .ensures)) j)
 
 pub inside-chart-spec : {M : Type 1} → statement M
 inside-chart-spec = tie.close (tie.spec source-of-requires chart-of-requires target-of-requires chart-of-requires-2 returns)

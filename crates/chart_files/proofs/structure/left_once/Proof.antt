@@ -5,8 +5,8 @@ use borrow.Author.Needs.{needs}
 use denote.Ref.{now}
 use lib.Dec.{eqb}
 use lib.ListN.{getD}
+use Rattle.model.specs.Owned.{home}
 use Rattle.model.specs.ChartSet.{readCharts}
-use Rattle.model.specs.ChartFile.{home}
 use Rattle.chart_files.proofs.structure.left_once.Statement.{statement}
 use Rattle.chart_files.proofs.structure.left_once.Tie as tie
 
@@ -29,7 +29,7 @@ returns : tie.Need-returns
 returns c =
     let a = c .before .before .before .before .before .args in
     let state = c .before .before .initial-of .ensures in
-    let own = c .before .chart-of .ensures ∙ ap (home (readCharts (now (a .s)))) state in
+    let own = c .before .chart-of .ensures ∙ ap (home (readCharts (now (a .s)) .homes)) state in
     let left = c .byte-at .ensures ∙ ap (λ n. getD (now (a .left)) n 0) state in
     λ j. eqb (own j) (a .c) && eqb (left j) 1
 

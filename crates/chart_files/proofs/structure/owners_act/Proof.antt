@@ -6,11 +6,11 @@ use native.Mathlib.Omega.{arith}
 use borrow.Author.Needs.{needs}
 use denote.Ref.{now}
 use Rattle.records.specs.Lists.{upto}
-use Rattle.chart_files.specs.Tallies.{within}
+use Rattle.chart_files.specs.Tallies.{noneAbove}
 use Rattle.chart_files.specs.Structure.{ownerAt}
-use Rattle.chart_files.proofs.Readings.{most-states, most-transitions}
-use Rattle.chart_files.proofs.NameLaws.{actions-known}
-use Rattle.chart_files.proofs.Structures.{owners-is}
+use Rattle.chart_files.proofs.PlacesRead.{most-states, most-transitions}
+use Rattle.chart_files.proofs.NamesFramed.{actions-known}
+use Rattle.chart_files.proofs.StructureFramed.{owners-is}
 use Rattle.chart_files.proofs.Tallies.{take-zeros, length-zeros}
 use Rattle.chart_files.proofs.structure.owners_act.Statement.{statement}
 use Rattle.chart_files.proofs.structure.owners_act.Tie as tie
@@ -44,7 +44,7 @@ returns c =
     let s = now (b .args .s) in
     let sh = b .args .shape in
     c .before .owners-within .ensures .0
-    ∙ ap (λ l. within 8 l (map (ownerAt s sh) (upto (sh .actions))))
+    ∙ ap (λ l. noneAbove 8 l (map (ownerAt s sh) (upto (sh .actions))))
     (take-zeros (sh .states + sh .transitions) 384 (omega (arith, most-states s sh (b .pre .0), most-transitions s sh (b .pre .0))))
     ∙ sym (owners-is s sh (b .pre .0) (b .pre .1) (actions-known s sh (b .pre .0) (b .pre .2)))
 

@@ -6,11 +6,11 @@ use native.Mathlib.Omega.{arith}
 use borrow.Author.Needs.{needs}
 use denote.Ref.{now}
 use Rattle.records.specs.Lists.{upto}
-use Rattle.chart_files.specs.Tallies.{within}
+use Rattle.chart_files.specs.Tallies.{noneAbove}
 use Rattle.chart_files.proofs.InCode.{priority-in-code}
 use Rattle.chart_files.specs.Structure.{pairAt}
-use Rattle.chart_files.proofs.Readings.{most-states}
-use Rattle.chart_files.proofs.Structures.{priorities-is}
+use Rattle.chart_files.proofs.PlacesRead.{most-states}
+use Rattle.chart_files.proofs.StructureFramed.{priorities-is}
 use Rattle.chart_files.proofs.Tallies.{take-zeros, length-zeros}
 use Rattle.chart_files.proofs.structure.priorities_differ.Statement.{statement}
 use Rattle.chart_files.proofs.structure.priorities_differ.Tie as tie
@@ -35,7 +35,7 @@ returns c =
     let b = c .before .before .before .before .before in
     let s = now (b .args .s) in
     c .before .pairs-within .ensures .0
-    ∙ ap (λ l. within 1 l (map (pairAt s (b .args .shape)) (upto (b .args .shape .transitions)))) (take-zeros (16 * b .args .shape .states) 2048 (omega (arith, most-states s (b .args .shape) (b .pre .0))))
+    ∙ ap (λ l. noneAbove 1 l (map (pairAt s (b .args .shape)) (upto (b .args .shape .transitions)))) (take-zeros (16 * b .args .shape .states) 2048 (omega (arith, most-states s (b .args .shape) (b .pre .0))))
     ∙ sym (priorities-is s (b .args .shape) (b .pre .0) (priority-in-code s (b .args .shape) (b .pre .0) (b .pre .1)))
 
 pub priorities-differ-spec : {M : Type 1} → statement M

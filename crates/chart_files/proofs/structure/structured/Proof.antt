@@ -9,8 +9,8 @@ use Rattle.records.specs.Lists.{all, upto}
 use Rattle.expressions.proofs.Loops.{and-assoc}
 use Rattle.model.specs.ChartSet.{readCharts}
 use Rattle.model.specs.ChartFile.{insideCharts, initialFits, prioritiesDiffer, atMostEight}
-use Rattle.chart_files.proofs.NameLaws.{initials-known}
-use Rattle.chart_files.proofs.Readings.{length-initial}
+use Rattle.chart_files.proofs.NamesFramed.{initials-known}
+use Rattle.chart_files.proofs.PlacesRead.{length-initial}
 use Rattle.chart_files.proofs.structure.structured.Statement.{statement}
 use Rattle.chart_files.proofs.structure.structured.Tie as tie
 

@@ -12,7 +12,7 @@ use Rattle.chart_files.specs.declared.Shape.{Shape}
 use Rattle.chart_files.specs.Shape.{IsShape}
 use Rattle.chart_files.specs.Places.{transitionAt}
 use Rattle.chart_files.proofs.ListLaws.{all-map}
-use Rattle.chart_files.proofs.Readings.{transitions-are}
+use Rattle.chart_files.proofs.PlacesRead.{transitions-are}
 use borrow.Author.Needs.{needs}
 use Rattle.chart_files.proofs.timing.all_ticking.Statement.{statement}
 use Rattle.chart_files.proofs.timing.all_ticking.Tie as tie

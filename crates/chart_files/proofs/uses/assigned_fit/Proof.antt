@@ -7,7 +7,7 @@ use Rattle.expressions.specs.Nodes.{nodeAt}
 use Rattle.expressions.proofs.Loops.{Flagged, flagged-none, flagged-more, flagged-all}
 use Rattle.chart_files.specs.Places.{nodePart}
 use Rattle.chart_files.specs.Used.{assignedAt, numbers}
-use Rattle.chart_files.proofs.NodeUses.{assigned-is, Gathered, gathered-none, gathered-more, gathered-all}
+use Rattle.chart_files.proofs.Used.{assigned-is, Gathered, gathered-none, gathered-more, gathered-all}
 use Rattle.chart_files.proofs.uses.assigned_fit.Statement.{statement}
 use Rattle.chart_files.proofs.uses.assigned_fit.Tie as tie
 

@@ -8,13 +8,14 @@ use lib.Dec.{eqb}
 use lib.ListN.{length, getD}
 use Rattle.records.specs.Lists.{all, upto}
 use Rattle.expressions.specs.Nodes.{nodeAt}
-use Rattle.expressions.specs.Sorts.{nodesNamed, operandsFit, saysFit}
+use Rattle.expressions.specs.Sorts.{nodesNamed, operandsFit}
+use Rattle.expressions.specs.Verdicts.{saysFit}
 use Rattle.expressions.specs.Uses.{addUses}
 use Rattle.expressions.proofs.Verdicts.{fit-said}
 use Rattle.chart_files.specs.Places.{nodePart}
 use Rattle.chart_files.specs.Used.{guardUse, assignedUse, allUses}
-use Rattle.chart_files.proofs.Readings.{lookup-is, length-nodes, most-nodes}
-use Rattle.chart_files.proofs.NodeUses.{length-uses, used-is}
+use Rattle.chart_files.proofs.PlacesRead.{lookup-is, length-nodes, most-nodes}
+use Rattle.chart_files.proofs.Used.{length-uses, used-is}
 use Rattle.chart_files.proofs.uses.nodes_fit.Statement.{statement}
 use Rattle.chart_files.proofs.uses.nodes_fit.Tie as tie
 

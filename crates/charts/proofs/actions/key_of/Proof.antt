@@ -3,8 +3,8 @@ use mathlib.Core.Path.{_≡_, _∙_}
 use native.Mathlib.Omega.{arith}
 use denote.Ref.{now}
 use Rattle.charts.specs.Tables.{keyFor, keyAt}
-use Rattle.charts.proofs.Sound.{owner-placed}
-use Rattle.charts.proofs.ActionLaws.{key-small}
+use Rattle.charts.proofs.Accepted.{owner-placed}
+use Rattle.charts.proofs.TablesActions.{key-small}
 use borrow.Author.Needs.{needs}
 use Rattle.charts.proofs.actions.key_of.Statement.{statement}
 use Rattle.charts.proofs.actions.key_of.Tie as tie

@@ -11,12 +11,12 @@ use Rattle.records.specs.Refusal.{val}
 use Rattle.model.specs.Runs.{Deed, assign, raise, deed}
 use Rattle.model.specs.ChartSet.{readDeed, readCharts}
 use Rattle.chart_files.specs.Places.{actionAt}
-use Rattle.chart_files.proofs.Readings.{inside}
+use Rattle.chart_files.proofs.PlacesRead.{inside}
 use Rattle.machines.specs.Worlds.{worldIn}
-use Rattle.machines.proofs.Codes.{world-value, is-code}
+use Rattle.machines.proofs.WorldsCodes.{world-value, is-code}
 use Rattle.charts.specs.Replies.{Doable}
-use Rattle.charts.proofs.Sound.{deed-doable}
-use Rattle.charts.proofs.InFile.{has-values, variables-in, nodes-in}
+use Rattle.charts.proofs.Accepted.{deed-doable}
+use Rattle.charts.proofs.ValuesRead.{has-values, variables-in, nodes-in}
 use borrow.Author.Needs.{needs}
 use Rattle.charts.proofs.deeds.do_deed.Statement.{statement}
 use Rattle.charts.proofs.deeds.do_deed.Tie as tie

@@ -5,14 +5,14 @@ use Prim.Native.Nat.{ℕ, _+_, _-_, _*_, _≤_, _<_}
 use native.Mathlib.Omega.{arith}
 use denote.Ref.{now}
 use lib.ListN.{getD}
-use Rattle.chart_files.proofs.Readings.{most-actions}
+use Rattle.chart_files.proofs.PlacesRead.{most-actions}
 use Rattle.machines.specs.Chains.{withKey, remaining, Chained}
 use Rattle.machines.specs.Worlds.{codedFault}
-use Rattle.machines.proofs.Chaining.{At, chain-start, chain-all, chain-next, chain-one, chain-rises, chain-done}
-use Rattle.machines.proofs.Codes.{world-value, world-fault, is-code}
+use Rattle.machines.proofs.Chains.{At, chain-start, chain-all, chain-next, chain-one, chain-rises, chain-done}
+use Rattle.machines.proofs.WorldsCodes.{world-value, world-fault, is-code}
 use Rattle.charts.specs.Tables.{keyAt}
-use Rattle.charts.proofs.ActionLaws.{chained}
-use Rattle.charts.proofs.Acting.{keyAfter, key-crossing, key-entering, key-inside, Left, left-start, left-more, left-fault, left-next, left-none}
+use Rattle.charts.proofs.TablesActions.{chained}
+use Rattle.charts.proofs.TablesDeeds.{keyAfter, key-crossing, key-entering, key-inside, Left, left-start, left-more, left-fault, left-next, left-none}
 use Rattle.charts.proofs.deeds.do_deeds.Statement.{statement}
 use Rattle.charts.proofs.deeds.do_deeds.Tie as tie
 

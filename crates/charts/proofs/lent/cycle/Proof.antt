@@ -7,11 +7,11 @@ use Rattle.model.specs.Runs.{cycle}
 use Rattle.model.specs.ChartSet.{readCharts}
 use Rattle.model.specs.Charts.{charts}
 use Rattle.machines.specs.Answers.{endingOf}
-use Rattle.machines.proofs.AnswerTypes.{ending-type}
+use Rattle.machines.proofs.LentAnswers.{ending-type}
 use Rattle.machines.proofs.LentEvents.{lent}
 use Rattle.charts.specs.RunOf.{runOf}
 use Rattle.charts.specs.Accepted.{Accepted}
-use Rattle.charts.proofs.Types.{run-type, shape-type, called-type}
+use Rattle.charts.proofs.LentTypes.{run-type, shape-type, called-type}
 use Rattle.charts.proofs.cycles.cycle_by_turns as step
 use Rattle.charts.proofs.cycles.cycle_by_turns.Symbol as step-def
 use Rattle.charts.proofs.cycles.cycle_by_turns.Symbol.{name as #step}

@@ -7,11 +7,11 @@ use Rattle.machines.specs.Playing.{playing}
 use Rattle.model.specs.ChartSet.{readCharts}
 use Rattle.model.specs.Charts.{charts}
 use Rattle.machines.specs.Answers.{cyclesOf}
-use Rattle.machines.proofs.AnswerTypes.{cycles-type}
+use Rattle.machines.proofs.LentAnswers.{cycles-type}
 use Rattle.machines.proofs.LentMasks.{lent}
 use Rattle.charts.specs.RunOf.{runOf}
 use Rattle.charts.specs.Accepted.{Accepted}
-use Rattle.charts.proofs.Types.{run-type, shape-type, played-type}
+use Rattle.charts.proofs.LentTypes.{run-type, shape-type, played-type}
 use Rattle.charts.proofs.plays.play_in_place as step
 use Rattle.charts.proofs.plays.play_in_place.Symbol as step-def
 use Rattle.charts.proofs.plays.play_in_place.Symbol.{name as #step}

@@ -7,11 +7,11 @@ use Rattle.model.specs.Runs.{turn}
 use Rattle.model.specs.ChartSet.{readCharts}
 use Rattle.model.specs.Charts.{charts}
 use Rattle.machines.specs.Answers.{answerOf}
-use Rattle.machines.proofs.AnswerTypes.{answer-type}
+use Rattle.machines.proofs.LentAnswers.{answer-type}
 use Rattle.machines.proofs.LentEvents.{lent}
 use Rattle.charts.specs.RunOf.{runOf}
 use Rattle.charts.specs.Accepted.{Accepted}
-use Rattle.charts.proofs.Types.{run-type, shape-type, turned-type}
+use Rattle.charts.proofs.LentTypes.{run-type, shape-type, turned-type}
 use Rattle.charts.proofs.turns.one_turn as step
 use Rattle.charts.proofs.turns.one_turn.Symbol as step-def
 use Rattle.charts.proofs.turns.one_turn.Symbol.{name as #step}

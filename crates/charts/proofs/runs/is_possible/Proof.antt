@@ -7,11 +7,12 @@ use lib.ListN.{length, getD}
 use Rattle.records.specs.Lists.{all, upto}
 use Rattle.model.specs.ChartSet.{readCharts}
 use Rattle.model.specs.Charts.{charts}
-use Rattle.chart_files.proofs.Readings.{most-charts, length-initial}
-use Rattle.machines.specs.Checks.{zeros, shared}
-use Rattle.machines.proofs.Possible.{possible-is}
+use Rattle.chart_files.proofs.PlacesRead.{most-charts, length-initial}
+use Rattle.machines.specs.Checks.{sharedPossible}
+use Rattle.model.specs.Runs.{restZero}
+use Rattle.machines.proofs.ChecksClauses.{possible-is}
 use Rattle.charts.specs.RunOf.{runOf}
-use Rattle.charts.proofs.InFile.{homes-in, has-values, variables-in}
+use Rattle.charts.proofs.ValuesRead.{homes-in, has-values, variables-in}
 use borrow.Author.Needs.{needs}
 use Rattle.charts.proofs.runs.is_possible.Statement.{statement}
 use Rattle.charts.proofs.runs.is_possible.Tie as tie
@@ -45,9 +46,9 @@ returns c =
     let v = c .before .before .before .values-of in
     let n = sym (length-initial s sh (b .pre)) in
     (λ i. c .before .before .shared-possible .ensures i && c .before .ages-possible .ensures i && c .ages-unused .ensures i)
-    ∙ (λ i. shared (n i) (homes-in s sh (b .pre) i) (variables-in s sh (b .pre) (v .result) (v .ensures) i) (r .states) (runOf r .world)
+    ∙ (λ i. sharedPossible (n i) (homes-in s sh (b .pre) i) (variables-in s sh (b .pre) (v .result) (v .ensures) i) (r .states) (runOf r .world)
     && all (λ k. leb (getD (r .ages) k 0) (r .cycles)) (upto (n i))
-    && zeros (n i) (r .ages))
+    && restZero (n i) (r .ages))
     ∙ sym (possible-is (charts (readCharts s)) (runOf r) (lengths b .0) (lengths b .1) (lengths b .2))
 
 pub is-possible-spec : {M : Type 1} → statement M

@@ -6,9 +6,9 @@ use lib.IntN.{pos}
 use lib.ListN.{replicate}
 use Rattle.records.specs.Lists.{upto, padded}
 use Rattle.chart_files.proofs.ListLaws.{map-map}
-use Rattle.chart_files.proofs.Readings.{most-charts, initial-are}
+use Rattle.chart_files.proofs.PlacesRead.{most-charts, initial-are}
 use Rattle.machines.specs.Files.{variableIn}
-use Rattle.charts.proofs.InFile.{has-values, variables-in}
+use Rattle.charts.proofs.ValuesRead.{has-values, variables-in}
 use borrow.Author.Needs.{needs}
 use Rattle.charts.proofs.runs.start.Statement.{statement}
 use Rattle.charts.proofs.runs.start.Tie as tie

@@ -8,8 +8,8 @@ use Rattle.charts.specs.RunOf.{aged}
 use Rattle.charts.proofs.runs.time_passed.Statement.{statement}
 use Rattle.charts.proofs.runs.time_passed.Tie as tie
 
-older-requires : tie.Need-older-requires
-older-requires c κs = let p = c .before .before .pre in (p .0, λ k h. omega (arith, p .1 .0, p .1 .1 k h))
+grow-ages-requires : tie.Need-grow-ages-requires
+grow-ages-requires c κs = let p = c .before .before .pre in (p .0, λ k h. omega (arith, p .1 .0, p .1 .1 k h))
 
 add-run : tie.Need-add-run
 add-run c = search needs
@@ -19,7 +19,7 @@ returns c cs e =
     let r = c .before .before .before .before .args .run in
     ap
     (λ l. record { at = r .states; timers = l; world = record { vars = r .variables; events = 0; position = 1; cycles = r .cycles + 1 } })
-    (c .before .older .ensures ∙ ap (λ n. mapFrom 0 (aged n) (r .ages)) (sym e))
+    (c .before .grow-ages .ensures ∙ ap (λ n. mapFrom 0 (aged n) (r .ages)) (sym e))
 
 pub time-passed-spec : {M : Type 1} → statement M
-time-passed-spec = tie.close (tie.spec older-requires add-run returns)
+time-passed-spec = tie.close (tie.spec grow-ages-requires add-run returns)

@@ -14,12 +14,12 @@ use Rattle.expressions.specs.Answers.{truthOf}
 use Rattle.expressions.specs.Answers as expressions-answers
 use Rattle.model.specs.ChartSet.{readCharts}
 use Rattle.model.specs.Charts.{firstThat, transitionHolds}
-use Rattle.chart_files.proofs.Readings.{most-states, most-transitions}
+use Rattle.chart_files.proofs.PlacesRead.{most-states, most-transitions}
 use Rattle.machines.specs.Worlds.{bareWorld}
-use Rattle.machines.proofs.Codes.{is-code}
+use Rattle.machines.proofs.WorldsCodes.{is-code}
 use Rattle.charts.specs.Tables.{slotAt}
 use Rattle.charts.specs.StepOf.{ChoiceOf, slotHolds}
-use Rattle.charts.proofs.StepLaws.{choice-some, Tried, tried-none, tried-more, tried-found, tried-fault, tried-end, holds-named, named-one, unnamed, row-outside}
+use Rattle.charts.proofs.StepOf.{choice-some, Tried, tried-none, tried-more, tried-found, tried-fault, tried-end, holds-named, named-one, unnamed, row-outside}
 use Rattle.charts.proofs.steps.first_that.Statement.{statement}
 use Rattle.charts.proofs.steps.first_that.Tie as tie
 
@@ -92,7 +92,7 @@ returns-2 c =
     let x = a .args in
     let l = c .before .before .before .before .before .before .before .loop in (
       ap (λ o. o >>= λ t. val (cond (eqb t 65535) none (some t))) (c .fault-code .ensures .1)
-          ∙ tried-fault (readCharts (now (x .s))) (x .state) (transitionHolds (readCharts (now (x .s))) (bareWorld (now (x .vars)) (x .events)) (x .age)) (l .j) (t-of (c .before .before .before .before .before)) (l .inv) (in-row (c .before .before .before .before .before .before)) (slot-here (c .before .before .before .before .before)) (expressions-answers.reasonOf (c .before .before .w .given .0 .0))
+          ∙ tried-fault (readCharts (now (x .s))) (x .state) (transitionHolds (readCharts (now (x .s))) (bareWorld (now (x .vars)) (x .events)) (x .age)) (l .j) (t-of (c .before .before .before .before .before)) (l .inv) (in-row (c .before .before .before .before .before .before)) (slot-here (c .before .before .before .before .before)) (expressions-answers.valueReasonOf (c .before .before .w .given .0 .0))
           (ap truthOf (sym (c .before .before .w .given .1)) ∙ c .before .before .before .before .slot-holds .ensures),
       record { exact = c .fault-code .ensures .2; small = λ h. absurd (omega (arith, c .fault-code .ensures .0)); known = λ h. absurd (omega (arith, c .fault-code .ensures .0)) },
     )

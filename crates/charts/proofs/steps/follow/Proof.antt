@@ -4,28 +4,28 @@ use borrow.Author.Needs.{needs}
 use denote.Ref.{now}
 use Rattle.model.specs.Runs.{taken}
 use Rattle.model.specs.ChartSet.{readCharts}
-use Rattle.chart_files.proofs.Readings.{transition-is}
+use Rattle.chart_files.proofs.PlacesRead.{transition-is}
 use Rattle.machines.specs.Worlds.{codedFault, worldIn}
-use Rattle.machines.proofs.Codes.{world-value, world-fault}
+use Rattle.machines.proofs.WorldsCodes.{world-value, world-fault}
 use Rattle.charts.specs.RunOf.{runIn}
 use Rattle.charts.specs.StepOf.{entered}
-use Rattle.charts.proofs.StepLaws.{follow-fault, follow-taken, moved-value, moved-fault}
+use Rattle.charts.proofs.StepOf.{follow-fault, follow-taken, moved-value, moved-fault}
 use Rattle.charts.proofs.steps.follow.Statement.{statement}
 use Rattle.charts.proofs.steps.follow.Tie as tie
 
-act-requires : tie.Need-act-requires
-act-requires c κs = search needs
+do-actions-requires : tie.Need-do-actions-requires
+do-actions-requires c κs = search needs
 
 returns : tie.Need-returns
 returns c = (
   λ p q.
       let x = c .before .before .before .before .args in
-      let f = c .before .act in
+      let f = c .before .do-actions in
       let wrong = c .if1 .taken in
       moved-fault (f .result) (taken (x .t)) (now (x .states)) (now (x .ages)) (f .last .1 .1 .1 .1 .1 .0) p q wrong
       ∙ follow-fault (readCharts (now (x .s))) (x .chart) (runIn (now (x .states)) (now (x .ages)) (now (x .vars)) (x .events) p q) (x .t) (codedFault (f .result))
       (sym (world-fault (f .result) (f .last .1 .1 .1 .1 .1 .0) p q wrong) ∙ f .ensures .0 p q),
-  c .before .act .ensures .1,
+  c .before .do-actions .ensures .1,
 )
 
 target-of-requires : tie.Need-target-of-requires
@@ -48,7 +48,7 @@ returns-2 c = (
   λ p q.
       let a = c .before .before .before .before .before in
       let x = a .args in
-      let f = c .before .before .act in
+      let f = c .before .before .do-actions in
       let fine = c .before .if1 .left in
       let w = worldIn (f .last .1 .1 .1 .1 .1 .0) (f .result) p q in
       let r = runIn (now (x .states)) (now (x .ages)) (now (x .vars)) (x .events) p q in
@@ -57,14 +57,14 @@ returns-2 c = (
       (sym (world-value (f .result) (f .last .1 .1 .1 .1 .1 .0) p q fine) ∙ f .ensures .0 p q)
       (c .target-of .result) (c .target-of .ensures ∙ sym (ap (λ u. u .target) (transition-is (now (x .s)) (x .shape) (a .pre .0 .shape) (x .t) (a .pre .3))))
       (entered r (x .chart) (c .target-of .result) w) refl,
-  c .before .before .act .ensures .1,
+  c .before .before .do-actions .ensures .1,
 )
 
 pub follow-spec : {M : Type 1} → statement M
 follow-spec =
     tie.close
     (tie.spec
-    act-requires
+    do-actions-requires
     returns
     target-of-requires
     mul-states

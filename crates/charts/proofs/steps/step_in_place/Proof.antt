@@ -7,11 +7,11 @@ use denote.Ref.{now}
 use Rattle.records.specs.Refusal.{val, _>>=_}
 use Rattle.model.specs.ChartSet.{readCharts}
 use Rattle.model.specs.Charts.{follow}
-use Rattle.chart_files.proofs.Readings.{most-charts}
+use Rattle.chart_files.proofs.PlacesRead.{most-charts}
 use Rattle.charts.specs.RunOf.{runIn}
-use Rattle.machines.proofs.Codes.{is-code}
+use Rattle.machines.proofs.WorldsCodes.{is-code}
 use Rattle.charts.specs.StepOf.{answerBy, movedBy}
-use Rattle.charts.proofs.StepLaws.{choice-some, choice-none, choice-fault, answer-taken, moved-value, moved-fault}
+use Rattle.charts.proofs.StepOf.{choice-some, choice-none, choice-fault, answer-taken, moved-value, moved-fault}
 use Rattle.charts.proofs.steps.step_in_place.Statement.{statement}
 use Rattle.charts.proofs.steps.step_in_place.Tie as tie
 

@@ -3,10 +3,10 @@ use Prim.Native.Nat.{_+_, _-_, _≤_}
 use native.Mathlib.Omega.{arith}
 use denote.Ref.{now}
 use Rattle.model.specs.ChartSet.{readCharts}
-use Rattle.chart_files.proofs.Readings.{most-charts}
+use Rattle.chart_files.proofs.PlacesRead.{most-charts}
 use Rattle.charts.specs.StepOf.{answerBy}
-use Rattle.charts.proofs.ChartTurns.{LeftTurns, left-all, left-more, left-fault, left-none}
-use Rattle.machines.proofs.Codes.{is-code}
+use Rattle.charts.proofs.StepOfTurns.{LeftTurns, left-all, left-more, left-fault, left-none}
+use Rattle.machines.proofs.WorldsCodes.{is-code}
 use Rattle.charts.proofs.steps.turns_in_place.Statement.{statement}
 use Rattle.charts.proofs.steps.turns_in_place.Tie as tie
 

@@ -4,10 +4,10 @@ use Prim.Native.Nat.{ℕ, _+_, _-_, _<_}
 use native.Mathlib.Omega.{arith}
 use denote.Ref.{now}
 use lib.ListN.{replicate}
-use Rattle.chart_files.proofs.Readings.{most-actions}
-use Rattle.machines.proofs.Chaining.{Chains, chains-none, chains-more, chains-made}
+use Rattle.chart_files.proofs.PlacesRead.{most-actions}
+use Rattle.machines.proofs.Chains.{Chains, chains-none, chains-more, chains-made}
 use Rattle.charts.specs.Tables.{keyAt}
-use Rattle.charts.proofs.ActionLaws.{key-within}
+use Rattle.charts.proofs.TablesActions.{key-within}
 use Rattle.charts.proofs.tables.fill_actions.Statement.{statement}
 use Rattle.charts.proofs.tables.fill_actions.Tie as tie
 

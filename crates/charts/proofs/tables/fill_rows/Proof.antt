@@ -5,10 +5,10 @@ use Prim.Native.Nat.{ℕ, _+_, _-_, _≤_, _<_, max}
 use native.Mathlib.Omega.{arith}
 use denote.Ref.{now}
 use lib.ListN.{getD, set, replicate}
-use Rattle.chart_files.proofs.Readings.{most-states, most-transitions}
-use Rattle.charts.proofs.Sound.{source-known, priority-known}
-use Rattle.charts.proofs.TableLaws.{Rows, rows-none, rows-more, Ended, ends-none, ends-more}
-use Rattle.charts.proofs.RowLaws.{sourceAt, priorityAt, rows-are, ends-are}
+use Rattle.chart_files.proofs.PlacesRead.{most-states, most-transitions}
+use Rattle.charts.proofs.Accepted.{source-known, priority-known}
+use Rattle.charts.proofs.TablesFilled.{Rows, rows-none, rows-more, Ended, ends-none, ends-more}
+use Rattle.charts.proofs.TablesRow.{sourceAt, priorityAt, rows-are, ends-are}
 use Rattle.charts.proofs.tables.fill_rows.Statement.{statement}
 use Rattle.charts.proofs.tables.fill_rows.Tie as tie
 

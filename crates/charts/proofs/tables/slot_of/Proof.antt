@@ -4,8 +4,8 @@ use Prim.Native.Nat.{_+_, _<_}
 use native.Mathlib.Omega.{arith}
 use borrow.Author.Needs.{needs}
 use denote.Ref.{now}
-use Rattle.chart_files.proofs.Readings.{most-states}
-use Rattle.charts.proofs.StepLaws.{unnamed, placed-one}
+use Rattle.chart_files.proofs.PlacesRead.{most-states}
+use Rattle.charts.proofs.StepOf.{unnamed, placed-one}
 use Rattle.charts.proofs.tables.slot_of.Statement.{statement}
 use Rattle.charts.proofs.tables.slot_of.Tie as tie
 

@@ -8,11 +8,11 @@ use Rattle.model.specs.Runs.{guardHolds}
 use Rattle.model.specs.ChartSet.{readGuard}
 use Rattle.model.specs.Charts.{triggered}
 use Rattle.chart_files.specs.Places.{transitionAt, triggerIn}
-use Rattle.chart_files.proofs.Readings.{inside}
+use Rattle.chart_files.proofs.PlacesRead.{inside}
 use Rattle.charts.specs.Replies.{Holdable}
-use Rattle.charts.proofs.Sound.{trigger-holdable}
-use Rattle.charts.proofs.InFile.{has-values, nodes-in}
-use Rattle.charts.proofs.Holding.{holds-not, holds-guard}
+use Rattle.charts.proofs.Accepted.{trigger-holdable}
+use Rattle.charts.proofs.ValuesRead.{has-values, nodes-in}
+use Rattle.charts.proofs.Replies.{holds-not, holds-guard}
 use borrow.Author.Needs.{needs}
 use Rattle.charts.proofs.transitions.holds.Statement.{statement}
 use Rattle.charts.proofs.transitions.holds.Tie as tie

@@ -6,11 +6,11 @@ use denote.Ref.{now}
 use Rattle.model.specs.Outcome.{settled}
 use Rattle.model.specs.ChartSet.{readCharts}
 use Rattle.model.specs.Charts.{charts}
-use Rattle.chart_files.proofs.Readings.{most-charts, length-initial}
-use Rattle.machines.proofs.Turning.{at-part}
+use Rattle.chart_files.proofs.PlacesRead.{most-charts, length-initial}
+use Rattle.machines.proofs.Turns.{at-part}
 use Rattle.charts.specs.RunOf.{runOf}
 use Rattle.charts.specs.StepOf.{answerBy}
-use Rattle.charts.proofs.ChartTurns.{alone-turn}
+use Rattle.charts.proofs.StepOfTurns.{alone-turn}
 use Rattle.charts.proofs.turns.chart_turn.Statement.{statement}
 use Rattle.charts.proofs.turns.chart_turn.Tie as tie
 

@@ -6,7 +6,7 @@ use Rattle.records.specs.Refusal.{fault}
 use Rattle.model.specs.Outcome.{settled}
 use Rattle.charts.specs.RunOf.{runOf, runIn}
 use Rattle.charts.specs.StepOf.{answerBy}
-use Rattle.charts.proofs.StepLaws.{moved-value, moved-fault}
+use Rattle.charts.proofs.StepOf.{moved-value, moved-fault}
 use Rattle.charts.proofs.turns.chart_turned.Statement.{statement}
 use Rattle.charts.proofs.turns.chart_turned.Tie as tie
 

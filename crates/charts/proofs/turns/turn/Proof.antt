@@ -9,10 +9,10 @@ use Rattle.model.specs.Runs.{stepped, checked}
 use Rattle.model.specs.ChartSet.{readCharts}
 use Rattle.model.specs.Charts.{charts}
 use Rattle.machines.specs.Checks.{beforeOf}
-use Rattle.machines.proofs.Turning.{turn-fine, turn-refused}
+use Rattle.machines.proofs.Turns.{turn-fine, turn-refused}
 use Rattle.charts.specs.RunOf.{runOf}
 use Rattle.charts.specs.TurnOf.{Ready}
-use Rattle.charts.proofs.Turning.{ready}
+use Rattle.charts.proofs.TurnOf.{ready}
 use Rattle.charts.proofs.turns.turn.Statement.{statement}
 use Rattle.charts.proofs.turns.turn.Tie as tie
 

@@ -8,9 +8,9 @@ use Rattle.model.specs.Outcome.{settled}
 use Rattle.model.specs.Runs.{time}
 use Rattle.model.specs.ChartSet.{readCharts}
 use Rattle.model.specs.Charts.{charts}
-use Rattle.chart_files.proofs.Readings.{most-charts, length-initial}
+use Rattle.chart_files.proofs.PlacesRead.{most-charts, length-initial}
 use Rattle.charts.specs.RunOf.{runOf}
-use Rattle.machines.proofs.Turning.{at-time}
+use Rattle.machines.proofs.Turns.{at-time}
 use Rattle.charts.proofs.turns.turn_taken.Statement.{statement}
 use Rattle.charts.proofs.turns.turn_taken.Tie as tie
 

@@ -13,7 +13,7 @@ use mir.Val.{toZ, ofZ}
 use Rattle.records.specs.Refusal.{val, fault, out-of-range}
 use Rattle.expressions.specs.Values.{inRange}
 use Rattle.expressions.specs.Outcomes.{StandsFor}
-use Rattle.expressions.proofs.Signed.{between, below, above}
+use Rattle.expressions.proofs.Signed.{between-range, below, above-range}
 use Rattle.expressions.proofs.Outcomes.{stands-same, of-number, of-range}
 use Rattle.expressions.proofs.arithmetic.in_range.Statement.{statement}
 use Rattle.expressions.proofs.arithmetic.in_range.Tie as tie
@@ -25,13 +25,13 @@ outside : {z y : ℤ} → y ≡ z → ltb (mag y) (2 ^ 31) ≡ false → StandsF
 outside e h = stands-same of-range (subst (λ x. fault out-of-range ≡ inRange x) e (rw h))
 
 returns : tie.Need-returns
-returns c = inside (toZ-ofZ (c .before .before .fits .z)) (between (toZ w64 (ofZ w64 (c .before .before .args .z))) (c .before .if1 .taken) (c .if2 .taken))
+returns c = inside (toZ-ofZ (c .before .before .fits .z)) (between-range (toZ w64 (ofZ w64 (c .before .before .args .z))) (c .before .if1 .taken) (c .if2 .taken))
 
 returns-2 : tie.Need-returns-2
 returns-2 c =
     let e : toZ w64 (ofZ w64 (c .before .args .z)) ≡ c .before .args .z = toZ-ofZ (c .before .fits .z) in
     let z : ℤ = toZ w64 (ofZ w64 (c .before .args .z)) in
-    ⊎-elim (λ w. outside e (above z (w .1 .left))) (λ w. outside e (below z (w .left))) (c .if1 .came)
+    ⊎-elim (λ w. outside e (above-range z (w .1 .left))) (λ w. outside e (below z (w .left))) (c .if1 .came)
 
 pub in-range-spec : {M : Type 1} → statement M
 in-range-spec = tie.close (tie.spec returns returns-2)

@@ -2,7 +2,8 @@
 use mathlib.Core.Path.{ap, _∙_}
 use denote.Ref.{now}
 use Rattle.expressions.specs.Nodes.{nodeAt}
-use Rattle.expressions.specs.Sorts.{nodesNamed, operandsFit, saysNamed}
+use Rattle.expressions.specs.Sorts.{nodesNamed, operandsFit}
+use Rattle.expressions.specs.Verdicts.{saysNamed}
 use Rattle.expressions.proofs.Verdicts.{named-said}
 use borrow.Author.Needs.{needs}
 use Rattle.expressions.proofs.sorts.nodes_named.Statement.{statement}

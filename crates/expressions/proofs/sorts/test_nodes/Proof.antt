@@ -10,7 +10,8 @@ use lib.Dec.{ltb}
 use Rattle.records.specs.Lists.{all}
 use Rattle.records.specs.Bytes.{four±}
 use Rattle.expressions.specs.Nodes.{nodeAt}
-use Rattle.expressions.specs.Sorts.{operands, variablesOf, nodeNamed, operandFits, nodeFits, verdict}
+use Rattle.expressions.specs.Sorts.{operands, variablesOf, nodeNamed, operandFits, nodeFits}
+use Rattle.expressions.specs.Verdicts.{verdict}
 use Rattle.expressions.specs.Uses.{addUses}
 use Rattle.expressions.specs.Answers.{operandsFor}
 use Rattle.expressions.proofs.Fields.{coded-at, operands-read}

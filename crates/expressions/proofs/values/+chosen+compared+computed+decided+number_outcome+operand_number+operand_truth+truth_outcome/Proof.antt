@@ -16,7 +16,8 @@ use mir.Facts.{toZ-ofZ}
 use mir.Syntax.{w32, w64}
 use Rattle.records.specs.Refusal.{Out, val, _>>=_, choose}
 use Rattle.expressions.specs.Nodes.{nodeAt}
-use Rattle.expressions.specs.Values.{compute, compare, decide, operandNumber, operandTruth}
+use Rattle.expressions.specs.Values.{compute, compare}
+use Rattle.expressions.specs.OperandValues.{operandNumber, operandTruth, decide}
 use Rattle.expressions.specs.Coded.{arithmeticOf, comparisonOf}
 use Rattle.expressions.proofs.Outcomes.{stands-same, stands-at, held, handed, of-number, of-zero, number-small, number-in, fault-stands, first-fault, second-fault, both-in, truth-same, truth-in, truth-fault-in, of-truth, turned, undecided, stays}
 use Rattle.expressions.proofs.Arms.{picked-one, no-number-arm, constant-arm, variable-arm, choice-arm, arithmetic-arm, no-truth-arm, comparison-arm, negation-arm, decided-arm, constant-leaf, variable-leaf}

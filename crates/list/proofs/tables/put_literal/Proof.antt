@@ -30,8 +30,8 @@ byte-at-requires c κs = search needs
 put-sign-requires : tie.Need-put-sign-requires
 put-sign-requires c κs = search needs
 
-put-cause-requires : tie.Need-put-cause-requires
-put-cause-requires c κs = search needs
+put-literal-trigger-requires : tie.Need-put-literal-trigger-requires
+put-literal-trigger-requires c κs = search needs
 
 u16-at-requires : tie.Need-u16-at-requires
 u16-at-requires c κs = search needs
@@ -47,9 +47,9 @@ returns c =
     let edge = c .before .before .before .before .before .before .before .before .before .before .before .before .before .before .before .before .before .two .ensures .0 in
     let sign = c .before .before .before .before .before .before .before .before .before .before .before .before .byte-at .ensures in
     let guard = c .before .before .before .u16-at .ensures in
-    let cause = readLiteral (c .before .before .before .before .before .before .before .before .before .before .before .before .before .before .before .before .before .before .before .before .before .before .before .before .before .before .before .args .r .now) .1 .cause in
-    near-as (near-then (near-then (near-then (near-then (c .before .before .before .before .before .before .before .before .before .before .before .before .before .before .before .before .before .before .before .before .before .before .put-named .ensures) (c .before .before .before .before .before .before .before .before .before .before .before .before .before .before .before .before .put-named2 .ensures)) (c .before .before .before .before .before .before .before .before .before .before .before .put-sign .ensures)) (c .before .before .before .before .before .before .before .put-cause .ensures)) (c .before .before .put-guard .ensures))
-    (λ x. literalText (c .before .before .before .before .before .before .before .before .before .before .before .before .before .before .before .before .before .before .before .before .before .before .before .before .before .before .before .args .i) (edge x, record { must = eqb (sign x) 1; cause = cause; guard = readGuard (guard x) }))
+    let trigger = readLiteral (c .before .before .before .before .before .before .before .before .before .before .before .before .before .before .before .before .before .before .before .before .before .before .before .before .before .before .before .args .r .now) .1 .trigger in
+    near-as (near-then (near-then (near-then (near-then (c .before .before .before .before .before .before .before .before .before .before .before .before .before .before .before .before .before .before .before .before .before .before .put-named .ensures) (c .before .before .before .before .before .before .before .before .before .before .before .before .before .before .before .before .put-named2 .ensures)) (c .before .before .before .before .before .before .before .before .before .before .before .put-sign .ensures)) (c .before .before .before .before .before .before .before .put-literal-trigger .ensures)) (c .before .before .put-guard .ensures))
+    (λ x. literalText (c .before .before .before .before .before .before .before .before .before .before .before .before .before .before .before .before .before .before .before .before .before .before .before .before .before .before .before .args .i) (edge x, record { must = eqb (sign x) 1; trigger = trigger; guard = readGuard (guard x) }))
     (omega arith)
 
 pub put-literal-spec : {M : Type 1} → statement M
@@ -63,7 +63,7 @@ put-literal-spec =
     put-named-requires-2
     byte-at-requires
     put-sign-requires
-    put-cause-requires
+    put-literal-trigger-requires
     u16-at-requires
     put-guard-requires
     same-length

@@ -11,7 +11,7 @@ use lib.Dec.{ltb, eqb}
 use lib.ListN.{length, getD}
 use Rattle.expressions.proofs.Loops.{Passed, passed-none, passed-more, passed-all, passed-not}
 use Rattle.machines.specs.Files.{homeIn}
-use Rattle.machines.proofs.FileLaws.{places-fit}
+use Rattle.machines.proofs.Files.{places-fit}
 use Rattle.machines.proofs.checks.places_possible.Statement.{statement}
 use Rattle.machines.proofs.checks.places_possible.Tie as tie
 

@@ -3,8 +3,8 @@ use mathlib.Core.Path.{ap, _∙_, sym}
 use mathlib.Core.Bool.{_&&_}
 use borrow.Author.Needs.{needs}
 use denote.Ref.{now}
-use Rattle.machines.specs.Checks.{zeroValues}
-use Rattle.machines.proofs.FileLaws.{length-variables}
+use Rattle.model.specs.Runs.{restZeroValues}
+use Rattle.machines.proofs.Files.{length-variables}
 use Rattle.machines.proofs.checks.shared_possible.Statement.{statement}
 use Rattle.machines.proofs.checks.shared_possible.Tie as tie
 
@@ -32,7 +32,7 @@ variables-unused-requires c κs = search needs
 returns : tie.Need-returns
 returns c =
     let a = c .before .before .before .before .before .before .args in
-    let behind = c .variables-unused .ensures ∙ sym (ap (λ n. zeroValues n (a .variables)) (length-variables (now (a .s)) (a .values))) in
+    let behind = c .variables-unused .ensures ∙ sym (ap (λ n. restZeroValues n (a .variables)) (length-variables (now (a .s)) (a .values))) in
     λ i. c .before .before .before .before .places-possible .ensures i
     && c .before .before .before .variables-possible .ensures i
     && c .before .before .counts-possible .ensures i

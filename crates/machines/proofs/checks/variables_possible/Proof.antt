@@ -12,15 +12,15 @@ use lib.ListN.{length, getD}
 use mir.Facts.{toZ-ofZ}
 use mir.Syntax.{w16}
 use Rattle.expressions.proofs.Loops.{Passed, passed-none, passed-more, passed-all, passed-not}
-use Rattle.model.specs.Runs.{within}
+use Rattle.model.specs.Runs.{inBounds}
 use Rattle.machines.specs.declared.values.Values.{Values}
 use Rattle.machines.specs.Files.{variableIn}
-use Rattle.machines.proofs.FileLaws.{variables-fit}
+use Rattle.machines.proofs.Files.{variables-fit}
 use Rattle.machines.proofs.checks.variables_possible.Statement.{statement}
 use Rattle.machines.proofs.checks.variables_possible.Tie as tie
 
 abbrev inside : List ℕ → Values → List ℤ → ℕ → Bool
-inside s values variables v = within (variableIn s values v) (getD variables v (pos 0))
+inside s values variables v = inBounds (variableIn s values v) (getD variables v (pos 0))
 
 abbrev Inv-loop : tie.InvT-loop
 Inv-loop s values variables v₀ v = (length variables ≡ 64) × Passed (inside s values variables) (values .variables) v
@@ -49,7 +49,7 @@ decided : (c : tie.After-value-possible Inv-loop μ-loop) →
 decided c =
     let a = c .before .before .before .before .before .before .args in
     c .value-possible .ensures
-    ∙ ap (within (variableIn (now (a .s)) (a .values) (c .before .before .before .before .loop .v))) (toZ-ofZ {w = w16} (record { sfits = c .before .value-possible-arg .given }))
+    ∙ ap (inBounds (variableIn (now (a .s)) (a .values) (c .before .before .before .before .loop .v))) (toZ-ofZ {w = w16} (record { sfits = c .before .value-possible-arg .given }))
 
 returns : tie.Need-returns Inv-loop μ-loop
 returns c =

@@ -9,11 +9,11 @@ use mir.Val.{toZ, ofZ}
 use Rattle.records.specs.Refusal.{val, _>>=_}
 use Rattle.expressions.specs.Answers.{numberOf}
 use Rattle.expressions.specs.Answers as expressions-answers
-use Rattle.model.specs.Runs.{within, noVariable}
+use Rattle.model.specs.Runs.{inBounds, noVariable}
 use Rattle.machines.specs.Files.{variablesIn, nodesIn}
 use Rattle.machines.specs.Worlds.{worldIn}
-use Rattle.machines.proofs.Codes.{world-value, is-code}
-use Rattle.machines.proofs.DeedLaws.{assign-fault, assign-outside, assign-within}
+use Rattle.machines.proofs.WorldsCodes.{world-value, is-code}
+use Rattle.machines.proofs.Worlds.{assign-fault, assign-outside, assign-within}
 use borrow.Author.Needs.{needs}
 use Rattle.machines.proofs.deeds.assign_code.Statement.{statement}
 use Rattle.machines.proofs.deeds.assign_code.Tie as tie
@@ -47,7 +47,7 @@ returns c = (
   λ p q.
       let x = c .before .before .before .before .before .before .before .args in
       ap (λ o. o >>= λ events. val (worldIn (now (x .vars)) events p q)) (c .fault-code .ensures .1)
-      ∙ assign-fault (nodesIn (now (x .s)) (x .values)) (variablesIn (now (x .s)) (x .values)) (now (x .vars)) (x .events) (x .v) (x .n) p q (expressions-answers.reasonOf (c .before .before .w .given .0 .0))
+      ∙ assign-fault (nodesIn (now (x .s)) (x .values)) (variablesIn (now (x .s)) (x .values)) (now (x .vars)) (x .events) (x .v) (x .n) p q (expressions-answers.valueReasonOf (c .before .before .w .given .0 .0))
       (ap numberOf (sym (c .before .before .w .given .1)) ∙ c .before .before .before .before .number-at .ensures),
   c .fault-code .ensures .2,
   λ h. refl,
@@ -63,7 +63,7 @@ returns-2 c = (
       ∙ ap (λ u. val (worldIn (set (now (x .vars)) (x .v) u) (x .events) p q)) (toZ-ofZ (cast-vars c) ∙ e)
       ∙ assign-within (nodesIn (now (x .s)) (x .values)) (variablesIn (now (x .s)) (x .values)) (now (x .vars)) (x .events) (x .v) (x .n) p q z
       (ap numberOf (sym (c .before .before .before .z .given .1)) ∙ c .before .before .before .before .before .number-at .ensures)
-      (ap (within (getD (variablesIn (now (x .s)) (x .values)) (x .v) noVariable)) (sym e) ∙ sym (c .before .is-within .ensures .0) ∙ c .if1 .taken),
+      (ap (inBounds (getD (variablesIn (now (x .s)) (x .values)) (x .v) noVariable)) (sym e) ∙ sym (c .before .is-within .ensures .0) ∙ c .if1 .taken),
   is-code (c .before .before .before .before .before .before .before .before .args .events) (omega arith),
   λ h. absurd (omega (arith, h)),
 )
@@ -76,7 +76,7 @@ returns-3 c = (
       let e : toZ w32 (ofZ w32 z) ≡ z = search needs in
       assign-outside (nodesIn (now (x .s)) (x .values)) (variablesIn (now (x .s)) (x .values)) (now (x .vars)) (x .events) (x .v) (x .n) p q z
       (ap numberOf (sym (c .before .before .before .z .given .1)) ∙ c .before .before .before .before .before .number-at .ensures)
-      (ap (within (getD (variablesIn (now (x .s)) (x .values)) (x .v) noVariable)) (sym e) ∙ sym (c .before .is-within .ensures .0) ∙ c .if1 .left),
+      (ap (inBounds (getD (variablesIn (now (x .s)) (x .values)) (x .v) noVariable)) (sym e) ∙ sym (c .before .is-within .ensures .0) ∙ c .if1 .left),
   refl,
   λ h. refl,
 )

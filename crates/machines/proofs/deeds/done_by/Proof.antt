@@ -4,7 +4,7 @@ use Prim.Native.Nat.{ℕ}
 use native.Mathlib.Omega.{arith}
 use borrow.Author.Needs.{needs}
 use Rattle.records.specs.Refusal.{fault}
-use Rattle.machines.proofs.Codes.{world-value, world-fault}
+use Rattle.machines.proofs.WorldsCodes.{world-value, world-fault}
 use Rattle.machines.proofs.deeds.done_by.Statement.{statement}
 use Rattle.machines.proofs.deeds.done_by.Tie as tie
 

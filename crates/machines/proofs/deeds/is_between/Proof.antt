@@ -8,7 +8,7 @@ use mir.Facts.{toZ-ofZ}
 use mir.Syntax.{w32}
 use mir.Val.{toZ, ofZ}
 use Rattle.records.proofs.FramingLaws.{and-true}
-use Rattle.machines.proofs.DeedLaws.{between}
+use Rattle.machines.proofs.Worlds.{between-bounds}
 use borrow.Author.Needs.{needs}
 use Rattle.machines.proofs.deeds.is_between.Statement.{statement}
 use Rattle.machines.proofs.deeds.is_between.Tie as tie
@@ -37,7 +37,7 @@ returns c =
       is,
       λ t.
           let both = and-true (leZ (x .lowest) (x .z)) (leZ (x .z) (x .highest)) (sym is ∙ t) in
-          between (x .lowest) (x .z) (x .highest) (a .fits .lowest .sfits) (a .fits .highest .sfits) (both .0) (both .1),
+          between-bounds (x .lowest) (x .z) (x .highest) (a .fits .lowest .sfits) (a .fits .highest .sfits) (both .0) (both .1),
     )
 
 pub is-between-spec : {M : Type 1} → statement M

@@ -7,9 +7,9 @@ use lib.Signed.{leZ, mag}
 use mir.Facts.{toZ-ofZ}
 use mir.Syntax.{w16, w32}
 use mir.Val.{toZ, ofZ}
-use Rattle.model.specs.Runs.{noVariable, within}
+use Rattle.model.specs.Runs.{noVariable, inBounds}
 use Rattle.machines.specs.Files.{variableIn}
-use Rattle.machines.proofs.FileLaws.{variable-is}
+use Rattle.machines.proofs.Files.{variable-is}
 use borrow.Author.Needs.{needs}
 use Rattle.machines.proofs.deeds.is_within.Statement.{statement}
 use Rattle.machines.proofs.deeds.is_within.Tie as tie
@@ -37,7 +37,7 @@ returns c =
     in (
       c .is-between .ensures .0
           ∙ (λ i. leZ (l i) (e i) && leZ (e i) (h i))
-          ∙ ap (λ b. within b (x .z)) (sym (variable-is s (x .values) noVariable (x .v) (a .pre .1))),
+          ∙ ap (λ b. inBounds b (x .z)) (sym (variable-is s (x .values) noVariable (x .v) (a .pre .1))),
       λ t. subst (λ z. mag z < 2 ^ 15) e (c .is-between .ensures .1 t),
     )
 

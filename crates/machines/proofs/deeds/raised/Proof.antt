@@ -6,7 +6,7 @@ use native.Mathlib.Nat.{one-mul}
 use native.Mathlib.Omega.{arith}
 use lib.Pow.{shl-exact}
 use Rattle.model.specs.Runs.{present}
-use Rattle.machines.proofs.DeedLaws.{bit-fits}
+use Rattle.machines.proofs.Worlds.{bit-fits}
 use borrow.Author.Needs.{needs}
 use Rattle.machines.proofs.deeds.raised.Statement.{statement}
 use Rattle.machines.proofs.deeds.raised.Tie as tie

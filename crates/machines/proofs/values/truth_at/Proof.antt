@@ -4,7 +4,7 @@ use denote.Ref.{now}
 use borrow.Author.Needs.{needs}
 use Rattle.expressions.specs.Nodes.{nodeAt}
 use Rattle.expressions.specs.Values.{truth}
-use Rattle.machines.proofs.FileLaws.{lookup-is}
+use Rattle.machines.proofs.Files.{lookup-is}
 use Rattle.machines.proofs.values.truth_at.Statement.{statement}
 use Rattle.machines.proofs.values.truth_at.Tie as tie
 

@@ -7,7 +7,7 @@ use Rattle.model.specs.Calls.{automataTables}
 use Rattle.machines.specs.Playing.{playCall}
 use Rattle.automata.specs.RunOf.{runOf}
 use Rattle.machines.specs.Answers.{cyclesOf}
-use Rattle.automata.proofs.PlayLaws.{few-played}
+use Rattle.automata.proofs.PlayedOf.{few-played}
 use Rattle.automata.proofs.runs.Run as R
 use Rattle.machines.proofs.answers.Cycles as E
 use Rattle.machines.proofs.answers.Cycles.Laws as E′

@@ -7,7 +7,7 @@ use Rattle.model.specs.Calls.{chartSets}
 use Rattle.machines.specs.Playing.{playCall}
 use Rattle.charts.specs.RunOf.{runOf}
 use Rattle.machines.specs.Answers.{cyclesOf}
-use Rattle.charts.proofs.PlayLaws.{few-played}
+use Rattle.charts.proofs.PlayedOf.{few-played}
 use Rattle.charts.proofs.runs.Run as R
 use Rattle.machines.proofs.answers.Cycles as E
 use Rattle.machines.proofs.answers.Cycles.Laws as E′

@@ -4,7 +4,7 @@ use mir.Syntax.{w32}
 use mir.Val.{toZ, ofZ}
 use denote.Ref.{now}
 use Rattle.model.specs.Calls.{numbered}
-use Rattle.paths.proofs.Bounds.{few}
+use Rattle.paths.proofs.AlongBounds.{few}
 use Rattle.machines.specs.Answers.{countCode}
 use borrow.Author.Needs.{needs}
 use Rattle.monuvaleck.proofs.traces.path_back.Statement.{statement}

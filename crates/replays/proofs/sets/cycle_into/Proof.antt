@@ -11,14 +11,14 @@ use Rattle.model.specs.Runs.{Machine, parts, whole-cycle, trace}
 use Rattle.model.specs.ChartSet.{readCharts}
 use Rattle.model.specs.Charts.{charts}
 use Rattle.model.specs.Replay.{traceLines}
-use Rattle.model.proofs.StaysPossible.{Steady}
-use Rattle.model.proofs.Steady.{steady-charts}
-use Rattle.model.proofs.Accepted.{sound}
+use Rattle.model.proofs.ChecksKept.{Steady}
+use Rattle.model.proofs.ChecksKeptBySteps.{steady-charts}
+use Rattle.model.proofs.ChartFileSound.{sound}
 use Rattle.machines.specs.Answers.{reasonOf, answerOf}
-use Rattle.chart_files.proofs.Readings.{most-charts, most-variables, length-initial, length-variables}
+use Rattle.chart_files.proofs.PlacesRead.{most-charts, most-variables, length-initial, length-variables}
 use Rattle.charts.specs.RunOf.{runOf}
 use Rattle.charts.specs.TurnOf.{turnOf}
-use Rattle.charts.proofs.CycleLaws.{PartTurn, part-turn}
+use Rattle.charts.proofs.TurnOfCycle.{PartTurn, part-turn}
 use Rattle.lines.proofs.Texts.{trace-text}
 use Rattle.replays.proofs.Lines.{linesOf, Underway, underway, part-place, underway-next, finished, failed}
 use Rattle.replays.proofs.sets.cycle_into.Statement.{statement}

@@ -9,13 +9,13 @@ use Rattle.records.specs.RefusalOf.{refusalOf}
 use Rattle.model.specs.Runs.{Machine, parts}
 use Rattle.model.specs.AutomataTable.{readAutomata}
 use Rattle.model.specs.Automata.{automata}
-use Rattle.model.proofs.StaysPossible.{Steady}
-use Rattle.model.proofs.Steady.{steady-automata, sound-table}
+use Rattle.model.proofs.ChecksKept.{Steady}
+use Rattle.model.proofs.ChecksKeptBySteps.{steady-automata, sound-table}
 use Rattle.machines.specs.Answers.{reasonOf, answerOf}
-use Rattle.automata_files.proofs.Readings.{most-automata, most-variables, length-initial, length-variables}
+use Rattle.automata_files.proofs.PlacesRead.{most-automata, most-variables, length-initial, length-variables}
 use Rattle.automata.specs.RunOf.{runOf}
 use Rattle.automata.specs.TurnOf.{turnOf}
-use Rattle.charts.proofs.CycleLaws.{PartTurn, part-turn}
+use Rattle.charts.proofs.TurnOfCycle.{PartTurn, part-turn}
 use Rattle.replays.proofs.Lines.{Underway, underway, part-place, underway-next, finished, failed}
 use Rattle.replays.proofs.twins.cycle_into.Statement.{statement}
 use Rattle.replays.proofs.twins.cycle_into.Tie as tie

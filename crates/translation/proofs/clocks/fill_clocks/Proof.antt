@@ -6,10 +6,10 @@ use borrow.Author.Needs.{needs}
 use denote.Ref.{now}
 use lib.ListN.{length, length-replicate}
 use Rattle.model.specs.ChartSet.{readCharts, transition}
-use Rattle.model.specs.Translation.{size, clocksOf, clockOf}
-use Rattle.chart_files.proofs.Readings.{transition-is, length-transitions, most-transitions}
+use Rattle.model.specs.Translation.{transitionCount, clocksOf, clockOf}
+use Rattle.chart_files.proofs.PlacesRead.{transition-is, length-transitions, most-transitions}
 use Rattle.machines.proofs.Filled.{Filled, filled-none, filled-more, filled-padded}
-use Rattle.translation.proofs.ClockLaws.{clock-none, clock-more}
+use Rattle.translation.proofs.TablesClocks.{clock-none, clock-more}
 use Rattle.translation.proofs.clocks.fill_clocks.Statement.{statement}
 use Rattle.translation.proofs.clocks.fill_clocks.Tie as tie
 
@@ -79,9 +79,9 @@ returns c =
     let x = entry .args in
     let l = c .before .before .loop in
     let cs = readCharts (now (x .s)) in
-    let e : l .t ≡ size cs = omega (arith, l .inv .0, length-transitions (now (x .s)) (x .shape) (entry .pre .0), c .if1 .left) in
-    filled-padded (clockOf cs) 0 256 (size cs) (omega (arith, most-transitions (now (x .s)) (x .shape) (entry .pre .0), length-transitions (now (x .s)) (x .shape) (entry .pre .0))) (l .clocks)
-    (subst (λ l₀. Filled (clockOf cs) 0 l₀ (l .clocks) (size cs)) (entry .pre .1) (subst (Filled (clockOf cs) 0 (now (x .clocks)) (l .clocks)) e (l .inv .3)))
+    let e : l .t ≡ transitionCount cs = omega (arith, l .inv .0, length-transitions (now (x .s)) (x .shape) (entry .pre .0), c .if1 .left) in
+    filled-padded (clockOf cs) 0 256 (transitionCount cs) (omega (arith, most-transitions (now (x .s)) (x .shape) (entry .pre .0), length-transitions (now (x .s)) (x .shape) (entry .pre .0))) (l .clocks)
+    (subst (λ l₀. Filled (clockOf cs) 0 l₀ (l .clocks) (transitionCount cs)) (entry .pre .1) (subst (Filled (clockOf cs) 0 (now (x .clocks)) (l .clocks)) e (l .inv .3)))
 
 pub fill-clocks-spec : {M : Type 1} → statement M
 fill-clocks-spec =

@@ -11,10 +11,10 @@ use Rattle.model.specs.AutomataTable.{writeClock}
 use Rattle.model.specs.Translation.{clocksOf}
 use Rattle.chart_files.specs.Places.{transitionAt}
 use Rattle.chart_files.proofs.ListLaws.{gather-map}
-use Rattle.chart_files.proofs.Readings.{transitions-are, most-transitions}
+use Rattle.chart_files.proofs.PlacesRead.{transitions-are, most-transitions}
 use Rattle.translation.specs.Texts.{section}
-use Rattle.translation.proofs.Written.{Texts, texts-start, texts-step, texts-end, puts-as}
-use Rattle.translation.proofs.SectionLaws.{gathered-text}
+use Rattle.translation.proofs.TextsWritten.{Texts, texts-start, texts-step, texts-end, puts-as}
+use Rattle.translation.proofs.TextsSections.{gathered-text}
 use Rattle.translation.proofs.clocks.put_clocks.Statement.{statement}
 use Rattle.translation.proofs.clocks.put_clocks.Tie as tie
 

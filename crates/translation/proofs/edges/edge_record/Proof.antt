@@ -6,11 +6,11 @@ use native.Mathlib.Omega.{arith}
 use borrow.Author.Needs.{needs}
 use denote.Ref.{now}
 use Rattle.records.specs.Bytes.{bytes2}
+use Rattle.model.specs.Owned.{home}
 use Rattle.model.specs.ChartSet.{readCharts, transition}
-use Rattle.model.specs.Translation.{chartOf}
 use Rattle.chart_files.specs.Places.{transitionAt}
-use Rattle.chart_files.proofs.Readings.{transition-is, home-is}
-use Rattle.charts.proofs.Sound.{source-known}
+use Rattle.chart_files.proofs.PlacesRead.{transition-is, home-is}
+use Rattle.charts.proofs.Accepted.{source-known}
 use Rattle.translation.specs.Texts.{recordText}
 use Rattle.translation.proofs.edges.edge_record.Statement.{statement}
 use Rattle.translation.proofs.edges.edge_record.Tie as tie
@@ -37,8 +37,8 @@ returns c =
     let source : c .before .before .before .source-of .result ≡ transition cs (x .t) .source = c .before .before .before .source-of .ensures ∙ ap (λ y. y .source) same in
     let target : c .before .target-of .result ≡ transition cs (x .t) .target = c .before .target-of .ensures ∙ ap (λ y. y .target) same in
     let known : c .before .before .before .source-of .result < x .shape .states = omega (arith, c .before .before .before .source-of .ensures, source-known (now (x .s)) (x .shape) ok (x .t) (entry .pre .1)) in
-    let home : c .before .before .home-of .result ≡ chartOf cs (transition cs (x .t) .source) =
-    c .before .before .home-of .ensures ∙ sym (home-is (now (x .s)) (x .shape) (ok .shape) (c .before .before .before .source-of .result) known) ∙ ap (chartOf cs) source in
+    let home : c .before .before .home-of .result ≡ home (cs .homes) (transition cs (x .t) .source) =
+    c .before .before .home-of .ensures ∙ sym (home-is (now (x .s)) (x .shape) (ok .shape) (c .before .before .before .source-of .result) known) ∙ ap (home (cs .homes)) source in
     c .edge-bytes .ensures ∙ (λ i. recordText 35 (home i ∷ bytes2 (source i) ++ bytes2 (target i) ++ (0 ∷ [])))
 
 pub edge-record-spec : {M : Type 1} → statement M

@@ -5,7 +5,7 @@ use Prim.Native.Nat.{_+_, _-_}
 use borrow.Author.Needs.{needs}
 use denote.Ref.{now}
 use Rattle.records.specs.Bytes.{bytes2}
-use Rattle.chart_files.proofs.Readings.{home-is}
+use Rattle.chart_files.proofs.PlacesRead.{home-is}
 use Rattle.translation.specs.Texts.{recordText}
 use Rattle.translation.proofs.edges.idle_record.Statement.{statement}
 use Rattle.translation.proofs.edges.idle_record.Tie as tie

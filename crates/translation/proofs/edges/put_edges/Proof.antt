@@ -7,12 +7,12 @@ use borrow.Author.Needs.{needs}
 use denote.Ref.{now}
 use Rattle.model.specs.ChartSet.{readCharts}
 use Rattle.translation.specs.Texts.{recordText}
-use Rattle.translation.proofs.Written.{Texts, texts-start, texts-step, texts-end, puts-as}
-use Rattle.translation.proofs.SectionLaws.{placed-text}
+use Rattle.translation.proofs.TextsWritten.{Texts, texts-start, texts-step, texts-end, puts-as}
+use Rattle.translation.proofs.TextsSections.{placed-text}
 use Rattle.records.specs.Lists.{upto}
 use Rattle.model.specs.AutomataTable.{writeEdge}
-use Rattle.model.specs.Translation.{size, edgeOf}
-use Rattle.chart_files.proofs.Readings.{length-transitions, most-transitions}
+use Rattle.model.specs.Translation.{transitionCount, edgeOf}
+use Rattle.chart_files.proofs.PlacesRead.{length-transitions, most-transitions}
 use Rattle.translation.proofs.edges.put_edges.Statement.{statement}
 use Rattle.translation.proofs.edges.put_edges.Tie as tie
 
@@ -53,7 +53,7 @@ returns c =
     let entry = c .before .before .before .before .before in
     let x = entry .args in
     let is = entry .pre .0 .shape in
-    texts-end _ _ _ _ _ _ (placed-text 35 writeEdge (edgeOf (readCharts (now (x .s)))) (map (edgeOf (readCharts (now (x .s)))) (upto (size (readCharts (now (x .s)))))) (x .shape .transitions) (ap (λ n. map (edgeOf (readCharts (now (x .s)))) (upto n)) (length-transitions (now (x .s)) (x .shape) is))) (2 ^ 40) (omega (arith, most-transitions (now (x .s)) (x .shape) is)) (c .before .before .loop .inv) (c .if1 .left)
+    texts-end _ _ _ _ _ _ (placed-text 35 writeEdge (edgeOf (readCharts (now (x .s)))) (map (edgeOf (readCharts (now (x .s)))) (upto (transitionCount (readCharts (now (x .s)))))) (x .shape .transitions) (ap (λ n. map (edgeOf (readCharts (now (x .s)))) (upto n)) (length-transitions (now (x .s)) (x .shape) is))) (2 ^ 40) (omega (arith, most-transitions (now (x .s)) (x .shape) is)) (c .before .before .loop .inv) (c .if1 .left)
 
 pub put-edges-spec : {M : Type 1} → statement M
 put-edges-spec =

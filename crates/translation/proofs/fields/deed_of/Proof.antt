@@ -7,7 +7,7 @@ use denote.Ref.{now}
 use lib.ListN.{length}
 use Rattle.records.specs.Bytes.{byte, two}
 use Rattle.model.specs.ChartSet.{readDeed}
-use Rattle.chart_files.proofs.Readings.{inside}
+use Rattle.chart_files.proofs.PlacesRead.{inside}
 use Rattle.translation.proofs.fields.deed_of.Statement.{statement}
 use Rattle.translation.proofs.fields.deed_of.Tie as tie
 

@@ -6,7 +6,7 @@ use borrow.Author.Needs.{needs}
 use denote.Ref.{now}
 use Rattle.records.specs.Bytes.{two}
 use Rattle.model.specs.ChartSet.{readGuard}
-use Rattle.chart_files.proofs.Readings.{inside}
+use Rattle.chart_files.proofs.PlacesRead.{inside}
 use Rattle.translation.proofs.fields.guard_of.Statement.{statement}
 use Rattle.translation.proofs.fields.guard_of.Tie as tie
 

@@ -5,7 +5,7 @@ use native.Mathlib.Omega.{arith}
 use borrow.Author.Needs.{needs}
 use denote.Ref.{now}
 use Rattle.records.specs.Bytes.{byte}
-use Rattle.chart_files.proofs.Readings.{inside}
+use Rattle.chart_files.proofs.PlacesRead.{inside}
 use Rattle.translation.proofs.fields.priority_of.Statement.{statement}
 use Rattle.translation.proofs.fields.priority_of.Tie as tie
 

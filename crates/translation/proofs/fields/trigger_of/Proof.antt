@@ -7,7 +7,7 @@ use denote.Ref.{now}
 use lib.ListN.{length}
 use Rattle.records.specs.Bytes.{byte, four}
 use Rattle.chart_files.specs.Places.{triggerBy}
-use Rattle.chart_files.proofs.Readings.{inside}
+use Rattle.chart_files.proofs.PlacesRead.{inside}
 use Rattle.translation.proofs.fields.trigger_of.Statement.{statement}
 use Rattle.translation.proofs.fields.trigger_of.Tie as tie
 

@@ -4,11 +4,11 @@ use Prim.Native.Nat.{ℕ, _-_, _*_, _<_, _≤_}
 use native.Mathlib.Omega.{arith}
 use denote.Ref.{now}
 use lib.ListN.{getD}
-use Rattle.chart_files.proofs.Readings.{most-actions}
+use Rattle.chart_files.proofs.PlacesRead.{most-actions}
 use Rattle.charts.specs.Tables.{keyAt, keyed}
 use Rattle.model.specs.AutomataTable.{bit}
 use Rattle.model.proofs.Sums.{sum-alike, count-from}
-use Rattle.translation.proofs.CountLaws.{share, Added, added-none, added-more, added-most, share-one}
+use Rattle.translation.proofs.TablesCounts.{share, Added, added-none, added-more, added-most, share-one}
 use Rattle.translation.proofs.lengths.count_actions.Statement.{statement}
 use Rattle.translation.proofs.lengths.count_actions.Tie as tie
 

@@ -4,14 +4,14 @@ use Prim.Native.Nat.{ℕ, _+_, _-_, _*_, _<_, _≤_}
 use native.Mathlib.Omega.{arith}
 use denote.Ref.{now}
 use lib.ListN.{length, getD}
-use Rattle.chart_files.proofs.Readings.{transition-is, length-transitions, most-states, most-transitions}
-use Rattle.charts.proofs.Sound.{source-known, target-known}
+use Rattle.chart_files.proofs.PlacesRead.{transition-is, length-transitions, most-states, most-transitions}
+use Rattle.charts.proofs.Accepted.{source-known, target-known}
 use Rattle.model.specs.ChartSet.{readCharts}
-use Rattle.model.specs.Translation.{size, updatesOf, clocksLeaving, resetsOf}
+use Rattle.model.specs.Translation.{transitionCount, updatesOf, clocksLeaving, resetsOf}
 use Rattle.model.proofs.Sums.{sumFrom}
-use Rattle.model.proofs.TwinCounts.{few-updates-of, few-resets-of}
-use Rattle.translation.proofs.EdgeLaws.{updates-count}
-use Rattle.translation.proofs.CountLaws.{sum-none, sum-more, effectsOf, effects-are}
+use Rattle.model.proofs.TranslationCounts.{updatesOf-few, resetsOf-few}
+use Rattle.translation.proofs.TextsEdges.{updates-count}
+use Rattle.translation.proofs.TablesCounts.{sum-none, sum-more, effectsOf, effects-are}
 use Rattle.translation.proofs.lengths.count_effects.Statement.{statement}
 use Rattle.translation.proofs.lengths.count_effects.Tie as tie
 
@@ -82,8 +82,8 @@ few-here c =
     let entry = k .before .before .before .before .before in
     let x = entry .args in
     let t = k .before .before .before .loop .t in
-    let h : t < size (readCharts (now (x .s))) = omega (arith, k .before .if1 .taken, length-transitions (now (x .s)) (x .shape) (entry .pre .0 .shape)) in
-    omega (arith, effects-here c, few-updates-of (now (x .s)) (entry .pre .0 .unrefused) t h, few-resets-of (now (x .s)) (entry .pre .0 .unrefused) t h)
+    let h : t < transitionCount (readCharts (now (x .s))) = omega (arith, k .before .if1 .taken, length-transitions (now (x .s)) (x .shape) (entry .pre .0 .shape)) in
+    omega (arith, effects-here c, updatesOf-few (now (x .s)) (entry .pre .0 .unrefused) t h, resetsOf-few (now (x .s)) (entry .pre .0 .unrefused) t h)
 
 -- both ends are states
 ends : (c : tie.After-target-of Inv-loop μ-loop) → (c .before .source-of .result < 128) × (c .target-of .result < 128)
@@ -165,7 +165,7 @@ returns c =
     let x = entry .args in
     let l = c .before .before .loop in
     let cs = readCharts (now (x .s)) in
-    let e : l .t ≡ size cs = omega (arith, l .inv .0, c .if1 .left, length-transitions (now (x .s)) (x .shape) (entry .pre .0 .shape)) in
+    let e : l .t ≡ transitionCount cs = omega (arith, l .inv .0, c .if1 .left, length-transitions (now (x .s)) (x .shape) (entry .pre .0 .shape)) in
     l .inv .1 ∙ ap (sumFrom (effectsOf cs) 0) e ∙ effects-are cs
 
 pub count-effects-spec : {M : Type 1} → statement M

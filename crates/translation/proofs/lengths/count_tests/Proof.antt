@@ -7,15 +7,15 @@ use denote.Ref.{now}
 use lib.ListN.{length, getD}
 use lib.Seq.{take-length}
 use Rattle.records.specs.Lists.{gather}
-use Rattle.chart_files.proofs.Readings.{transition-is, length-transitions, most-states, most-transitions}
-use Rattle.charts.proofs.Sound.{source-known}
+use Rattle.chart_files.proofs.PlacesRead.{transition-is, length-transitions, most-states, most-transitions}
+use Rattle.charts.proofs.Accepted.{source-known}
 use Rattle.model.specs.ChartSet.{readCharts, transition}
-use Rattle.model.specs.Translation.{size, clocksOf, clockOf, twin}
+use Rattle.model.specs.Translation.{transitionCount, clocksOf, clockOf, twin}
 use Rattle.model.proofs.Sums.{sumFrom, sum-alike}
-use Rattle.model.proofs.TwinCounts.{at-most-one}
+use Rattle.model.proofs.TranslationCounts.{clocksOf-few}
 use Rattle.translation.specs.Tables.{sourceOf}
-use Rattle.translation.proofs.ClockLaws.{clock-none, clock-more}
-use Rattle.translation.proofs.CountLaws.{sum-none, sum-more, earlier, alike, share, Added, added-none, added-more, added-most, share-one, clocksAt, resets-are, literals-are}
+use Rattle.translation.proofs.TablesClocks.{clock-none, clock-more}
+use Rattle.translation.proofs.TablesCounts.{sum-none, sum-more, earlier, alike, share, Added, added-none, added-more, added-most, share-one, clocksAt, resets-are, literals-are}
 use Rattle.translation.proofs.lengths.count_tests.Statement.{statement}
 use Rattle.translation.proofs.lengths.count_tests.Tie as tie
 
@@ -67,7 +67,7 @@ resets-few : (c : tie.After-source-of Inv-loop μ-loop) → getD (c .before .bef
 resets-few c =
     let x = c .before .before .before .before .before .args in
     let cs = readCharts (now (x .s)) in
-    omega (arith, added-most (sourceOf cs) (clocksAt cs) 128 (c .source-of .result) 1 (c .before .before .before .loop .inv .4) (λ j. at-most-one (transition cs j .trigger)) (in-states c))
+    omega (arith, added-most (sourceOf cs) (clocksAt cs) 128 (c .source-of .result) 1 (c .before .before .before .loop .inv .4) (λ j. clocksOf-few (transition cs j .trigger)) (in-states c))
 
 cast-source : tie.Need-cast-source Inv-loop μ-loop
 cast-source c = omega (arith, in-states c)
@@ -143,7 +143,7 @@ loop-again c =
     let x = entry .args in
     let cs = readCharts (now (x .s)) in
     let t = l .t in
-    let h : t < size cs = omega (arith, k .before .if1 .taken, length-transitions (now (x .s)) (x .shape) (entry .pre .0 .shape)) in
+    let h : t < transitionCount cs = omega (arith, k .before .if1 .taken, length-transitions (now (x .s)) (x .shape) (entry .pre .0 .shape)) in
     let source = k .source-of .result in
     let before : getD (l .leaving) source 0 ≡ earlier (sourceOf cs) t =
     l .inv .3 .sums source (in-states k)
@@ -162,9 +162,9 @@ returns c =
     let x = entry .args in
     let l = c .before .before .loop in
     let cs = readCharts (now (x .s)) in
-    let e : l .t ≡ size cs = omega (arith, l .inv .0, c .if1 .left, length-transitions (now (x .s)) (x .shape) (entry .pre .0 .shape)) in
-    let clocks : clockOf cs (size cs) ≡ length (twin cs .clocks) = ap (λ ts. length (gather (λ y. clocksOf (y .trigger)) ts)) (take-length (cs .transitions)) in
-    let n : l .n ≡ sumFrom (earlier (sourceOf cs)) 0 (size cs) + 2 * size cs + clockOf cs (size cs) = subst (λ t. l .n ≡ sumFrom (earlier (sourceOf cs)) 0 t + 2 * t + clockOf cs t) e (l .inv .1) in (
+    let e : l .t ≡ transitionCount cs = omega (arith, l .inv .0, c .if1 .left, length-transitions (now (x .s)) (x .shape) (entry .pre .0 .shape)) in
+    let clocks : clockOf cs (transitionCount cs) ≡ length (twin cs .clocks) = ap (λ ts. length (gather (λ y. clocksOf (y .trigger)) ts)) (take-length (cs .transitions)) in
+    let n : l .n ≡ sumFrom (earlier (sourceOf cs)) 0 (transitionCount cs) + 2 * transitionCount cs + clockOf cs (transitionCount cs) = subst (λ t. l .n ≡ sumFrom (earlier (sourceOf cs)) 0 t + 2 * t + clockOf cs t) e (l .inv .1) in (
       omega (arith, n, clocks, literals-are (now (x .s)) (entry .pre .0 .unrefused)),
       λ st h. subst (Added (sourceOf cs) (clocksAt cs) 128 (l .resets)) e (l .inv .4) .sums st h ∙ resets-are cs st,
     )

@@ -5,12 +5,12 @@ use native.Mathlib.Omega.{arith}
 use borrow.Author.Needs.{needs}
 use denote.Ref.{now}
 use lib.ListN.{length}
-use Rattle.chart_files.proofs.Readings.{length-initial, length-homes, length-transitions, length-variables, length-nodes, most-charts, most-states, most-transitions, most-variables, most-nodes}
+use Rattle.chart_files.proofs.PlacesRead.{length-initial, length-homes, length-transitions, length-variables, length-nodes, most-charts, most-states, most-transitions, most-variables, most-nodes}
 use Rattle.model.specs.ChartSet.{readCharts}
 use Rattle.model.specs.Translation.{twin}
-use Rattle.model.proofs.TwinParts.{edge-count}
-use Rattle.model.proofs.TwinCounts.{few-literals, few-clocks, few-updates, few-resets}
-use Rattle.model.proofs.TwinAccepted.{length-twin}
+use Rattle.model.proofs.TranslationEdges.{edges-count}
+use Rattle.model.proofs.TranslationCounts.{literals-few, clocks-few, updates-few, resets-few}
+use Rattle.model.proofs.TranslationAccepted.{length-twin}
 use Rattle.translation.proofs.lengths.twin_length.Statement.{statement}
 use Rattle.translation.proofs.lengths.twin_length.Tie as tie
 
@@ -43,7 +43,7 @@ few-counted c =
     let entry = c .before .before .before .before .before .before .before .before in
     let s = now (entry .args .s) in
     let ok = entry .pre .unrefused in
-    omega (arith, c .before .before .before .count-tests .ensures .0, c .count-effects .ensures, few-literals s ok, few-clocks s ok, few-updates s ok, few-resets s ok)
+    omega (arith, c .before .before .before .count-tests .ensures .0, c .count-effects .ensures, literals-few s ok, clocks-few s ok, updates-few s ok, resets-few s ok)
 
 cast-copied : tie.Need-cast-copied
 cast-copied c = omega (arith, few-copied c)
@@ -77,7 +77,7 @@ returns c =
     omega (
       arith,
       length-twin s (entry .pre .unrefused),
-      edge-count (readCharts s),
+      edges-count (readCharts s),
       c .before .before .first-node .ensures,
       tests .count-tests .ensures .0,
       effects .count-effects .ensures,

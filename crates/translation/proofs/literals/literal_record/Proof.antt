@@ -7,13 +7,13 @@ use denote.Ref.{now}
 use mathlib.Core.List.{_∷_, _++_}
 use Rattle.records.specs.Bytes.{bytes2}
 use Rattle.model.specs.ChartSet.{readCharts, transition}
-use Rattle.model.specs.AutomataTable.{writeCause, writeGuard}
-use Rattle.model.specs.Translation.{causeOf}
+use Rattle.model.specs.AutomataTable.{writeLiteralTrigger, writeGuard}
+use Rattle.model.specs.Translation.{literalTriggerOf}
 use Rattle.chart_files.specs.Parts.{triggerFor}
 use Rattle.chart_files.specs.Places.{transitionAt}
-use Rattle.chart_files.proofs.Readings.{transition-is, length-transitions, most-transitions}
+use Rattle.chart_files.proofs.PlacesRead.{transition-is, length-transitions, most-transitions}
 use Rattle.translation.specs.Texts.{recordText}
-use Rattle.translation.proofs.ClockLaws.{clock-at}
+use Rattle.translation.proofs.TablesClocks.{clock-at}
 use Rattle.translation.proofs.literals.literal_record.Statement.{statement}
 use Rattle.translation.proofs.literals.literal_record.Tie as tie
 
@@ -68,7 +68,7 @@ returns c =
     let guard : bytes2 (c .before .before .before .before .before .guard-number .result) ≡ writeGuard (transition cs (x .t) .guard) = c .before .before .before .before .before .guard-number .ensures ∙ ap writeGuard (c .before .before .before .before .before .before .guard-of .ensures ∙ ap (λ y. y .guard) same) in
     let trigger = ap triggerFor (sym (c .before .enum-told .given .1)) ∙ c .before .before .before .trigger-of .ensures ∙ ap (λ y. y .trigger) same in
     c .literal-bytes .ensures
-    ∙ (λ i. recordText 36 (x .sign ∷ bytes2 (x .edge) ++ writeCause (causeOf cs (x .t) (trigger i)) ++ guard i))
+    ∙ (λ i. recordText 36 (x .sign ∷ bytes2 (x .edge) ++ writeLiteralTrigger (literalTriggerOf cs (x .t) (trigger i)) ++ guard i))
 
 returns-2 : tie.Need-returns-2
 returns-2 c =
@@ -79,7 +79,7 @@ returns-2 c =
     let guard : bytes2 (c .before .before .before .before .before .before .guard-number .result) ≡ writeGuard (transition cs (x .t) .guard) = c .before .before .before .before .before .before .guard-number .ensures ∙ ap writeGuard (c .before .before .before .before .before .before .before .guard-of .ensures ∙ ap (λ y. y .guard) same) in
     let trigger = ap triggerFor (sym (c .before .before .e .given .1)) ∙ c .before .before .before .before .trigger-of .ensures ∙ ap (λ y. y .trigger) same in
     c .literal-bytes2 .ensures
-    ∙ (λ i. recordText 36 (x .sign ∷ bytes2 (x .edge) ++ writeCause (causeOf cs (x .t) (trigger i)) ++ guard i))
+    ∙ (λ i. recordText 36 (x .sign ∷ bytes2 (x .edge) ++ writeLiteralTrigger (literalTriggerOf cs (x .t) (trigger i)) ++ guard i))
 
 returns-3 : tie.Need-returns-3
 returns-3 c =
@@ -91,7 +91,7 @@ returns-3 c =
     let trigger = ap triggerFor (sym (c .before .enum-told2 .given .1)) ∙ c .before .before .before .trigger-of .ensures ∙ ap (λ y. y .trigger) same in
     c .literal-bytes3 .ensures
     ∙ ap (λ n. recordText 36 (x .sign ∷ bytes2 (x .edge) ++ (2 ∷ 0 ∷ bytes2 n) ++ bytes2 (c .before .before .before .before .before .guard-number .result))) (clock-at cs (now (x .clocks)) (entry .pre .1) (x .t) (omega (arith, length-transitions (now (x .s)) (x .shape) (entry .pre .0 .shape), entry .pre .2)))
-    ∙ (λ i. recordText 36 (x .sign ∷ bytes2 (x .edge) ++ writeCause (causeOf cs (x .t) (trigger i)) ++ guard i))
+    ∙ (λ i. recordText 36 (x .sign ∷ bytes2 (x .edge) ++ writeLiteralTrigger (literalTriggerOf cs (x .t) (trigger i)) ++ guard i))
 
 returns-4 : tie.Need-returns-4
 returns-4 c =
@@ -103,7 +103,7 @@ returns-4 c =
     let trigger = ap triggerFor (sym (c .before .enum-told3 .given .1)) ∙ c .before .before .before .trigger-of .ensures ∙ ap (λ y. y .trigger) same in
     c .literal-bytes4 .ensures
     ∙ ap (λ n. recordText 36 (x .sign ∷ bytes2 (x .edge) ++ (2 ∷ 0 ∷ bytes2 n) ++ bytes2 (c .before .before .before .before .before .guard-number .result))) (clock-at cs (now (x .clocks)) (entry .pre .1) (x .t) (omega (arith, length-transitions (now (x .s)) (x .shape) (entry .pre .0 .shape), entry .pre .2)))
-    ∙ (λ i. recordText 36 (x .sign ∷ bytes2 (x .edge) ++ writeCause (causeOf cs (x .t) (trigger i)) ++ guard i))
+    ∙ (λ i. recordText 36 (x .sign ∷ bytes2 (x .edge) ++ writeLiteralTrigger (literalTriggerOf cs (x .t) (trigger i)) ++ guard i))
 
 pub literal-record-spec : {M : Type 1} → statement M
 literal-record-spec =

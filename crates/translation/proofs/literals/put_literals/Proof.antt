@@ -5,9 +5,9 @@ use native.Mathlib.Omega.{arith}
 use denote.Ref.{now}
 use Rattle.records.specs.Lists.{gather, upto}
 use Rattle.model.specs.ChartSet.{readCharts}
-use Rattle.translation.proofs.Written.{Texts, texts-start, texts-step, texts-end}
+use Rattle.translation.proofs.TextsWritten.{Texts, texts-start, texts-step, texts-end}
 use Rattle.model.specs.Translation.{literalsOf}
-use Rattle.chart_files.proofs.Readings.{length-transitions, most-states, most-transitions}
+use Rattle.chart_files.proofs.PlacesRead.{length-transitions, most-states, most-transitions}
 use Rattle.translation.specs.Texts.{literalTexts}
 use Rattle.translation.proofs.literals.put_literals.Statement.{statement}
 use Rattle.translation.proofs.literals.put_literals.Tie as tie

@@ -8,14 +8,14 @@ use mathlib.Core.List.{List, [], _∷_, _++_, map}
 use mathlib.Core.Bool.{true, false}
 use Rattle.model.specs.ChartSet.{readCharts, transition}
 use Rattle.model.specs.AutomataTable.{Literal, writeLiteral}
-use Rattle.model.specs.Translation.{literal, above}
+use Rattle.model.specs.Translation.{literal, triedBefore}
 use Rattle.chart_files.specs.Places.{transitionAt}
-use Rattle.chart_files.proofs.Readings.{transition-is}
-use Rattle.charts.proofs.Sound.{priority-known, source-known}
+use Rattle.chart_files.proofs.PlacesRead.{transition-is}
+use Rattle.charts.proofs.Accepted.{priority-known, source-known}
 use Rattle.translation.specs.Texts.{recordText, literalTexts}
 use Rattle.model.proofs.ListLaws.{gather-append}
 use Rattle.translation.proofs.Gathered.{gather-one}
-use Rattle.translation.proofs.Written.{puts-as, puts-then}
+use Rattle.translation.proofs.TextsWritten.{puts-as, puts-then}
 use Rattle.translation.proofs.literals.put_literals_of.Statement.{statement}
 use Rattle.translation.proofs.literals.put_literals_of.Tie as tie
 
@@ -71,8 +71,8 @@ returns c =
     (let e : c .before .before .before .before .before .before .before .before .before .before .priority-of .result - 1 + 1 ≡ c .before .before .before .before .before .before .before .before .before .before .priority-of .result = omega (arith, c .before .before .before .before .before .before .before .before .before .before .priority-of .ensures, known) in e) ∙ c .before .before .before .before .before .before .before .before .before .before .priority-of .ensures ∙ ap (λ y. y .priority) same in
     let text : Literal → List ℕ = λ l. recordText 36 (writeLiteral (x .t, l)) in
     puts-as _
-    ((λ i. literalTexts (x .t) (map (literal cs false) (above cs (source i) (priority i))) ++ (c .before .before .before .before .literal-record .ensures ∙ sym (gather-one text (literal cs true (x .t)))) i)
-    ∙ sym (gather-append text (map (literal cs false) (above cs (transition cs (x .t) .source) (transition cs (x .t) .priority))) (literal cs true (x .t) ∷ [])))
+    ((λ i. literalTexts (x .t) (map (literal cs false) (triedBefore cs (source i) (priority i))) ++ (c .before .before .before .before .literal-record .ensures ∙ sym (gather-one text (literal cs true (x .t)))) i)
+    ∙ sym (gather-append text (map (literal cs false) (triedBefore cs (transition cs (x .t) .source) (transition cs (x .t) .priority))) (literal cs true (x .t) ∷ [])))
     (puts-then (2 ^ 22) (omega arith) (c .before .before .before .before .before .before .before .put-negations .ensures) (c .before .before .put-record .ensures))
 
 pub put-literals-of-spec : {M : Type 1} → statement M

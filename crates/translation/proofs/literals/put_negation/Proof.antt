@@ -11,7 +11,7 @@ use Rattle.model.specs.AutomataTable.{Literal, writeLiteral}
 use Rattle.model.specs.Translation.{literal}
 use Rattle.translation.specs.Texts.{recordText, literalTexts}
 use Rattle.translation.proofs.Gathered.{gather-none, gather-one}
-use Rattle.translation.proofs.Written.{puts-as, puts-nothing}
+use Rattle.translation.proofs.TextsWritten.{puts-as, puts-nothing}
 use Rattle.translation.proofs.literals.put_negation.Statement.{statement}
 use Rattle.translation.proofs.literals.put_negation.Tie as tie
 

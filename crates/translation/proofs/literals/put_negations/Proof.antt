@@ -8,11 +8,11 @@ use mathlib.Core.Bool.{false}
 use Rattle.model.specs.ChartSet.{readCharts}
 use Rattle.model.specs.Translation.{literal}
 use Rattle.charts.specs.Tables.{named}
-use Rattle.charts.proofs.RowLaws.{place-of}
-use Rattle.charts.proofs.StepLaws.{named-one}
+use Rattle.charts.proofs.TablesRow.{place-of}
+use Rattle.charts.proofs.StepOf.{named-one}
 use Rattle.translation.specs.Texts.{literalTexts}
-use Rattle.translation.proofs.Written.{Texts, texts-start, texts-step, texts-end, puts-as}
-use Rattle.translation.proofs.EdgeLaws.{notsText, nots-text}
+use Rattle.translation.proofs.TextsWritten.{Texts, texts-start, texts-step, texts-end, puts-as}
+use Rattle.translation.proofs.TextsEdges.{notsText, nots-text}
 use Rattle.translation.proofs.literals.put_negations.Statement.{statement}
 use Rattle.translation.proofs.literals.put_negations.Tie as tie
 

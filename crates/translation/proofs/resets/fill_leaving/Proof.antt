@@ -6,11 +6,11 @@ use borrow.Author.Needs.{needs}
 use denote.Ref.{now}
 use lib.ListN.{drop, replicate}
 use lib.Seq.{drop-set-lt}
-use Rattle.chart_files.proofs.Readings.{length-transitions, most-states, most-transitions}
-use Rattle.machines.proofs.Chaining.{Chains, chains-none, chains-more, chains-made}
-use Rattle.charts.proofs.RowLaws.{sourceAt}
-use Rattle.charts.proofs.Sound.{source-known}
-use Rattle.translation.proofs.EdgeLaws.{leaving-are}
+use Rattle.chart_files.proofs.PlacesRead.{length-transitions, most-states, most-transitions}
+use Rattle.machines.proofs.Chains.{Chains, chains-none, chains-more, chains-made}
+use Rattle.charts.proofs.TablesRow.{sourceAt}
+use Rattle.charts.proofs.Accepted.{source-known}
+use Rattle.translation.proofs.TextsEdges.{leaving-are}
 use Rattle.translation.proofs.resets.fill_leaving.Statement.{statement}
 use Rattle.translation.proofs.resets.fill_leaving.Tie as tie
 

@@ -6,21 +6,21 @@ use native.Mathlib.Omega.{arith}
 use borrow.Author.Needs.{needs}
 use denote.Ref.{now}
 use Rattle.model.specs.ChartSet.{readCharts}
-use Rattle.model.specs.Translation.{size, clocksOf}
-use Rattle.chart_files.proofs.Readings.{transition-is, length-transitions, most-states, most-transitions}
+use Rattle.model.specs.Translation.{transitionCount, clocksOf}
+use Rattle.chart_files.proofs.PlacesRead.{transition-is, length-transitions, most-states, most-transitions}
 use Rattle.chart_files.specs.declared.Shape.{Shape}
 use Rattle.machines.specs.Chains.{withKey}
 use Rattle.charts.specs.Accepted.{Accepted}
 use Rattle.translation.specs.Tables.{sourceOf}
 use Rattle.translation.specs.Texts.{resetTexts}
-use Rattle.translation.proofs.Written.{Along, along-start, along-rises, along-more, along-end, puts-as}
-use Rattle.translation.proofs.ClockLaws.{clock-at}
-use Rattle.translation.proofs.EdgeLaws.{clockResets, resets-text}
+use Rattle.translation.proofs.TextsWritten.{Along, along-start, along-rises, along-more, along-end, puts-as}
+use Rattle.translation.proofs.TablesClocks.{clock-at}
+use Rattle.translation.proofs.TextsEdges.{clockResets, resets-text}
 use Rattle.translation.proofs.resets.put_leaving.Statement.{statement}
 use Rattle.translation.proofs.resets.put_leaving.Tie as tie
 
 abbrev Inv-loop : tie.InvT-loop
-Inv-loop s shape clocks first next out₀ at edge state place₀ t₀ out place t = Along (withKey (sourceOf (readCharts s)) state) (size (readCharts s)) (clockResets (readCharts s) edge state) out₀ at out place t
+Inv-loop s shape clocks first next out₀ at edge state place₀ t₀ out place t = Along (withKey (sourceOf (readCharts s)) state) (transitionCount (readCharts s)) (clockResets (readCharts s) edge state) out₀ at out place t
 
 abbrev μ-loop : tie.MeasureT-loop
 μ-loop s shape clocks first next out₀ at edge state place₀ t₀ out place t = 65536 - t
@@ -37,7 +37,7 @@ element-copy-out-t c =
     let x = entry .args in
     omega (arith, entry .pre .3, most-states (now (x .s)) (x .shape) (entry .pre .0 .shape))
 
-few : (s : List ℕ) (sh : Shape) → Accepted s sh → size (readCharts s) < 65536
+few : (s : List ℕ) (sh : Shape) → Accepted s sh → transitionCount (readCharts s) < 65536
 few s sh ok = omega (arith, length-transitions s sh (ok .shape), most-transitions s sh (ok .shape))
 
 small : (s : List ℕ) (sh : Shape) (st : ℕ) → Accepted s sh → st < sh .states → st < 128
@@ -49,7 +49,7 @@ loop-holds c =
     let x = entry .args in
     along-start _ _ _ (now (x .first)) (now (x .next)) (entry .pre .2) (few (now (x .s)) (x .shape) (entry .pre .0)) (x .state) (small (now (x .s)) (x .shape) (x .state) (entry .pre .0) (entry .pre .3)) _ _ _
 
-known : (c : tie.In-loop Inv-loop μ-loop) → c .before .loop .t < size (readCharts (now (c .before .before .before .before .before .args .s)))
+known : (c : tie.In-loop Inv-loop μ-loop) → c .before .loop .t < transitionCount (readCharts (now (c .before .before .before .before .before .args .s)))
 known c = c .before .loop .inv .at-hand .known (c .loop-test .taken) .0
 
 inside : (c : tie.In-loop Inv-loop μ-loop) → (c .before .loop .t < c .before .before .before .before .before .args .shape .transitions) × (c .before .loop .t < 256)

@@ -6,10 +6,10 @@ use borrow.Author.Needs.{needs}
 use denote.Ref.{now}
 use Rattle.records.specs.Lists.{gather, upto}
 use Rattle.model.specs.ChartSet.{readCharts}
-use Rattle.translation.proofs.Written.{Texts, texts-start, texts-step, texts-end, puts-as}
+use Rattle.translation.proofs.TextsWritten.{Texts, texts-start, texts-step, texts-end, puts-as}
 use Rattle.model.specs.Translation.{clocksLeaving, resetsOf}
-use Rattle.chart_files.proofs.Readings.{transition-is, length-transitions, most-states, most-transitions}
-use Rattle.charts.proofs.Sound.{target-known}
+use Rattle.chart_files.proofs.PlacesRead.{transition-is, length-transitions, most-states, most-transitions}
+use Rattle.charts.proofs.Accepted.{target-known}
 use Rattle.translation.specs.Texts.{resetTexts}
 use Rattle.translation.proofs.resets.put_resets.Statement.{statement}
 use Rattle.translation.proofs.resets.put_resets.Tie as tie

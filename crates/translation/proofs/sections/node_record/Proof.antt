@@ -7,9 +7,9 @@ use borrow.Author.Needs.{needs}
 use denote.Ref.{now}
 use lib.ListN.{length}
 use Rattle.records.specs.Bytes.{byte, two, four}
-use Rattle.chart_files.proofs.Readings.{inside}
+use Rattle.chart_files.proofs.PlacesRead.{inside}
 use Rattle.translation.specs.Texts.{recordText}
-use Rattle.translation.proofs.NodeLaws.{nodeText, node-text}
+use Rattle.translation.proofs.TextsNodes.{nodeText, node-text}
 use Rattle.translation.proofs.sections.node_record.Statement.{statement}
 use Rattle.translation.proofs.sections.node_record.Tie as tie
 

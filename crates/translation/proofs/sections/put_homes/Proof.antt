@@ -7,10 +7,10 @@ use borrow.Author.Needs.{needs}
 use denote.Ref.{now}
 use Rattle.model.specs.ChartSet.{readCharts}
 use Rattle.translation.specs.Texts.{recordText}
-use Rattle.translation.proofs.Written.{Texts, texts-start, texts-step, texts-end, puts-as}
-use Rattle.translation.proofs.SectionLaws.{placed-text}
+use Rattle.translation.proofs.TextsWritten.{Texts, texts-start, texts-step, texts-end, puts-as}
+use Rattle.translation.proofs.TextsSections.{placed-text}
 use Rattle.chart_files.specs.Places.{homeAt}
-use Rattle.chart_files.proofs.Readings.{homes-are, most-states}
+use Rattle.chart_files.proofs.PlacesRead.{homes-are, most-states}
 use Rattle.translation.proofs.sections.put_homes.Statement.{statement}
 use Rattle.translation.proofs.sections.put_homes.Tie as tie
 

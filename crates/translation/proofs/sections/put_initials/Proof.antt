@@ -8,10 +8,10 @@ use denote.Ref.{now}
 use Rattle.records.specs.Bytes.{bytes2}
 use Rattle.model.specs.ChartSet.{readCharts}
 use Rattle.translation.specs.Texts.{recordText}
-use Rattle.translation.proofs.Written.{Texts, texts-start, texts-step, texts-end, puts-as}
-use Rattle.translation.proofs.SectionLaws.{placed-text}
+use Rattle.translation.proofs.TextsWritten.{Texts, texts-start, texts-step, texts-end, puts-as}
+use Rattle.translation.proofs.TextsSections.{placed-text}
 use Rattle.chart_files.specs.Places.{initialAt}
-use Rattle.chart_files.proofs.Readings.{initial-are, most-charts}
+use Rattle.chart_files.proofs.PlacesRead.{initial-are, most-charts}
 use Rattle.translation.proofs.sections.put_initials.Statement.{statement}
 use Rattle.translation.proofs.sections.put_initials.Tie as tie
 

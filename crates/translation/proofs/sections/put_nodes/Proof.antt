@@ -5,11 +5,11 @@ use borrow.Author.Needs.{needs}
 use denote.Ref.{now}
 use Rattle.model.specs.ChartSet.{readCharts}
 use Rattle.translation.specs.Texts.{recordText}
-use Rattle.translation.proofs.Written.{Texts, texts-start, texts-step, texts-end, puts-as}
-use Rattle.translation.proofs.SectionLaws.{placed-text}
+use Rattle.translation.proofs.TextsWritten.{Texts, texts-start, texts-step, texts-end, puts-as}
+use Rattle.translation.proofs.TextsSections.{placed-text}
 use Rattle.expressions.specs.Nodes.{nodeAt, writeNode}
 use Rattle.chart_files.specs.Places.{nodePart}
-use Rattle.chart_files.proofs.Readings.{nodes-are, most-nodes}
+use Rattle.chart_files.proofs.PlacesRead.{nodes-are, most-nodes}
 use Rattle.translation.proofs.sections.put_nodes.Statement.{statement}
 use Rattle.translation.proofs.sections.put_nodes.Tie as tie
 

@@ -5,11 +5,11 @@ use borrow.Author.Needs.{needs}
 use denote.Ref.{now}
 use Rattle.model.specs.ChartSet.{readCharts}
 use Rattle.translation.specs.Texts.{recordText}
-use Rattle.translation.proofs.Written.{Texts, texts-start, texts-step, texts-end, puts-as}
-use Rattle.translation.proofs.SectionLaws.{placed-text}
+use Rattle.translation.proofs.TextsWritten.{Texts, texts-start, texts-step, texts-end, puts-as}
+use Rattle.translation.proofs.TextsSections.{placed-text}
 use Rattle.model.specs.AutomataTable.{writeVariable}
 use Rattle.chart_files.specs.Places.{variableAt}
-use Rattle.chart_files.proofs.Readings.{variables-are, most-variables}
+use Rattle.chart_files.proofs.PlacesRead.{variables-are, most-variables}
 use Rattle.translation.proofs.sections.put_variables.Statement.{statement}
 use Rattle.translation.proofs.sections.put_variables.Tie as tie
 

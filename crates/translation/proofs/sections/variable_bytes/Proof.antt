@@ -8,7 +8,7 @@ use denote.Ref.{now}
 use Rattle.records.specs.Bytes.{byte, two±, bytes2±}
 use Rattle.chart_files.specs.Places.{firstVariable}
 use Rattle.translation.specs.Texts.{recordText}
-use Rattle.translation.proofs.SectionLaws.{pair-back}
+use Rattle.translation.proofs.TextsSections.{pair-back}
 use Rattle.translation.proofs.sections.variable_bytes.Statement.{statement}
 use Rattle.translation.proofs.sections.variable_bytes.Tie as tie
 

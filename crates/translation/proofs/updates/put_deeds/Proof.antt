@@ -10,14 +10,14 @@ use Rattle.model.specs.Runs.{Deed}
 use Rattle.model.specs.AutomataTable.{writeUpdate, writeDeed}
 use Rattle.chart_files.specs.Places.{actionAt}
 use Rattle.chart_files.proofs.ListLaws.{gather-map}
-use Rattle.chart_files.proofs.Readings.{most-actions}
+use Rattle.chart_files.proofs.PlacesRead.{most-actions}
 use Rattle.chart_files.specs.declared.Shape.{Shape}
 use Rattle.machines.specs.Chains.{withKey}
 use Rattle.charts.specs.Accepted.{Accepted}
 use Rattle.charts.specs.Tables.{keyAt, keyed}
-use Rattle.charts.proofs.ActionLaws.{chained}
+use Rattle.charts.proofs.TablesActions.{chained}
 use Rattle.translation.specs.Texts.{recordText}
-use Rattle.translation.proofs.Written.{Along, along-start, along-rises, along-more, along-end, puts-as}
+use Rattle.translation.proofs.TextsWritten.{Along, along-start, along-rises, along-more, along-end, puts-as}
 use Rattle.translation.proofs.updates.put_deeds.Statement.{statement}
 use Rattle.translation.proofs.updates.put_deeds.Tie as tie
 

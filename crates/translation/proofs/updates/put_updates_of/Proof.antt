@@ -3,10 +3,10 @@ use Prim.Native.Nat.{ℕ, _-_, _<_, _^_}
 use native.Mathlib.Omega.{arith}
 use borrow.Author.Needs.{needs}
 use denote.Ref.{now}
-use Rattle.chart_files.proofs.Readings.{most-states, most-transitions}
-use Rattle.charts.proofs.Sound.{source-known, target-known}
-use Rattle.translation.proofs.Written.{puts-as, puts-then}
-use Rattle.translation.proofs.EdgeLaws.{updates-text}
+use Rattle.chart_files.proofs.PlacesRead.{most-states, most-transitions}
+use Rattle.charts.proofs.Accepted.{source-known, target-known}
+use Rattle.translation.proofs.TextsWritten.{puts-as, puts-then}
+use Rattle.translation.proofs.TextsEdges.{updates-text}
 use Rattle.translation.proofs.updates.put_updates_of.Statement.{statement}
 use Rattle.translation.proofs.updates.put_updates_of.Tie as tie
 

@@ -9,7 +9,7 @@ use lib.ListN.{length, getD, take, drop, set, length-set, take-append-drop}
 use lib.Seq.{sets, length-take-le}
 use Rattle.records.proofs.Fields.{sets-past}
 use Rattle.records.proofs.Wrote.{sets-append}
-use Rattle.translation.proofs.Written.{sets-more}
+use Rattle.translation.proofs.TextsWritten.{sets-more}
 use Rattle.translation.proofs.writing.put_part.Statement.{statement}
 use Rattle.translation.proofs.writing.put_part.Tie as tie
 

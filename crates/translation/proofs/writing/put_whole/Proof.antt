@@ -6,7 +6,7 @@ use borrow.Author.Needs.{needs}
 use denote.Ref.{now}
 use lib.ListN.{length, getD, take, set, length-set}
 use lib.Seq.{sets, take-all}
-use Rattle.translation.proofs.Written.{sets-more}
+use Rattle.translation.proofs.TextsWritten.{sets-more}
 use Rattle.translation.proofs.writing.put_whole.Statement.{statement}
 use Rattle.translation.proofs.writing.put_whole.Tie as tie
 

@@ -1,6 +1,6 @@
 -- `both::turn_both` meets its contract. Assumes nothing.
 use Rattle.twins.specs.Alike.{answersAlike, outsAlike, runsAlike}
-use Rattle.twins.proofs.BothLaws.{unrefused}
+use Rattle.twins.proofs.AlikeBoth.{unrefused}
 use Rattle.automata.specs.RunOf as automata-run
 use Rattle.charts.specs.RunOf as charts-run
 use Rattle.model.specs.Calls.{chartSets, automataTables}

@@ -1,6 +1,6 @@
 -- `runs::clock_alike` meets its contract. Assumes nothing.
-use Rattle.automata_files.proofs.Sound.{ticks-known}
-use Rattle.automata_files.proofs.Readings.{most-clocks}
+use Rattle.automata_files.proofs.NamedThings.{ticks-known}
+use Rattle.automata_files.proofs.PlacesRead.{most-clocks}
 use lib.ListN.{getD}
 use Rattle.model.specs.Correspondence.{clockFor}
 use lib.Dec.{eqb}

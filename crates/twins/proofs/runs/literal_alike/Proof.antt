@@ -1,7 +1,7 @@
 -- `runs::literal_alike` meets its contract. Assumes nothing.
 use Rattle.model.specs.AutomataTable.{always, event, clock}
-use Rattle.twins.proofs.AlikeLaws.{literal-away, literal-here, automaton-in, clock-in}
-use Rattle.automata_files.specs.Parts.{causeFor}
+use Rattle.twins.proofs.Alike.{literal-away, literal-here, automaton-in, clock-in}
+use Rattle.automata_files.specs.Parts.{literalTriggerFor}
 use denote.Ref.{now}
 use mathlib.Core.Path.{sym, ap, _∙_}
 use borrow.Author.Needs.{needs}
@@ -36,8 +36,8 @@ returns c =
     let r = c .before .source-of .ensures in
     literal-away (now (a .t)) (a .shape) (a .l) _ _ p q (a .t3) (a .t4) (a .clocks) _ r (c .if1 .taken)
 
-cause-of-requires : tie.Need-cause-of-requires
-cause-of-requires c κs = search needs
+literal-trigger-of-requires : tie.Need-literal-trigger-of-requires
+literal-trigger-of-requires c κs = search needs
 
 enum-told : tie.Need-enum-told
 enum-told c = search needs
@@ -59,7 +59,7 @@ array-read-clock-alike c =
 clock-alike-requires : tie.Need-clock-alike-requires
 clock-alike-requires c κs =
     let b = c .before .before .before .before .before .before .before .before .before in
-    (b .pre .0, clock-in (now (b .args .t)) (b .args .shape) (b .pre .0) (b .args .l) (b .pre .1) (c .before .k .given .0 .0) (sym (ap causeFor (c .before .k .given .1)) ∙ c .before .before .before .cause-of .ensures))
+    (b .pre .0, clock-in (now (b .args .t)) (b .args .shape) (b .pre .0) (b .args .l) (b .pre .1) (c .before .k .given .0 .0) (sym (ap literalTriggerFor (c .before .k .given .1)) ∙ c .before .before .before .literal-trigger-of .ensures))
 
 returns-2 : tie.Need-returns-2
 returns-2 c =
@@ -67,7 +67,7 @@ returns-2 c =
     let p = c .before .before .before .before .before .before .literal-edge .ensures in
     let q = c .before .before .before .before .before .automaton-of .ensures in
     let r = c .before .before .before .before .source-of .ensures in
-    let said = sym (ap causeFor (c .enum-told .given .1)) ∙ c .before .before .cause-of .ensures in
+    let said = sym (ap literalTriggerFor (c .enum-told .given .1)) ∙ c .before .before .literal-trigger-of .ensures in
     literal-here (now (a .t)) (a .shape) (a .l) _ _ p q (a .t3) (a .t4) (a .clocks) _ r (c .before .before .before .if1 .left) always said
 
 returns-3 : tie.Need-returns-3
@@ -76,7 +76,7 @@ returns-3 c =
     let p = c .before .before .before .before .before .before .literal-edge .ensures in
     let q = c .before .before .before .before .before .automaton-of .ensures in
     let r = c .before .before .before .before .source-of .ensures in
-    let said = sym (ap causeFor (c .enum-told2 .given .1)) ∙ c .before .before .cause-of .ensures in
+    let said = sym (ap literalTriggerFor (c .enum-told2 .given .1)) ∙ c .before .before .literal-trigger-of .ensures in
     literal-here (now (a .t)) (a .shape) (a .l) _ _ p q (a .t3) (a .t4) (a .clocks) _ r (c .before .before .before .if1 .left) (event (c .enum-told2 .given .0 .0)) said
 
 returns-4 : tie.Need-returns-4
@@ -85,7 +85,7 @@ returns-4 c =
     let p = c .before .before .before .before .before .before .before .before .literal-edge .ensures in
     let q = c .before .before .before .before .before .before .before .automaton-of .ensures in
     let r = c .before .before .before .before .before .before .source-of .ensures in
-    let said = sym (ap causeFor (c .before .before .k .given .1)) ∙ c .before .before .before .before .cause-of .ensures in
+    let said = sym (ap literalTriggerFor (c .before .before .k .given .1)) ∙ c .before .before .before .before .literal-trigger-of .ensures in
     c .clock-alike .ensures
     ∙ literal-here (now (a .t)) (a .shape) (a .l) _ _ p q (a .t3) (a .t4) (a .clocks) _ r (c .before .before .before .before .before .if1 .left) (clock (c .before .before .k .given .0 .0)) said
 
@@ -100,7 +100,7 @@ literal-alike-spec =
     array-read-if1
     source-of-requires
     returns
-    cause-of-requires
+    literal-trigger-of-requires
     enum-told
     enum-told-2
     enum-known-k

@@ -1,5 +1,5 @@
 -- `runs::runs_alike` meets its contract. Assumes nothing.
-use Rattle.automata_files.proofs.Readings.{most-automata}
+use Rattle.automata_files.proofs.PlacesRead.{most-automata}
 use lib.Dec.{eqb}
 use denote.Ref.{now}
 use mathlib.Core.Bool.{_&&_}

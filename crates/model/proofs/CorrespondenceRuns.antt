@@ -1,0 +1,114 @@
+-- Runs that are alike correspond: the clocks that a location's literals read are those of the transitions that leave its state. Assumes nothing.
+use mathlib.Core.Path.{_≡_, refl, sym, ap, _∙_, subst}
+use mathlib.Core.Logic.{_⊎_, inl, inr}
+use mathlib.Core.Bool.{Bool, true, false, _&&_, _||_}
+use mathlib.Core.List.{List, [], _∷_, _++_, map, append-nil}
+use Prim.Native.Nat.{ℕ, _+_, _-_, _≤_, _<_}
+use native.Mathlib.Omega.{arith}
+use lib.Dec.{T, ltb, eqb, eqb→eq, eqb-refl, ltb→lt, nltb→le}
+use lib.ListN.{length, getD}
+use Rattle.records.specs.Lists.{gather, from, upto, mem}
+use Rattle.model.specs.Owned.{of}
+use Rattle.model.specs.Runs.{Run}
+use Rattle.model.specs.ChartSet as C
+use Rattle.model.specs.ChartSet.{ChartSet, transition}
+use Rattle.model.specs.Charts.{ticks}
+use Rattle.model.specs.AutomataTable as A
+use Rattle.model.specs.AutomataTable.{Clock, Literal, edge, clockAt}
+use Rattle.model.specs.Automata.{leaving}
+use Rattle.model.specs.Translation.{stateCount, transitionCount, clocksOf, clockOf, literalTriggerOf, literal, triedBefore, literalsOf, idleLiterals, twin}
+use Rattle.model.specs.Correspondence.{clockFor, clockRead, clocksRead, Corresponds}
+use Rattle.model.proofs.BoolLaws.{and-right, to-left, to-right, of-true, not-false}
+use Rattle.model.proofs.ListLaws.{mem-append, gather-mem, keep-mem, from-mem}
+use Rattle.model.proofs.ChartsRow.{ofPriority, ofPriority-mem}
+use Rattle.model.proofs.TranslationEdges.{edge-transition, edge-idle, edges-count, of-transition, of-idle}
+use Rattle.model.proofs.TranslationClocks.{Timing, clockOf-at}
+use Rattle.model.proofs.CorrespondenceStep.{Alike}
+
+abbrev clocksIn : List Literal → List ℕ
+clocksIn ls = gather (λ x. clockRead (x .trigger)) ls
+
+module _ (cs : ChartSet) where
+  -- a literal reads the clock of its transition
+  read-one : (k : ℕ) (must : Bool) (t : ℕ) → T (mem k (clockRead (literal cs must t .trigger))) → (k ≡ clockOf cs t) × ((x : Clock) × (clocksOf (transition cs t .trigger) ≡ x ∷ []))
+  unfolding mem
+  read-one k must t h = go (transition cs t .trigger) h
+    where
+      or-false : (b : Bool) → T (b || false) → T b
+      or-false true m = tt
+      or-false false m = m
+
+      go : (g : C.Trigger) → T (mem k (clockRead (literalTriggerOf cs t g))) → (k ≡ clockOf cs t) × ((x : Clock) × (clocksOf g ≡ x ∷ []))
+      go C.always h = absurd h
+      go (C.event e) h = absurd h
+      go (C.after ms) h = (sym (eqb→eq (clockOf cs t) k (or-false (eqb (clockOf cs t) k) h)), (record { timing = A.after; ticks = ticks ms }, refl))
+      go (C.every ms) h = (sym (eqb→eq (clockOf cs t) k (or-false (eqb (clockOf cs t) k) h)), (record { timing = A.every; ticks = ticks ms }, refl))
+
+  read-of : (k l t : ℕ) (must : Bool) → t < transitionCount cs → transition cs t .source ≡ l → T (mem k (clockRead (literal cs must t .trigger))) → Timing cs l k
+  read-of k l t must i e h = (t, i, e, read-one k must t h .0, read-one k must t h .1)
+
+  -- must-nots of transitions that leave l, and what follows them
+  read-nots : (k l : ℕ) (ts : List ℕ) (rest : List Literal) → ((t : ℕ) → T (mem t ts) → (t < transitionCount cs) × (transition cs t .source ≡ l)) → (T (mem k (clocksIn rest)) → Timing cs l k) →
+      T (mem k (clocksIn (map (literal cs false) ts ++ rest))) → Timing cs l k
+  unfolding gather mem
+  read-nots k l [] rest all-from then h = then h
+  read-nots k l (t ∷ ts) rest all-from then h =
+      go (mem-append k (clockRead (literal cs false t .trigger)) (clocksIn (map (literal cs false) ts ++ rest)) h)
+      (read-nots k l ts rest (λ u m. all-from u (to-right (eqb t u) (mem u ts) m)) then)
+    where
+      go : T (mem k (clockRead (literal cs false t .trigger))) ⊎ T (mem k (clocksIn (map (literal cs false) ts ++ rest))) → (T (mem k (clocksIn (map (literal cs false) ts ++ rest))) → Timing cs l k) → Timing cs l k
+      go (inl a) ih = let f : (t < transitionCount cs) × (transition cs t .source ≡ l) = all-from t (to-left (eqb t t) (mem t ts) (eqb-refl t)) in read-of k l t false (f .0) (f .1) a
+      go (inr b) ih = ih b
+
+  above-from : (l p t : ℕ) → T (mem t (triedBefore cs l p)) → (t < transitionCount cs) × (transition cs t .source ≡ l)
+  above-from l p t m =
+      let (q, i, j) = gather-mem (ofPriority cs l) t (from 1 (p - 1)) m in
+      let k : (t < transitionCount cs) × (transition cs t .source ≡ l) × (transition cs t .priority ≡ q) = ofPriority-mem cs l q t j in
+      (k .0, k .1)
+
+  -- a clock that is read at a location is one of a transition that leaves the state
+  read-leaving : (a l k : ℕ) → T (mem k (clocksRead (twin cs) a l)) → Timing cs l k
+  unfolding gather mem
+  read-leaving a l k h =
+      let (e, i, j) = gather-mem (λ e. clocksIn (of e (twin cs .literals))) k (leaving (twin cs) a l) h in
+      let y : T (leaves e) × T (mem e (upto (length (twin cs .edges)))) = keep-mem leaves e (upto (length (twin cs .edges))) i in
+      let b : (0 ≤ e) × (e < 0 + length (twin cs .edges)) = from-mem e 0 (length (twin cs .edges)) (y .1) in
+      let n : length (twin cs .edges) ≡ transitionCount cs + stateCount cs = edges-count cs in
+      go e (ltb e (transitionCount cs)) refl (omega arith) (eqb→eq (edge (twin cs) e .source) l (and-right (eqb (edge (twin cs) e .automaton) a) (eqb (edge (twin cs) e .source) l) (y .0))) j
+    where
+      leaves : ℕ → Bool
+      leaves e = eqb (edge (twin cs) e .automaton) a && eqb (edge (twin cs) e .source) l
+
+      own-one : (e : ℕ) → e < transitionCount cs → transition cs e .source ≡ l → T (mem k (clocksIn (literal cs true e ∷ []))) → Timing cs l k
+      own-one e i s m = pick (mem-append k (clockRead (literal cs true e .trigger)) [] m)
+        where
+          pick : T (mem k (clockRead (literal cs true e .trigger))) ⊎ T (mem k []) → Timing cs l k
+          pick (inl z) = read-of k l e true i s z
+          pick (inr z) = absurd z
+
+      go : (e : ℕ) (p : Bool) → ltb e (transitionCount cs) ≡ p → e < transitionCount cs + stateCount cs → edge (twin cs) e .source ≡ l → T (mem k (clocksIn (of e (twin cs .literals)))) → Timing cs l k
+      go e true q b z j =
+          let t-in : e < transitionCount cs = ltb→lt e (transitionCount cs) (of-true q) in
+          let s-is : transition cs e .source ≡ l = sym (ap (λ x. x .source) (edge-transition cs e t-in)) ∙ z in
+          let lits : of e (twin cs .literals) ≡ map (literal cs false) (triedBefore cs l (transition cs e .priority)) ++ (literal cs true e ∷ []) =
+          of-transition cs (literalsOf cs) (idleLiterals cs) e t-in ∙ ap (λ w. map (literal cs false) (triedBefore cs w (transition cs e .priority)) ++ (literal cs true e ∷ [])) s-is in
+          read-nots k l (triedBefore cs l (transition cs e .priority)) (literal cs true e ∷ []) (above-from l (transition cs e .priority)) (own-one e t-in s-is) (subst (λ w. T (mem k (clocksIn w))) lits j)
+      go e false q b z j =
+          let low : transitionCount cs ≤ e = nltb→le e (transitionCount cs) (not-false q) in
+          let e-is : transitionCount cs + (e - transitionCount cs) ≡ e = omega arith in
+          let i-in : e - transitionCount cs < stateCount cs = omega arith in
+          let l-is : e - transitionCount cs ≡ l = sym (ap (λ x. x .source) (ap (edge (twin cs)) (sym e-is) ∙ edge-idle cs (e - transitionCount cs) i-in)) ∙ z in
+          let lits : of e (twin cs .literals) ≡ map (literal cs false) (triedBefore cs l 17) ++ [] =
+          ap (λ n. of n (twin cs .literals)) (sym e-is) ∙ of-idle cs (literalsOf cs) (idleLiterals cs) (e - transitionCount cs) i-in ∙ ap (λ w. map (literal cs false) (triedBefore cs w 17)) l-is ∙ sym (append-nil (map (literal cs false) (triedBefore cs l 17))) in
+          read-nots k l (triedBefore cs l 17) [] (above-from l 17) (λ m. absurd m) (subst (λ w. T (mem k (clocksIn w))) lits j)
+
+  pub corresponds-alike : (r q : Run) → Alike cs r q → Corresponds cs (twin cs) r q
+  corresponds-alike r q al = record {
+    worlds = al .worlds;
+    places = λ c h. ap (λ z. getD z c 0) (al .ats);
+    timers = λ c h k m.
+        let y : Timing cs (getD (q .at) c 0) k = read-leaving c (getD (q .at) c 0) k m in
+        let e : transition cs (y .0) .source ≡ getD (r .at) c 0 = y .2 ∙ ap (λ z. getD z c 0) (sym (al .ats)) in
+        let d : clockAt (twin cs) k ≡ y .4 .0 = ap (clockAt (twin cs)) (y .3) ∙ clockOf-at cs (y .0) (y .4 .0) (y .1) (y .4 .1) in
+        ap (λ z. getD (q .timers) z 0) (y .3) ∙ al .timed .same c (y .0) (y .4 .0) h (y .1) e (y .4 .1) ∙ sym (ap (λ z. clockFor (z .timing) (z .ticks) (getD (r .timers) c 0)) d);
+  }

@@ -1,0 +1,101 @@
+-- The twin's file, from its parts: sections one after the other, and those that belong to edges by the transitions and then the states. Assumes nothing.
+use mathlib.Core.Path.{_≡_, sym, ap, _∙_}
+use mathlib.Core.Bool.{cond}
+use mathlib.Core.List.{List, [], _∷_, _++_, map, append-assoc, append-nil}
+use Prim.Native.Nat.{ℕ, _+_, _-_, _≤_, _<_}
+use native.Mathlib.Nat.{zero-add}
+use native.Mathlib.Omega.{arith}
+use borrow.Author.Tests.{lt-ltb, le-ltb}
+use lib.ListN.{length, drop}
+use lib.Seq.{sets, sets-eq}
+use Rattle.records.specs.Lists.{gather, from, upto}
+use Rattle.records.specs.Bytes.{bytes2}
+use Rattle.expressions.specs.Nodes.{writeNode}
+use Rattle.records.specs.Refusal.{val, fault, short-buffer, fault-if, _>>_}
+use Rattle.model.specs.ChartSet.{ChartSet}
+use Rattle.model.specs.Owned.{byOwner}
+use Rattle.model.specs.AutomataTable.{Automata, writeEdge, writeLiteral, writeClock, writeVariable, writeUpdate, writeReset, sections, writeAutomata}
+use Rattle.model.specs.Translation.{transitionCount, stateCount, onEdge, written}
+use Rattle.chart_files.proofs.ListLaws.{gather-map}
+use Rattle.translation.specs.Texts.{recordText, section, edgeTexts, placesText, testsText, effectsText}
+use Rattle.translation.proofs.TextsSections.{gathered-text}
+use Rattle.model.proofs.ListLaws.{gather-append}
+use Rattle.translation.proofs.Gathered.{gather-none, gather-gather, gather-empty, gather-below, gather-shift, from-append}
+
+-- ---- one section after the other
+
+pub section-append : {A : Type 0} (kind : ℕ) (body : A → List ℕ) (xs ys : List A) → section kind (map body (xs ++ ys)) ≡ section kind (map body xs) ++ section kind (map body ys)
+section-append kind body xs ys =
+    gather-map body (recordText kind) (xs ++ ys)
+    ∙ gather-append (λ x. recordText kind (body x)) xs ys
+    ∙ sym (λ i. gather-map body (recordText kind) xs i ++ gather-map body (recordText kind) ys i)
+
+all-sections : (xs : List (ℕ × List (List ℕ))) → gather (λ r. r) (gather (λ x. map (recordText (x .0)) (x .1)) xs) ≡ gather (λ x. section (x .0) (x .1)) xs
+all-sections xs =
+    gather-gather (λ r. r) (λ (x : ℕ × List (List ℕ)). map (recordText (x .0)) (x .1)) xs ∙ (λ i. gather (λ x. gather-map (recordText (x .0)) (λ r. r) (x .1) i) xs)
+
+-- nine texts, in three parts
+nine : (a b c d e f g h i : List ℕ) → (a ++ b ++ c) ++ (d ++ e ++ f ++ g) ++ (h ++ i) ≡ a ++ (b ++ (c ++ (d ++ (e ++ (f ++ (g ++ (h ++ (i ++ []))))))))
+nine a b c d e f g h i = simp (append-assoc, append-nil)
+
+pub file-text : (au : Automata) → placesText au ++ testsText au ++ effectsText au ≡ writeAutomata au
+unfolding gather
+file-text au =
+    nine (section 33 (map (λ i. 0 ∷ bytes2 i) (au .initial))) (section 34 (map (λ h. h ∷ []) (au .homes))) (section 35 (map writeEdge (au .edges)))
+    (section 36 (map writeLiteral (au .literals))) (section 37 (map writeClock (au .clocks))) (section 38 (map writeVariable (au .variables))) (section 39 (map writeNode (au .nodes)))
+    (section 40 (map writeUpdate (au .updates))) (section 41 (map writeReset (au .resets)))
+    ∙ sym (all-sections (sections au))
+
+-- ---- what belongs to edges
+
+module _ (cs : ChartSet) {A : Type 0} (kind : ℕ) (body : ℕ × A → List ℕ) where
+  by-owner-text : (n : ℕ) (f : ℕ → List A) → section kind (map body (byOwner n f)) ≡ gather (λ e. edgeTexts kind body e (f e)) (upto n)
+  by-owner-text n f =
+      gathered-text kind body (λ k. map (λ x. (k, x)) (f k)) (upto n)
+      ∙ (λ i. gather (λ k. (gather-map body (recordText kind) (map (λ x. (k, x)) (f k)) ∙ gather-map (λ x. (k, x)) (λ y. recordText kind (body y)) (f k)) i) (upto n))
+
+  module _ (ofTransition ofState : ℕ → List A) where
+    abbrev text : ℕ → List ℕ
+    text e = edgeTexts kind body e (onEdge cs ofTransition ofState e)
+
+    of-transition : (e : ℕ) → e < transitionCount cs → text e ≡ edgeTexts kind body e (ofTransition e)
+    of-transition e h = ap (λ b. edgeTexts kind body e (cond b (ofTransition e) (ofState (e - transitionCount cs)))) (lt-ltb e (transitionCount cs) h)
+
+    of-state : (st : ℕ) → text (transitionCount cs + st) ≡ edgeTexts kind body (transitionCount cs + st) (ofState st)
+    of-state st =
+        ap (λ b. edgeTexts kind body (transitionCount cs + st) (cond b (ofTransition (transitionCount cs + st)) (ofState (transitionCount cs + st - transitionCount cs)))) (le-ltb (transitionCount cs + st) (transitionCount cs) (omega arith))
+        ∙ ap (λ k. edgeTexts kind body (transitionCount cs + st) (ofState k)) (let e : transitionCount cs + st - transitionCount cs ≡ st = omega arith in e)
+
+    -- those of the transitions, then those of the states
+    pub owned-text : section kind (map body (byOwner (transitionCount cs + stateCount cs) (onEdge cs ofTransition ofState)))
+        ≡ gather (λ t. edgeTexts kind body t (ofTransition t)) (upto (transitionCount cs)) ++ gather (λ st. edgeTexts kind body (transitionCount cs + st) (ofState st)) (upto (stateCount cs))
+    owned-text =
+        by-owner-text (transitionCount cs + stateCount cs) (onEdge cs ofTransition ofState)
+        ∙ ap (gather text) (from-append 0 (transitionCount cs) (stateCount cs))
+        ∙ gather-append text (upto (transitionCount cs)) (from (0 + transitionCount cs) (stateCount cs))
+        ∙ (λ i. gather-below text (λ t. edgeTexts kind body t (ofTransition t)) (transitionCount cs) of-transition i
+        ++ (ap (λ k. gather text (from k (stateCount cs))) (let e : 0 + transitionCount cs ≡ transitionCount cs + 0 = omega arith in e)
+        ∙ gather-shift text (transitionCount cs) 0 (stateCount cs)
+        ∙ gather-below (λ st. text (transitionCount cs + st)) (λ st. edgeTexts kind body (transitionCount cs + st) (ofState st)) (stateCount cs) (λ st h. of-state st)) i)
+
+  -- where the states have none
+  pub transitions-text : (ofTransition : ℕ → List A) →
+      section kind (map body (byOwner (transitionCount cs + stateCount cs) (onEdge cs ofTransition (λ st. [])))) ≡ gather (λ t. edgeTexts kind body t (ofTransition t)) (upto (transitionCount cs))
+  transitions-text ofTransition =
+      owned-text ofTransition (λ st. [])
+      ∙ ap (λ l. gather (λ t. edgeTexts kind body t (ofTransition t)) (upto (transitionCount cs)) ++ l)
+      ((λ i. gather (λ st. gather-none (λ (x : A). recordText kind (body (transitionCount cs + st, x))) i) (upto (stateCount cs))) ∙ gather-empty (upto (stateCount cs)))
+      ∙ append-nil (gather (λ t. edgeTexts kind body t (ofTransition t)) (upto (transitionCount cs)))
+
+-- ---- the answer
+
+module _ (text buffer : List ℕ) where
+  pub too-short : length buffer < length text → written text buffer ≡ fault short-buffer
+  too-short h = ap (λ b. fault-if b short-buffer >> val (length text, text ++ drop (length text) buffer)) (lt-ltb (length buffer) (length text) h)
+
+  pub long-enough : length text ≤ length buffer → written text buffer ≡ val (length text, text ++ drop (length text) buffer)
+  long-enough h = ap (λ b. fault-if b short-buffer >> val (length text, text ++ drop (length text) buffer)) (le-ltb (length buffer) (length text) h)
+
+  -- what is written from the start on, and the buffer's own bytes beyond
+  pub from-start : length text ≤ length buffer → sets buffer 0 text ≡ text ++ drop (length text) buffer
+  from-start h = sets-eq text buffer 0 (omega arith) ∙ ap (λ n. text ++ drop n buffer) (zero-add (length text))
