@@ -20,7 +20,7 @@ use Rattle.model.specs.ChartSet.{readGuard, readDeed, readVariable}
 use Rattle.model.specs.AutomataTable as M
 use Rattle.model.specs.AutomataTable.{Literal, event, clock, always, after, every, readEdge, readLiteral, readClock, readUpdate, readReset, readAutomata, edge, noEdge, noClock}
 use Rattle.model.specs.AutomataFile.{automataLimits}
-use Rattle.chart_files.proofs.Places.{none-below, next-first, placed, node-part, node-lookup}
+use Rattle.chart_files.proofs.Places.{none-below, next-first, things-read, node-part, node-lookup}
 use Rattle.chart_files.proofs.PlacesRead.{variable-record}
 use Rattle.automata_files.specs.declared.Shape.{Shape}
 use Rattle.automata_files.specs.Shape.{IsShape}
@@ -159,37 +159,37 @@ module _ (s : List ℕ) (sh : Shape) (is : IsShape s sh) where
 
   pub initial-are : readAutomata s .initial ≡ map (initialAt s sh) (upto (sh .automata))
   initial-are =
-      placed 33 automataLimits s (is .framed) (λ r. two r 2) (initialAt s sh) 33 (sh .automata) 0 (is .automata) first-automaton
+      things-read 33 automataLimits s (is .framed) (λ r. two r 2) (initialAt s sh) 33 (sh .automata) 0 (is .automata) first-automaton
       (λ i l. two-record s (0 + i) 2 (omega arith) ∙ ap (λ n. two s (16 * n + 2)) (zero-add i))
 
   pub homes-are : readAutomata s .homes ≡ map (homeAt s sh) (upto (sh .locations))
   homes-are =
-      placed 33 automataLimits s (is .framed) (λ r. byte r 1) (homeAt s sh) 34 (sh .locations) (firstLocation sh) (is .locations) first-location
+      things-read 33 automataLimits s (is .framed) (λ r. byte r 1) (homeAt s sh) 34 (sh .locations) (firstLocation sh) (is .locations) first-location
       (λ i l. byte-record s (firstLocation sh + i) 1 (omega arith))
 
   pub edges-are : readAutomata s .edges ≡ map (edgeAt s sh) (upto (sh .edges))
-  edges-are = placed 33 automataLimits s (is .framed) readEdge (edgeAt s sh) 35 (sh .edges) (firstEdge sh) (is .edges) first-edge (λ i l. edge-record s (firstEdge sh + i))
+  edges-are = things-read 33 automataLimits s (is .framed) readEdge (edgeAt s sh) 35 (sh .edges) (firstEdge sh) (is .edges) first-edge (λ i l. edge-record s (firstEdge sh + i))
 
   pub literals-are : readAutomata s .literals ≡ map (literalAt s sh) (upto (sh .literals))
-  literals-are = placed 33 automataLimits s (is .framed) readLiteral (literalAt s sh) 36 (sh .literals) (firstLiteral sh) (is .literals) first-literal (λ i l. literal-record s (firstLiteral sh + i))
+  literals-are = things-read 33 automataLimits s (is .framed) readLiteral (literalAt s sh) 36 (sh .literals) (firstLiteral sh) (is .literals) first-literal (λ i l. literal-record s (firstLiteral sh + i))
 
   pub clocks-are : readAutomata s .clocks ≡ map (clockAt s sh) (upto (sh .clocks))
-  clocks-are = placed 33 automataLimits s (is .framed) readClock (clockAt s sh) 37 (sh .clocks) (firstClock sh) (is .clocks) first-clock (λ i l. clock-record s (firstClock sh + i))
+  clocks-are = things-read 33 automataLimits s (is .framed) readClock (clockAt s sh) 37 (sh .clocks) (firstClock sh) (is .clocks) first-clock (λ i l. clock-record s (firstClock sh + i))
 
   pub variables-are : readAutomata s .variables ≡ map (variableAt s sh) (upto (sh .variables))
-  variables-are = placed 33 automataLimits s (is .framed) readVariable (variableAt s sh) 38 (sh .variables) (firstVariable sh) (is .variables) first-variable (λ i l. variable-record s (firstVariable sh + i))
+  variables-are = things-read 33 automataLimits s (is .framed) readVariable (variableAt s sh) 38 (sh .variables) (firstVariable sh) (is .variables) first-variable (λ i l. variable-record s (firstVariable sh + i))
 
   -- a node is that of the part of the file that has the nodes' records
   pub nodes-are : readAutomata s .nodes ≡ map (nodeAt (nodePart s sh)) (upto (sh .nodes))
   nodes-are =
-      placed 33 automataLimits s (is .framed) readNode (nodeAt (nodePart s sh)) 39 (sh .nodes) (firstNode sh) (is .nodes) first-node
+      things-read 33 automataLimits s (is .framed) readNode (nodeAt (nodePart s sh)) 39 (sh .nodes) (firstNode sh) (is .nodes) first-node
       (node-part s (firstNode sh) (sh .nodes))
 
   pub updates-are : readAutomata s .updates ≡ map (updateAt s sh) (upto (sh .updates))
-  updates-are = placed 33 automataLimits s (is .framed) readUpdate (updateAt s sh) 40 (sh .updates) (firstUpdate sh) (is .updates) first-update (λ i l. update-record s (firstUpdate sh + i))
+  updates-are = things-read 33 automataLimits s (is .framed) readUpdate (updateAt s sh) 40 (sh .updates) (firstUpdate sh) (is .updates) first-update (λ i l. update-record s (firstUpdate sh + i))
 
   pub resets-are : readAutomata s .resets ≡ map (resetAt s sh) (upto (sh .resets))
-  resets-are = placed 33 automataLimits s (is .framed) readReset (resetAt s sh) 41 (sh .resets) (firstReset sh) (is .resets) first-reset (λ i l. reset-record s (firstReset sh + i))
+  resets-are = things-read 33 automataLimits s (is .framed) readReset (resetAt s sh) 41 (sh .resets) (firstReset sh) (is .resets) first-reset (λ i l. reset-record s (firstReset sh + i))
 
   -- ---- thing i
 

@@ -45,9 +45,9 @@ module _ (first : ℕ) (most s : List ℕ) (framed : framing first most s ≡ no
           rw (le-ltb (kind r) first (leb-true first (kind r) l)) (go rs (k .1))
 
   -- a whole list, by the numbers of its things
-  pub placed : {A : Type 0} (f : List ℕ → A) (g : ℕ → A) (k n at : ℕ) → n ≡ howMany k s → firstOf k s ≡ at → ((i : ℕ) → i < n → f (recordAt s (at + i)) ≡ g i) →
+  pub things-read : {A : Type 0} (f : List ℕ → A) (g : ℕ → A) (k n at : ℕ) → n ≡ howMany k s → firstOf k s ≡ at → ((i : ℕ) → i < n → f (recordAt s (at + i)) ≡ g i) →
       map f (ofKind k s) ≡ map g (upto n)
-  placed f g k n at e d h =
+  things-read f g k n at e d h =
       read-things f k
       ∙ (λ j. map (λ i. f (recordAt s (d j + i))) (upto (sym e j)))
       ∙ alike-upto (λ i. f (recordAt s (at + i))) g n h

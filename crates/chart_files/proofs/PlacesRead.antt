@@ -22,7 +22,7 @@ use Rattle.model.specs.ChartFile.{chartLimits}
 use Rattle.chart_files.specs.declared.Shape.{Shape}
 use Rattle.chart_files.specs.Shape.{IsShape}
 use Rattle.chart_files.specs.Places.{firstState, firstTransition, firstVariable, firstNode, firstAction, transitionIn, variableIn, actionIn, initialAt, homeAt, transitionAt, variableAt, placeAt, actionAt, nodePart}
-use Rattle.chart_files.proofs.Places.{things, none-below, next-first, placed, node-part, node-lookup}
+use Rattle.chart_files.proofs.Places.{things, none-below, next-first, things-read, node-part, node-lookup}
 use Rattle.chart_files.proofs.ListLaws.{all-map, any-map, count-map, keep-map, map-map, gather-map, all-keep, any-keep, count-keep, keep-keep, gather-keep}
 
 -- ---- what record n says, read where it stands
@@ -125,21 +125,21 @@ module _ (s : List ℕ) (sh : Shape) (is : IsShape s sh) where
 
   pub initial-are : readCharts s .initial ≡ map (initialAt s sh) (upto (sh .charts))
   initial-are =
-      placed 1 chartLimits s (is .framed) (λ r. two r 2) (initialAt s sh) 1 (sh .charts) 0 (is .charts) first-chart
+      things-read 1 chartLimits s (is .framed) (λ r. two r 2) (initialAt s sh) 1 (sh .charts) 0 (is .charts) first-chart
       (λ i l. two-record s (0 + i) 2 (omega arith) ∙ ap (λ n. two s (16 * n + 2)) (zero-add i))
 
   pub homes-are : readCharts s .homes ≡ map (homeAt s sh) (upto (sh .states))
-  homes-are = placed 1 chartLimits s (is .framed) (λ r. byte r 1) (homeAt s sh) 2 (sh .states) (firstState sh) (is .states) first-state (λ i l. byte-record s (firstState sh + i) 1 (omega arith))
+  homes-are = things-read 1 chartLimits s (is .framed) (λ r. byte r 1) (homeAt s sh) 2 (sh .states) (firstState sh) (is .states) first-state (λ i l. byte-record s (firstState sh + i) 1 (omega arith))
 
   pub transitions-are : readCharts s .transitions ≡ map (transitionAt s sh) (upto (sh .transitions))
-  transitions-are = placed 1 chartLimits s (is .framed) readTransition (transitionAt s sh) 3 (sh .transitions) (firstTransition sh) (is .transitions) first-transition (λ i l. transition-record s (firstTransition sh + i))
+  transitions-are = things-read 1 chartLimits s (is .framed) readTransition (transitionAt s sh) 3 (sh .transitions) (firstTransition sh) (is .transitions) first-transition (λ i l. transition-record s (firstTransition sh + i))
 
   pub variables-are : readCharts s .variables ≡ map (variableAt s sh) (upto (sh .variables))
-  variables-are = placed 1 chartLimits s (is .framed) readVariable (variableAt s sh) 4 (sh .variables) (firstVariable sh) (is .variables) first-variable (λ i l. variable-record s (firstVariable sh + i))
+  variables-are = things-read 1 chartLimits s (is .framed) readVariable (variableAt s sh) 4 (sh .variables) (firstVariable sh) (is .variables) first-variable (λ i l. variable-record s (firstVariable sh + i))
 
   -- a node is that of the part of the file that has the nodes' records
   pub nodes-are : readCharts s .nodes ≡ map (nodeAt (nodePart s sh)) (upto (sh .nodes))
-  nodes-are = placed 1 chartLimits s (is .framed) readNode (nodeAt (nodePart s sh)) 5 (sh .nodes) (firstNode sh) (is .nodes) first-node (node-part s (firstNode sh) (sh .nodes))
+  nodes-are = things-read 1 chartLimits s (is .framed) readNode (nodeAt (nodePart s sh)) 5 (sh .nodes) (firstNode sh) (is .nodes) first-node (node-part s (firstNode sh) (sh .nodes))
 
   -- ---- thing i
 

@@ -28,7 +28,7 @@ use Rattle.chart_files.specs.declared.Shape.{Shape}
 use Rattle.chart_files.specs.Places.{triggerBy, firstTransition, firstAction, transitionAt, placeAt, actionAt}
 use Rattle.chart_files.proofs.PlacesRead.{first-transition, first-action, transition-is, length-homes, length-transitions, length-variables, most-states, most-transitions, all-actions}
 use Rattle.charts.specs.Accepted.{Accepted}
-use Rattle.charts.specs.Tables.{Placed}
+use Rattle.charts.specs.Tables.{KeyedOwner}
 use Rattle.charts.specs.Replies.{Holdable, Doable}
 use Rattle.machines.proofs.ChecksClauses.{all-upto}
 
@@ -230,7 +230,7 @@ module _ (s : List ℕ) (sh : Shape) (ok : Accepted s sh) where
         (ltb-true (actionAt s sh a .0) owners (z .0), ap (λ v. deedNamed v (length (readCharts s .nodes)) (actionAt s sh a .1)) (sym (length-variables s sh (ok .shape))) ∙ z .1)
 
     abbrev Owned : Type 0
-    Owned = Placed (placeAt s sh a) (actionAt s sh a .0) × (deedNamed (sh .variables) (length (readCharts s .nodes)) (actionAt s sh a .1) ≡ true)
+    Owned = KeyedOwner (placeAt s sh a) (actionAt s sh a .0) × (deedNamed (sh .variables) (length (readCharts s .nodes)) (actionAt s sh a .1) ≡ true)
 
     owned-here : Owned
     owned-here = go (eqb (placeAt s sh a) 1) refl (eqb (placeAt s sh a) 2) refl
@@ -256,7 +256,7 @@ module _ (s : List ℕ) (sh : Shape) (ok : Accepted s sh) where
             let w = owner-named 3 (length (readCharts s .transitions)) p (all-named .3) in
             (inr (inr (p, omega (arith, w .0, length-transitions s sh (ok .shape), most-transitions s sh (ok .shape)))), w .1)
 
-    pub owner-placed : Placed (placeAt s sh a) (actionAt s sh a .0)
+    pub owner-placed : KeyedOwner (placeAt s sh a) (actionAt s sh a .0)
     owner-placed = owned-here .0
 
     pub deed-doable : Doable (sh .variables) (actionAt s sh a .1)

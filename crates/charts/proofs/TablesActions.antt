@@ -15,7 +15,7 @@ use Rattle.chart_files.specs.Places.{placeAt, actionAt}
 use Rattle.chart_files.proofs.PlacesRead.{of-actions}
 use Rattle.charts.specs.Accepted.{Accepted}
 use Rattle.machines.specs.Chains.{Chained}
-use Rattle.charts.specs.Tables.{keyFor, keyAt, keyed, HasActions, Placed}
+use Rattle.charts.specs.Tables.{keyFor, keyAt, keyed, HasActions, KeyedOwner}
 use Rattle.machines.proofs.ChainsEarliest.{keep-alike}
 use Rattle.charts.proofs.Accepted.{owner-placed}
 
@@ -32,12 +32,12 @@ key-transition : (p o : ℕ) → p ≡ 3 → keyFor p o ≡ 256 + o
 unfolding caseOf
 key-transition p o e = rw e
 
-pub key-small : (p o : ℕ) → Placed p o → keyFor p o < 512
+pub key-small : (p o : ℕ) → KeyedOwner p o → keyFor p o < 512
 key-small p o (inl x) = omega (arith, key-entry p o (x .0), x .1)
 key-small p o (inr (inl x)) = omega (arith, key-exit p o (x .0), x .1)
 key-small p o (inr (inr x)) = omega (arith, key-transition p o (x .0), x .1)
 
-same : (p o q w : ℕ) → Placed p o → Placed q w → keyFor p o ≡ keyFor q w → (p ≡ q) × (o ≡ w)
+same : (p o q w : ℕ) → KeyedOwner p o → KeyedOwner q w → keyFor p o ≡ keyFor q w → (p ≡ q) × (o ≡ w)
 same p o q w (inl x) (inl y) e = (omega (arith, x .0, y .0), omega (arith, key-entry p o (x .0), key-entry q w (y .0), e))
 same p o q w (inl x) (inr (inl y)) e = absurd (omega (arith, key-entry p o (x .0), key-exit q w (y .0), x .1, y .1))
 same p o q w (inl x) (inr (inr y)) e = absurd (omega (arith, key-entry p o (x .0), key-transition q w (y .0), x .1, y .1))
@@ -48,7 +48,7 @@ same p o q w (inr (inr x)) (inl y) e = absurd (omega (arith, key-transition p o 
 same p o q w (inr (inr x)) (inr (inl y)) e = absurd (omega (arith, key-transition p o (x .0), key-exit q w (y .0), x .1, y .1))
 same p o q w (inr (inr x)) (inr (inr y)) e = (omega (arith, x .0, y .0), omega (arith, key-transition p o (x .0), key-transition q w (y .0), e))
 
-key-tells : (p o q w : ℕ) → Placed p o → Placed q w → (eqb p q && eqb o w) ≡ eqb (keyFor p o) (keyFor q w)
+key-tells : (p o q w : ℕ) → KeyedOwner p o → KeyedOwner q w → (eqb p q && eqb o w) ≡ eqb (keyFor p o) (keyFor q w)
 key-tells p o q w x y = go (eqb (keyFor p o) (keyFor q w)) refl (eqb p q) refl (eqb o w) refl
   where
     go : (k : Bool) → eqb (keyFor p o) (keyFor q w) ≡ k → (a : Bool) → eqb p q ≡ a → (b : Bool) → eqb o w ≡ b → (a && b) ≡ k
@@ -70,7 +70,7 @@ module _ (s : List ℕ) (sh : Shape) (ok : Accepted s sh) where
   chained first next is = record { first-of = is .first-of; next-of = λ a h _. is .next-of a h }
 
   -- the deeds of an owner are those of its key
-  pub of-key : (place owner : ℕ) → Placed place owner →
+  pub of-key : (place owner : ℕ) → KeyedOwner place owner →
       of owner (readActions place s) ≡ map (λ a. actionAt s sh a .1) (keep (keyed s sh (keyFor place owner)) (upto (sh .actions)))
   of-key place owner x =
       of-actions s sh (ok .shape) place owner

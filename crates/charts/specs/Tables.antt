@@ -72,5 +72,5 @@ pub record HasActions (s : List ℕ) (sh : Shape) (first next : List ℕ) : Type
   pub next-of : (a : ℕ) → a < sh .actions → getD next a 0 ≡ earliest (keyed s sh (keyAt s sh a)) (a + 1) (sh .actions - (a + 1))
 
 -- owners that a key can tell apart: of so many states and transitions
-abbrev pub Placed : ℕ → ℕ → Type 0
-Placed place owner = ((place ≡ 1) × (owner < 128)) ⊎ (((place ≡ 2) × (owner < 128)) ⊎ ((place ≡ 3) × (owner < 256)))
+abbrev pub KeyedOwner : ℕ → ℕ → Type 0
+KeyedOwner place owner = ((place ≡ 1) × (owner < 128)) ⊎ (((place ≡ 2) × (owner < 128)) ⊎ ((place ≡ 3) × (owner < 256)))

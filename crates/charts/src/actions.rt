@@ -2,13 +2,13 @@
 ghost use mathlib.Core.Path.{_≡_};
 ghost use Prim.Native.Nat.{_<_};
 ghost use Rattle.charts.specs.Accepted.{Accepted};
-ghost use Rattle.charts.specs.Tables.{keyFor, keyAt, Placed};
+ghost use Rattle.charts.specs.Tables.{keyFor, keyAt, KeyedOwner};
 use chart_files::Shape;
 use chart_files::fields::owner_of;
 use chart_files::fields::place_of;
 
 fn key_for(place: u8, owner: u16) -> u16
-    requires { ⌜ Placed place owner ⌝ }
+    requires { ⌜ KeyedOwner place owner ⌝ }
     ensures { λ r. ⌜ r ≡ keyFor place owner ⌝ }
 {
     match place {

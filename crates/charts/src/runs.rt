@@ -4,7 +4,7 @@ ghost use Prim.Native.Nat.{ℕ, _≤_, _<_};
 ghost use lib.Dec.{leb};
 ghost use lib.ListN.{length, getD};
 ghost use Rattle.records.specs.Lists.{all, upto, mapFrom};
-ghost use Rattle.model.specs.Runs.{start as started, possible, checked, give as given, timePassed, restZero};
+ghost use Rattle.model.specs.Runs.{start as started, possible, checked, give as model-give, timePassed, restZero};
 ghost use Rattle.model.specs.ChartSet.{ChartSet, readCharts};
 ghost use Rattle.model.specs.Charts.{charts as machine};
 ghost use Rattle.chart_files.specs.Shape.{IsShape};
@@ -112,7 +112,7 @@ pub fn before_turn(s: &[u8], shape: Shape, run: Run, events: u32) -> Before
 
 // Input events are given at position 1.
 pub fn give(mut run: Run, events: u32) -> Run
-    ensures { λ r. ⌜ runOf r ≡ given events (runOf run) ⌝ }
+    ensures { λ r. ⌜ runOf r ≡ model-give events (runOf run) ⌝ }
 {
     run.events = events_given(events, run.position, run.events);
     run

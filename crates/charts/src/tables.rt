@@ -1,7 +1,7 @@
 // The tables that turns read, made once for a set.
 ghost use mathlib.Core.Path.{_≡_};
 ghost use Prim.Native.Nat.{_+_, _<_, max};
-ghost use lib.ListN.{replicate};
+ghost use lib.ListN.{drop, replicate};
 ghost use Rattle.model.specs.ChartSet.{readCharts};
 ghost use Rattle.charts.specs.Accepted.{Accepted};
 ghost use Rattle.charts.specs.Tables.{HasRows, HasEnds, HasActions, slotAt};
@@ -45,7 +45,7 @@ pub fn slot_of(s: &[u8], shape: Shape, rows: &[[u16; 16]; 128], state: u16, plac
 // From the last action down, so that each finds the one behind it.
 pub fn fill_actions(s: &[u8], shape: Shape, first: &mut [u16; 512], next: &mut [u16; 512])
     requires { ⌜ Accepted (now s) shape × (now first ≡ replicate 512 65535) × (now next ≡ replicate 512 65535) ⌝ }
-    ensures { λ _. ⌜ HasActions (now (s .entry)) shape (now (first .exit)) (now (next .exit)) ⌝ }
+    ensures { λ _. ⌜ HasActions (now (s .entry)) shape (now (first .exit)) (now (next .exit)) × (drop (shape .actions) (now (next .exit)) ≡ drop (shape .actions) (now (next .entry))) ⌝ }
 {
     let mut a = shape.actions;
     while 0 < a {

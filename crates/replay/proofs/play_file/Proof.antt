@@ -34,7 +34,7 @@ play-requires : tie.Need-play-requires
 play-requires c κs =
     let a = c .before .before .before .before in
     let r = a .before .before .before in
-    record { accepted = accepted (r .before .before .before); has-rows = r .fill-rows .ensures .0; has-ends = r .fill-rows .ensures .1; has-actions = a .fill-actions .ensures }
+    record { accepted = accepted (r .before .before .before); has-rows = r .fill-rows .ensures .0; has-ends = r .fill-rows .ensures .1; has-actions = a .fill-actions .ensures .0 }
 
 returns : tie.Need-returns
 returns c = search needs

@@ -19,7 +19,7 @@ fill-actions-requires c κs = (c .before .before .before .before .pre .0, refl, 
 put-updates-requires : tie.Need-put-updates-requires
 put-updates-requires c κs =
     let entry = c .before .before .before .before .before .before .before .before in
-    (entry .pre .0, c .before .before .before .fill-actions .ensures, omega (arith, entry .pre .2))
+    (entry .pre .0, c .before .before .before .fill-actions .ensures .0, omega (arith, entry .pre .2))
 
 fill-leaving-requires : tie.Need-fill-leaving-requires
 fill-leaving-requires c κs = (c .before .before .before .before .before .before .before .before .before .before .before .before .before .pre .0, refl, refl)

@@ -5,11 +5,11 @@ use Prim.Native.Nat.{ℕ, _<_}
 use native.Mathlib.Omega.{arith}
 use borrow.Author.Tests.{ne-eqb}
 use Rattle.records.specs.Lists.{caseOf}
-use Rattle.charts.specs.Tables.{keyFor, Placed}
+use Rattle.charts.specs.Tables.{keyFor, KeyedOwner}
 use Rattle.charts.proofs.actions.key_for.Statement.{statement}
 use Rattle.charts.proofs.actions.key_for.Tie as tie
 
-small : (place owner : ℕ) → Placed place owner → owner < 256
+small : (place owner : ℕ) → KeyedOwner place owner → owner < 256
 small place owner h = ⊎-elim (λ w. omega (arith, w .1)) (λ v. ⊎-elim (λ w. omega (arith, w .1)) (λ w. w .1) v) h
 
 add-result : tie.Need-add-result

@@ -36,7 +36,7 @@ turn-requires : tie.Need-turn-requires Inv-loop μ-loop
 turn-requires c κs =
     let f = c .before .before .before .before .before in
     let r = f .before .before .before in
-    record { accepted = r .before .before .before .before .pre; has-rows = r .fill-rows .ensures .0; has-ends = r .fill-rows .ensures .1; has-actions = f .fill-actions .ensures }
+    record { accepted = r .before .before .before .before .pre; has-rows = r .fill-rows .ensures .0; has-ends = r .fill-rows .ensures .1; has-actions = f .fill-actions .ensures .0 }
 
 loop-less : tie.Need-loop-less Inv-loop μ-loop
 loop-less c =

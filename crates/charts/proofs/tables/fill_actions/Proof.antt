@@ -1,9 +1,10 @@
 -- `tables::fill_actions` meets its contract: the chains are filled down to a. Assumes nothing.
-use mathlib.Core.Path.{_≡_, sym, subst}
+use mathlib.Core.Path.{_≡_, refl, sym, _∙_, subst}
 use Prim.Native.Nat.{ℕ, _+_, _-_, _<_}
 use native.Mathlib.Omega.{arith}
 use denote.Ref.{now}
-use lib.ListN.{replicate}
+use lib.ListN.{drop, replicate}
+use lib.Seq.{drop-set-lt}
 use Rattle.chart_files.proofs.PlacesRead.{most-actions}
 use Rattle.machines.proofs.Chains.{Chains, chains-none, chains-more, chains-made}
 use Rattle.charts.specs.Tables.{keyAt}
@@ -12,7 +13,7 @@ use Rattle.charts.proofs.tables.fill_actions.Statement.{statement}
 use Rattle.charts.proofs.tables.fill_actions.Tie as tie
 
 abbrev Inv-loop : tie.InvT-loop
-Inv-loop s shape first₀ next₀ a₀ first next a = Chains (keyAt s shape) 512 512 (shape .actions) first next a
+Inv-loop s shape first₀ next₀ a₀ first next a = Chains (keyAt s shape) 512 512 (shape .actions) first next a × (drop (shape .actions) next ≡ drop (shape .actions) next₀)
 
 abbrev μ-loop : tie.MeasureT-loop
 μ-loop s shape first₀ next₀ a₀ first next a = a
@@ -21,14 +22,17 @@ loop-holds : tie.Need-loop-holds Inv-loop μ-loop
 loop-holds c =
     let b = c .before in
     let x = b .args in
-    subst (λ first. Chains (keyAt (now (x .s)) (x .shape)) 512 512 (x .shape .actions) first (now (x .next)) (x .shape .actions)) (sym (b .pre .1))
-    (subst (λ next. Chains (keyAt (now (x .s)) (x .shape)) 512 512 (x .shape .actions) (replicate {A = ℕ} 512 65535) next (x .shape .actions)) (sym (b .pre .2)) (chains-none (keyAt (now (x .s)) (x .shape)) 512 512 (x .shape .actions)))
+    (
+      subst (λ first. Chains (keyAt (now (x .s)) (x .shape)) 512 512 (x .shape .actions) first (now (x .next)) (x .shape .actions)) (sym (b .pre .1))
+      (subst (λ next. Chains (keyAt (now (x .s)) (x .shape)) 512 512 (x .shape .actions) (replicate {A = ℕ} 512 65535) next (x .shape .actions)) (sym (b .pre .2)) (chains-none (keyAt (now (x .s)) (x .shape)) 512 512 (x .shape .actions))),
+      refl,
+    )
 
 sub-a : tie.Need-sub-a Inv-loop μ-loop
 sub-a c = omega arith
 
 key-of-requires : tie.Need-key-of-requires Inv-loop μ-loop
-key-of-requires c κs = (c .before .before .before .pre .0, omega (arith, c .before .loop .inv .bound, c .loop-test .taken))
+key-of-requires c κs = (c .before .before .before .pre .0, omega (arith, c .before .loop .inv .0 .bound, c .loop-test .taken))
 
 in-file : (c : tie.After-key-of Inv-loop μ-loop) → c .before .before .loop .a - 1 < 512
 in-file c =
@@ -69,9 +73,12 @@ loop-again c =
     let l = c .before .before .before .loop in
     let more = c .before .before .loop-test .taken in
     let e : l .a ≡ l .a - 1 + 1 = omega (arith, more) in
-    chains-more (keyAt (now (x .s)) (x .shape)) 512 512 (x .shape .actions) (l .first) (l .next) (l .a - 1) (c .before .key-of .result)
-    (subst (Chains (keyAt (now (x .s)) (x .shape)) 512 512 (x .shape .actions) (l .first) (l .next)) e (l .inv))
-    (most-actions (now (x .s)) (x .shape) (a .pre .0 .shape)) (sym (c .before .key-of .ensures .0)) (c .before .key-of .ensures .1)
+    (
+      chains-more (keyAt (now (x .s)) (x .shape)) 512 512 (x .shape .actions) (l .first) (l .next) (l .a - 1) (c .before .key-of .result)
+      (subst (Chains (keyAt (now (x .s)) (x .shape)) 512 512 (x .shape .actions) (l .first) (l .next)) e (l .inv .0))
+      (most-actions (now (x .s)) (x .shape) (a .pre .0 .shape)) (sym (c .before .key-of .ensures .0)) (c .before .key-of .ensures .1),
+      drop-set-lt (x .shape .actions) (l .next) (l .a - 1) _ (omega (arith, l .inv .0 .bound, more)) ∙ l .inv .1,
+    )
 
 returns : tie.Need-returns Inv-loop μ-loop
 returns c =
@@ -79,8 +86,8 @@ returns c =
     let x = a .args in
     let l = c .before .loop in
     let e : l .a ≡ 0 = omega (arith, c .loop-test .left) in
-    let made = chains-made (keyAt (now (x .s)) (x .shape)) 512 512 (x .shape .actions) (l .first) (l .next) (subst (Chains (keyAt (now (x .s)) (x .shape)) 512 512 (x .shape .actions) (l .first) (l .next)) e (l .inv)) in
-    record { first-of = made .first-of; next-of = λ b h. made .next-of b h (key-within (now (x .s)) (x .shape) (a .pre .0) b h) }
+    let made = chains-made (keyAt (now (x .s)) (x .shape)) 512 512 (x .shape .actions) (l .first) (l .next) (subst (Chains (keyAt (now (x .s)) (x .shape)) 512 512 (x .shape .actions) (l .first) (l .next)) e (l .inv .0)) in
+    (record { first-of = made .first-of; next-of = λ b h. made .next-of b h (key-within (now (x .s)) (x .shape) (a .pre .0) b h) }, l .inv .1)
 
 pub fill-actions-spec : {M : Type 1} → statement M
 fill-actions-spec =
