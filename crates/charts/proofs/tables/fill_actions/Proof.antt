@@ -21,10 +21,9 @@ abbrev μ-loop : tie.MeasureT-loop
 loop-holds : tie.Need-loop-holds Inv-loop μ-loop
 loop-holds c =
     let b = c .before in
-    let x = b .args in
-    (
+    let x = b .args in (
       subst (λ first. Chains (keyAt (now (x .s)) (x .shape)) 512 512 (x .shape .actions) first (now (x .next)) (x .shape .actions)) (sym (b .pre .1))
-      (subst (λ next. Chains (keyAt (now (x .s)) (x .shape)) 512 512 (x .shape .actions) (replicate {A = ℕ} 512 65535) next (x .shape .actions)) (sym (b .pre .2)) (chains-none (keyAt (now (x .s)) (x .shape)) 512 512 (x .shape .actions))),
+          (subst (λ next. Chains (keyAt (now (x .s)) (x .shape)) 512 512 (x .shape .actions) (replicate {A = ℕ} 512 65535) next (x .shape .actions)) (sym (b .pre .2)) (chains-none (keyAt (now (x .s)) (x .shape)) 512 512 (x .shape .actions))),
       refl,
     )
 
@@ -37,7 +36,7 @@ key-of-requires c κs = (c .before .before .before .pre .0, omega (arith, c .bef
 in-file : (c : tie.After-key-of Inv-loop μ-loop) → c .before .before .loop .a - 1 < 512
 in-file c =
     let a = c .before .before .before .before in
-    omega (arith, c .before .before .loop .inv .bound, most-actions (now (a .args .s)) (a .args .shape) (a .pre .0 .shape), c .before .loop-test .taken)
+    omega (arith, c .before .before .loop .inv .0 .bound, most-actions (now (a .args .s)) (a .args .shape) (a .pre .0 .shape), c .before .loop-test .taken)
 
 cast-key : tie.Need-cast-key Inv-loop μ-loop
 cast-key c = omega (arith, c .key-of .ensures .1)
@@ -72,11 +71,10 @@ loop-again c =
     let x = a .args in
     let l = c .before .before .before .loop in
     let more = c .before .before .loop-test .taken in
-    let e : l .a ≡ l .a - 1 + 1 = omega (arith, more) in
-    (
+    let e : l .a ≡ l .a - 1 + 1 = omega (arith, more) in (
       chains-more (keyAt (now (x .s)) (x .shape)) 512 512 (x .shape .actions) (l .first) (l .next) (l .a - 1) (c .before .key-of .result)
-      (subst (Chains (keyAt (now (x .s)) (x .shape)) 512 512 (x .shape .actions) (l .first) (l .next)) e (l .inv .0))
-      (most-actions (now (x .s)) (x .shape) (a .pre .0 .shape)) (sym (c .before .key-of .ensures .0)) (c .before .key-of .ensures .1),
+          (subst (Chains (keyAt (now (x .s)) (x .shape)) 512 512 (x .shape .actions) (l .first) (l .next)) e (l .inv .0))
+          (most-actions (now (x .s)) (x .shape) (a .pre .0 .shape)) (sym (c .before .key-of .ensures .0)) (c .before .key-of .ensures .1),
       drop-set-lt (x .shape .actions) (l .next) (l .a - 1) _ (omega (arith, l .inv .0 .bound, more)) ∙ l .inv .1,
     )
 
