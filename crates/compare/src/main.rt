@@ -14,23 +14,23 @@ use messages::input::arguments;
 use messages::input::fill;
 use messages::input::read_file;
 use messages::words::tell_refusal;
-use twins::Compared;
+use twins::Verdict;
 
 // Whether they were alike: what was compared, and how many calls were made.
-fn tell(what: &[u8], compared: Compared) -> bool {
-    match compared {
-        Compared::Refused(w) => {
+fn tell(what: &[u8], verdict: Verdict) -> bool {
+    match verdict {
+        Verdict::Refused(w) => {
             tell_refusal(w);
             false
         }
-        Compared::Alike(n) => {
+        Verdict::Alike(n) => {
             io::write_all(STDOUT_FILENO, what);
             io::write_all(STDOUT_FILENO, b": alike, ");
             io::print_decimal(STDOUT_FILENO, n as u64);
             io::write_all(STDOUT_FILENO, b" calls\n");
             true
         }
-        Compared::Differ(k) => {
+        Verdict::Differ(k) => {
             io::write_all(STDERR_FILENO, what);
             io::write_all(STDERR_FILENO, b": set and twin differ at call ");
             io::print_decimal(STDERR_FILENO, k as u64);
@@ -44,13 +44,16 @@ fn tell(what: &[u8], compared: Compared) -> bool {
 fn compare_masks(s: &[u8], masks: &[u32]) {
     let mut twin = [0u8; 232576];
     let kinds = [0u8; 65536];
-    if !tell(b"cycles", twins::compare(s, b"", masks, &mut twin)) {
+    let cycles = twins::compare(s, b"", masks, &mut twin);
+    if !tell(b"cycles", cycles.verdict) {
         return;
     }
-    if !tell(b"turns", twins::compare(s, &kinds, masks, &mut twin)) {
+    let turns = twins::compare(s, &kinds, masks, &mut twin);
+    if !tell(b"turns", turns.verdict) {
         return;
     }
-    tell(b"long run", twins::compare_plays(s, masks, &mut twin));
+    let played = twins::compare_plays(s, masks, &mut twin);
+    tell(b"long run", played.verdict);
 }
 
 // As many masks as there are whole ones in the bytes, and room; answers how many.

@@ -14,7 +14,7 @@ use Rattle.model.specs.Automata.{automata}
 use Rattle.model.specs.AutomataFile.{automataRefusal}
 use Rattle.model.specs.Translation.{twin}
 use Rattle.model.specs.Calls.{Format, chartSets, automataTables, callTrace}
-use Rattle.model.specs.Correspondence.{Corresponds, TracesMatch, lentAfter, MoveAlike}
+use Rattle.model.specs.Correspondence.{Corresponds, TracesMatch, lentAfter, afterCalls, MoveAlike}
 use Rattle.model.proofs.CallsTrace.{runLeft, lentAfter-left, callMatches-traces}
 use Rattle.model.proofs.ChartFileSound.{sound}
 use Rattle.model.proofs.CorrespondenceRuns.{corresponds-alike}
@@ -29,11 +29,6 @@ module _ (f : Format) (s : List ℕ) (ok : f .refusal s ≡ none) where
 
   pub lentAfter-accepted : (c : Call) (r : Run) → lentAfter f s c r ≡ callLeaves (f .machine s) c r
   lentAfter-accepted c r = lentAfter-left f s c r ∙ ap (λ t. runLeft r (ended r t)) (callTrace-accepted c r)
-
--- the run that a list of calls leaves
-unfoldable pub afterCalls : Format → List ℕ → List Call → Run → Run
-afterCalls f s [] r = r
-afterCalls f s (c ∷ calls) r = afterCalls f s calls (lentAfter f s c r)
 
 -- ---- a set and a table that reads as its twin
 

@@ -95,6 +95,11 @@ abbrev pub lentAfter : Format → List ℕ → Call → Run → Run
 lentAfter f s (one-turn given) r = turnCall f s given r .lent
 lentAfter f s (whole-cycle given) r = cycleCall f s given r .lent
 
+-- the run that a list of calls leaves: "each call gets the run that the last one left"
+unfoldable pub afterCalls : Format → List ℕ → List Call → Run → Run
+afterCalls f s [] r = r
+afterCalls f s (c ∷ calls) r = afterCalls f s calls (lentAfter f s c r)
+
 -- A list of calls: the runs correspond at the start and after every call, the calls' answers match, and "each call gets the run that the last one left".
 unfoldable pub MoveAlike : List ℕ → List ℕ → List Call → Run → Run → Type 0
 MoveAlike s t [] r q = Corresponds (readCharts s) (readAutomata t) r q

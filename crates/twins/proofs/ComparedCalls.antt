@@ -3,13 +3,15 @@ use mathlib.Core.Path.{_≡_, sym, ap, _∙_, subst}
 use mathlib.Core.Bool.{Bool, true, false}
 use mathlib.Core.Option.{Option, some, none}
 use mathlib.Core.List.{List, [], _∷_, _++_}
-use Prim.Native.Nat.{ℕ, suc, _<_}
+use Prim.Native.Nat.{ℕ, suc, _+_, _≤_, _<_}
+use native.Mathlib.Numerals.{add-one}
 use native.Mathlib.Omega.{arith}
 use borrow.Author.Tests.{lt-ltb}
 use lib.Dec.{T, ltb}
 use Rattle.model.proofs.BoolLaws.{of-true, both-of}
-use lib.ListN.{length, getD, drop}
-use Rattle.records.specs.Lists.{all}
+use lib.ListN.{length, getD, drop, drop-of-length-le}
+use lib.Seq.{drop-cons}
+use Rattle.records.specs.Lists.{all, mapFrom}
 use Rattle.records.specs.Refusal.{Refusal, short-buffer, Out, val, fault, _>>_, fault-if, unless-refused}
 use Rattle.model.specs.Outcome.{settled}
 use Rattle.model.specs.Runs.{Run, Call, start}
@@ -20,7 +22,8 @@ use Rattle.model.specs.AutomataTable.{readAutomata}
 use Rattle.model.specs.Automata.{automata}
 use Rattle.model.specs.AutomataFile.{automataRefusal}
 use Rattle.model.specs.Translation.{twin, twinBytes, written, translate}
-use Rattle.model.specs.Correspondence.{MoveAlike}
+use Rattle.model.specs.Calls.{Format}
+use Rattle.model.specs.Correspondence.{MoveAlike, lentAfter, afterCalls}
 use Rattle.model.proofs.CorrespondenceCalls.{moveAlike-twin}
 use Rattle.model.proofs.TranslationWritten.{twin-back}
 use Rattle.model.proofs.TranslationAccepted.{twin-accepted}
@@ -29,6 +32,8 @@ use Rattle.automata_files.proofs.PlacesRead.{length-initial}
 use Rattle.automata.specs.Accepted.{Accepted}
 use Rattle.translation.specs.declared.Translated.{Translated}
 use Rattle.translation.specs.Answer.{translatedOf}
+use Rattle.twins.specs.Alike.{callFor, isTurn}
+use Rattle.twins.specs.Compared.{callsFrom}
 use Rattle.twins.proofs.Matched.{moved-to}
 
 -- a slice of bytes
@@ -69,3 +74,24 @@ written-length bs buffer n out = go (ltb (length buffer) (length bs))
         let a : _≡_ {A = Out ℕ} (val n) (fault short-buffer) = ap (λ x. x .answer) e in
         let z : _≡_ {A = ℕ} 0 1 = cc in absurd (omega arith)
     go false e = let a : _≡_ {A = Out ℕ} (val n) (val (length bs)) = ap (λ x. x .answer) e in let m : n ≡ length bs = cc in m
+
+-- ---- the runs that the calls leave
+
+module _ (f : Format) (s kinds masks : List ℕ) where
+  -- the calls from number k on lead from a run to where all of them lead from the fresh one
+  abbrev pub LeadsOn : ℕ → Run → Type 0
+  LeadsOn k r = afterCalls f s (callsFrom k kinds (drop k masks)) r ≡ afterCalls f s (callsFrom 0 kinds masks) (start (f .machine s))
+
+  pub leads-first : {r : Run} → r ≡ start (f .machine s) → LeadsOn 0 r
+  leads-first e = ap (afterCalls f s (callsFrom 0 kinds masks)) e
+
+  pub leads-next : (k : ℕ) (r : Run) {q : Run} {turn : Bool} → k < length masks → turn ≡ isTurn kinds k → q ≡ lentAfter f s (callFor turn (getD masks k 0)) r → LeadsOn k r → LeadsOn (k + 1) q
+  unfolding mapFrom afterCalls
+  leads-next k r h d e so-far =
+      (λ i. afterCalls f s (callsFrom (add-one k i) kinds (drop (add-one k i) masks)) ((e ∙ ap (λ b. lentAfter f s (callFor b (getD masks k 0)) r) d) i))
+      ∙ sym (ap (λ l. afterCalls f s (callsFrom k kinds l) r) (drop-cons masks k 0 h))
+      ∙ so-far
+
+  pub leads-last : (k : ℕ) {r : Run} → length masks ≤ k → LeadsOn k r → r ≡ afterCalls f s (callsFrom 0 kinds masks) (start (f .machine s))
+  unfolding mapFrom afterCalls
+  leads-last k {r} h so-far = sym (ap (λ l. afterCalls f s (callsFrom k kinds l) r) (drop-of-length-le masks h)) ∙ so-far

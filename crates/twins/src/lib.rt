@@ -1,12 +1,12 @@
 // Demand 3 of what the functions really answer and leave: the same calls on a set and on its twin, compared.
 ghost use mathlib.Core.Path.{_≡_};
-ghost use lib.ListN.{length};
 ghost use Rattle.model.specs.ChartSet.{readCharts};
 ghost use Rattle.model.specs.AutomataTable.{readAutomata};
 ghost use Rattle.model.specs.Translation.{twin as twin-of, twinBytes, translate as translation};
 ghost use Rattle.charts.specs.Accepted as of-charts;
 ghost use Rattle.automata.specs.Accepted as of-automata;
-ghost use Rattle.twins.specs.Compared.{verdictOf, verdict};
+ghost use Rattle.records.specs.RefusalOf.{refusalOf};
+ghost use Rattle.twins.specs.Compared.{comparisonOf, calledBoth, playedBoth, movedBoth, nothingCompared, compared};
 
 pub mod answers;
 pub mod both;
@@ -20,10 +20,33 @@ use runs::runs_alike;
 use translation::Translated;
 
 // All of so many calls were alike; why there was nothing to compare; the first call that was not alike.
-pub enum Compared {
+pub enum Verdict {
     Alike(usize),
     Refused(Refusal),
     Differ(usize),
+}
+
+// The verdict, and the runs that the calls left.
+pub struct Compared {
+    pub verdict: Verdict,
+    pub run: charts::runs::Run,
+    pub twin: automata::runs::Run,
+}
+
+// Where nothing was compared the runs are zeros, at position 1.
+fn nothing_compared(w: Refusal) -> Compared
+    ensures { λ r. ⌜ comparisonOf r ≡ nothingCompared (refusalOf w) ⌝ }
+{
+    let run = charts::runs::run_between_cycles([0u16; 8], [0u32; 8], [0i16; 64], 0);
+    let locations = [0u16; 8];
+    let clocks = [0u16; 256];
+    let variables = [0i16; 64];
+    let twin = automata::runs::run_in(&locations, &clocks, &variables, 0, 1, 0);
+    Compared {
+        verdict: Verdict::Refused(w),
+        run,
+        twin,
+    }
 }
 
 // The calls, from fresh runs on, which are compared too.
@@ -36,12 +59,16 @@ fn calls_compared(
     masks: &[u32],
 ) -> Compared
     requires { ⌜ of-charts.Accepted (now s) shape × of-automata.Accepted (now t) table × (readAutomata (now t) ≡ twin-of (readCharts (now s))) ⌝ }
-    ensures { λ r. ⌜ r ≡ Compared.Alike (length (now (masks .entry))) ⌝ }
+    ensures { λ r. ⌜ comparisonOf r ≡ calledBoth (now (s .entry)) (now (t .entry)) (now (masks .entry)) (now (kinds .entry)) ⌝ }
 {
     let mut run = charts::runs::start(s, shape);
     let mut twin = automata::runs::start(t, table);
     if !runs_alike(t, table, run, twin) {
-        return Compared::Differ(0);
+        return Compared {
+            verdict: Verdict::Differ(0),
+            run,
+            twin,
+        };
     }
     let mut k: usize = 0;
     while k < masks.len() {
@@ -49,7 +76,11 @@ fn calls_compared(
         let events = masks[k];
         let both = call_both(s, shape, t, table, run, twin, turn, events);
         if !both.alike {
-            return Compared::Differ(k);
+            return Compared {
+                verdict: Verdict::Differ(k),
+                run,
+                twin,
+            };
         }
         let left = both.run;
         let twin_left = both.twin;
@@ -57,7 +88,11 @@ fn calls_compared(
         twin = twin_left;
         k += 1;
     }
-    Compared::Alike(k)
+    Compared {
+        verdict: Verdict::Alike(k),
+        run,
+        twin,
+    }
 }
 
 // Many cycles on both sides, from fresh runs on.
@@ -69,7 +104,7 @@ fn plays_compared(
     masks: &[u32],
 ) -> Compared
     requires { ⌜ of-charts.Accepted (now s) shape × of-automata.Accepted (now t) table × (readAutomata (now t) ≡ twin-of (readCharts (now s))) ⌝ }
-    ensures { λ r. ⌜ r ≡ Compared.Alike (length (now (masks .entry))) ⌝ }
+    ensures { λ r. ⌜ comparisonOf r ≡ playedBoth (now (s .entry)) (now (t .entry)) (now (masks .entry)) ⌝ }
 {
     let run = charts::runs::start(s, shape);
     let twin = automata::runs::start(t, table);
@@ -80,9 +115,17 @@ fn plays_compared(
     let left = played.run;
     let twin_left = other.run;
     if counts_alike(count, reply) & runs_alike(t, table, left, twin_left) {
-        Compared::Alike(masks.len())
+        Compared {
+            verdict: Verdict::Alike(masks.len()),
+            run: left,
+            twin: twin_left,
+        }
     } else {
-        Compared::Differ(0)
+        Compared {
+            verdict: Verdict::Differ(0),
+            run: left,
+            twin: twin_left,
+        }
     }
 }
 
@@ -97,7 +140,7 @@ fn table_compared(
     masks: &[u32],
 ) -> Compared
     requires { ⌜ of-charts.Accepted (now s) shape × of-automata.Accepted (now t) table × (readAutomata (now t) ≡ twin-of (readCharts (now s))) ⌝ }
-    ensures { λ r. ⌜ r ≡ Compared.Alike (length (now (masks .entry))) ⌝ }
+    ensures { λ r. ⌜ comparisonOf r ≡ movedBoth (now (s .entry)) (now (t .entry)) (now (masks .entry)) plays (now (kinds .entry)) ⌝ }
 {
     if plays {
         plays_compared(s, shape, t, table, masks)
@@ -116,10 +159,10 @@ fn twin_compared(
     masks: &[u32],
 ) -> Compared
     requires { ⌜ of-charts.Accepted (now s) shape × (now t ≡ twinBytes (now s)) ⌝ }
-    ensures { λ r. ⌜ r ≡ Compared.Alike (length (now (masks .entry))) ⌝ }
+    ensures { λ r. ⌜ comparisonOf r ≡ movedBoth (now (s .entry)) (now (t .entry)) (now (masks .entry)) plays (now (kinds .entry)) ⌝ }
 {
     match automata_files::check(t) {
-        automata_files::Checked::Refused(w) => Compared::Refused(w),
+        automata_files::Checked::Refused(w) => nothing_compared(w),
         automata_files::Checked::Accepted(table) => {
             table_compared(s, shape, t, table, plays, kinds, masks)
         }
@@ -135,34 +178,34 @@ fn set_compared(
     twin: &mut [u8],
 ) -> Compared
     requires { ⌜ of-charts.Accepted (now s) shape ⌝ }
-    ensures { λ r. ⌜ (verdictOf r ≡ verdict (translation (now (s .entry)) (now (twin .entry)) .answer) (length (now (masks .entry)))) × (now (twin .exit) ≡ translation (now (s .entry)) (now (twin .entry)) .lent) ⌝ }
+    ensures { λ r. ⌜ (comparisonOf r ≡ compared (translation (now (s .entry)) (now (twin .entry)) .answer) (movedBoth (now (s .entry)) (twinBytes (now (s .entry))) (now (masks .entry)) plays (now (kinds .entry)))) × (now (twin .exit) ≡ translation (now (s .entry)) (now (twin .entry)) .lent) ⌝ }
 {
     match translation::translate(s, shape, twin) {
-        Translated::Refused(w) => Compared::Refused(w),
+        Translated::Refused(w) => nothing_compared(w),
         Translated::Written(n) => twin_compared(s, shape, &twin[..n], plays, kinds, masks),
     }
 }
 
 fn file_compared(s: &[u8], plays: bool, kinds: &[u8], masks: &[u32], twin: &mut [u8]) -> Compared
-    ensures { λ r. ⌜ (verdictOf r ≡ verdict (translation (now (s .entry)) (now (twin .entry)) .answer) (length (now (masks .entry)))) × (now (twin .exit) ≡ translation (now (s .entry)) (now (twin .entry)) .lent) ⌝ }
+    ensures { λ r. ⌜ (comparisonOf r ≡ compared (translation (now (s .entry)) (now (twin .entry)) .answer) (movedBoth (now (s .entry)) (twinBytes (now (s .entry))) (now (masks .entry)) plays (now (kinds .entry)))) × (now (twin .exit) ≡ translation (now (s .entry)) (now (twin .entry)) .lent) ⌝ }
 {
     match chart_files::check(s) {
-        chart_files::Checked::Refused(w) => Compared::Refused(w),
+        chart_files::Checked::Refused(w) => nothing_compared(w),
         chart_files::Checked::Accepted(shape) => set_compared(s, shape, plays, kinds, masks, twin),
     }
 }
 
-// A set, its translation into a lent buffer, and the same calls on both, from fresh runs on. Call k has the events of masks[k]; it is a turn where kinds[k]
+// A set, its translation into a lent buffer, and the same calls on both, from fresh runs on: whether they were alike, and the runs that they left. Call k has the events of masks[k]; it is a turn where kinds[k]
 // is 0, else a cycle.
 pub fn compare(s: &[u8], kinds: &[u8], masks: &[u32], twin: &mut [u8]) -> Compared
-    ensures { λ r. ⌜ (verdictOf r ≡ verdict (translation (now (s .entry)) (now (twin .entry)) .answer) (length (now (masks .entry)))) × (now (twin .exit) ≡ translation (now (s .entry)) (now (twin .entry)) .lent) ⌝ }
+    ensures { λ r. ⌜ (comparisonOf r ≡ compared (translation (now (s .entry)) (now (twin .entry)) .answer) (calledBoth (now (s .entry)) (twinBytes (now (s .entry))) (now (masks .entry)) (now (kinds .entry)))) × (now (twin .exit) ≡ translation (now (s .entry)) (now (twin .entry)) .lent) ⌝ }
 {
     file_compared(s, false, kinds, masks, twin)
 }
 
 // The same with cycles played, one for each mask: as many are done, or the first fails alike, and they leave runs that correspond.
 pub fn compare_plays(s: &[u8], masks: &[u32], twin: &mut [u8]) -> Compared
-    ensures { λ r. ⌜ (verdictOf r ≡ verdict (translation (now (s .entry)) (now (twin .entry)) .answer) (length (now (masks .entry)))) × (now (twin .exit) ≡ translation (now (s .entry)) (now (twin .entry)) .lent) ⌝ }
+    ensures { λ r. ⌜ (comparisonOf r ≡ compared (translation (now (s .entry)) (now (twin .entry)) .answer) (playedBoth (now (s .entry)) (twinBytes (now (s .entry))) (now (masks .entry)))) × (now (twin .exit) ≡ translation (now (s .entry)) (now (twin .entry)) .lent) ⌝ }
 {
     let kinds = [1u8; 1];
     file_compared(s, true, &kinds, masks, twin)

@@ -1,11 +1,12 @@
 -- `calls_compared` meets its contract. Assumes nothing.
-use Rattle.twins.proofs.ComparedCalls.{charts-are, fresh-alike}
+use Rattle.twins.proofs.ComparedCalls.{charts-are, fresh-alike, LeadsOn, leads-first, leads-next, leads-last}
 use Rattle.twins.proofs.Matched.{corresponding-alike, next-alike, then-alike, now-corresponds, moved-to}
 use Rattle.twins.specs.Alike.{callFor}
-use Rattle.twins.specs.declared.Compared.the-variants.{Alike}
+use Rattle.twins.specs.Compared.{alike}
 use Rattle.automata.specs.RunOf as automata-run
 use Rattle.charts.specs.RunOf as charts-run
 use Rattle.model.proofs.BoolLaws.{clash, of-true}
+use Rattle.model.specs.Calls.{chartSets, automataTables}
 use Rattle.model.specs.Correspondence.{MoveAlike}
 use Rattle.model.specs.Runs.{Call}
 use lib.ListN.{length, getD}
@@ -20,7 +21,9 @@ use Rattle.twins.proofs.calls_compared.Statement.{statement}
 use Rattle.twins.proofs.calls_compared.Tie as tie
 
 abbrev Inv-loop : tie.InvT-loop
-Inv-loop s shape t table kinds masks run₀ twin₀ k₀ run twin k = (k ≤ length masks) × ((calls : List Call) → MoveAlike s t calls (charts-run.runOf run) (automata-run.runOf twin))
+Inv-loop s shape t table kinds masks run₀ twin₀ k₀ run twin k =
+    (k ≤ length masks) × ((calls : List Call) → MoveAlike s t calls (charts-run.runOf run) (automata-run.runOf twin))
+    × LeadsOn chartSets s kinds masks k (charts-run.runOf run) × LeadsOn automataTables t kinds masks k (automata-run.runOf twin)
 
 abbrev μ-loop : tie.MeasureT-loop
 μ-loop s shape t table kinds masks run₀ twin₀ k₀ run twin k = length masks - k
@@ -47,8 +50,12 @@ returns c =
 
 loop-holds : tie.Need-loop-holds Inv-loop μ-loop
 loop-holds c =
-    let b = c .before .before .before .before .before .before .before .before in
-    (omega arith, fresh-alike (now (b .args .s)) (now (b .args .t)) (b .pre .0 .unrefused) (b .pre .1 .unrefused) (b .pre .2) (c .before .before .before .start .ensures) (c .before .before .start2 .ensures))
+    let b = c .before .before .before .before .before .before .before .before in (
+      omega arith,
+      fresh-alike (now (b .args .s)) (now (b .args .t)) (b .pre .0 .unrefused) (b .pre .1 .unrefused) (b .pre .2) (c .before .before .before .start .ensures) (c .before .before .start2 .ensures),
+      leads-first chartSets (now (b .args .s)) (now (b .args .kinds)) (now (b .args .masks)) (c .before .before .before .start .ensures),
+      leads-first automataTables (now (b .args .t)) (now (b .args .kinds)) (now (b .args .masks)) (c .before .before .start2 .ensures),
+    )
 
 is-turn-requires : tie.Need-is-turn-requires Inv-loop μ-loop
 is-turn-requires c κs = tt
@@ -101,13 +108,22 @@ loop-again c =
     let f = callFor (x .before .before .is-turn .result) (getD (now (a .masks)) (l .k) 0) in
     let r = charts-run.runOf (l .run) in
     let q = automata-run.runOf (l .twin) in
-    (omega arith, λ calls. moved-to s t calls (sym (ap (λ z. z .run) (x .call-both .ensures))) (sym (ap (λ z. z .twin) (x .call-both .ensures))) (then-alike s t (a .table) (b .pre .1) r q (l .inv .1) f calls))
+    let more = x .before .before .before .loop-test .taken in
+    let turn = x .before .before .is-turn .ensures in (
+      omega arith,
+      λ calls. moved-to s t calls (sym (ap (λ z. z .run) (x .call-both .ensures))) (sym (ap (λ z. z .twin) (x .call-both .ensures))) (then-alike s t (a .table) (b .pre .1) r q (l .inv .1) f calls),
+      leads-next chartSets s (now (a .kinds)) (now (a .masks)) (l .k) r (omega (arith, more)) turn (ap (λ z. z .run) (x .call-both .ensures)) (l .inv .2),
+      leads-next automataTables t (now (a .kinds)) (now (a .masks)) (l .k) q (omega (arith, more)) turn (ap (λ z. z .twin) (x .call-both .ensures)) (l .inv .3),
+    )
 
 returns-3 : tie.Need-returns-3 Inv-loop μ-loop
 returns-3 c =
     let l = c .before .loop in
-    let e : l .k ≡ length (now (c .before .before .before .before .before .before .before .before .before .before .args .masks)) = omega arith in
-    ap Alike e
+    let a = c .before .before .before .before .before .before .before .before .before .before .args in
+    let e : l .k ≡ length (now (a .masks)) = omega arith in
+    let run = leads-last chartSets (now (a .s)) (now (a .kinds)) (now (a .masks)) (l .k) (omega arith) (l .inv .2) in
+    let twin = leads-last automataTables (now (a .t)) (now (a .kinds)) (now (a .masks)) (l .k) (omega arith) (l .inv .3) in
+    λ i. record { verdict = alike (e i); run = run i; twin = twin i }
 
 pub calls-compared-spec : {M : Type 1} → statement M
 calls-compared-spec =

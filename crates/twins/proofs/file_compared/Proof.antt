@@ -1,13 +1,12 @@
 -- `file_compared` meets its contract. Assumes nothing.
-use Rattle.twins.specs.Compared.{verdict}
+use Rattle.twins.specs.Compared.{movedBoth, compared}
 use Rattle.charts.proofs.AcceptedByCheck.{accepted-of, refused-of}
 use Rattle.model.specs.Translation.{twinBytes, written, translate}
 use Rattle.model.specs.Outcome.{settled}
 use Rattle.records.specs.RefusalOf.{refusalOf}
 use Rattle.records.specs.Refusal.{fault, unless-refused}
-use lib.ListN.{length}
 use denote.Ref.{now}
-use mathlib.Core.Path.{_≡_, sym, ap}
+use mathlib.Core.Path.{_≡_, sym, ap, _∙_}
 use borrow.Author.Needs.{needs}
 use Rattle.twins.proofs.file_compared.Statement.{statement}
 use Rattle.twins.proofs.file_compared.Tie as tie
@@ -26,13 +25,17 @@ set-compared-requires c κs =
     let b = c .before .before .before .before .before .before .before .before .before in
     accepted-of (now (b .args .s)) _ (c .before .before .before .before .check .ensures) (c .before .before .shape .given .0 .0) (c .before .before .shape .given .1)
 
+nothing-compared-requires : tie.Need-nothing-compared-requires
+nothing-compared-requires c κs = search needs
+
 returns : tie.Need-returns
 returns c =
-    let b = c .before .before .before .before .before .before .before .before in
+    let b = c .before .before .before .before .before .before .before .before .before in
     let s = now (b .args .s) in
     let buffer = now (b .args .twin) in
-    let e : translate s buffer ≡ settled buffer (fault (refusalOf (c .before .w .given .0 .0))) = ap (λ o. settled buffer (unless-refused o (written (twinBytes s) buffer))) (refused-of s _ (c .before .before .before .check .ensures) (c .before .w .given .0 .0) (c .before .w .given .1)) in
-    (sym (ap (λ z. verdict (z .answer) (length (now (b .args .masks)))) e), sym (ap (λ z. z .lent) e))
+    let e : translate s buffer ≡ settled buffer (fault (refusalOf (c .before .before .w .given .0 .0))) = ap (λ o. settled buffer (unless-refused o (written (twinBytes s) buffer))) (refused-of s _ (c .before .before .before .before .check .ensures) (c .before .before .w .given .0 .0) (c .before .before .w .given .1)) in
+    let both = movedBoth s (twinBytes s) (now (b .args .masks)) (b .args .plays) (now (b .args .kinds)) in
+    (c .nothing-compared .ensures ∙ sym (ap (λ z. compared (z .answer) both) e), sym (ap (λ z. z .lent) e))
 
 same-length : tie.Need-same-length
 same-length c = search needs
@@ -46,6 +49,7 @@ file-compared-spec =
     (tie.spec
     check-requires
     enum-known-w
+    nothing-compared-requires
     enum-known-shape
     set-compared-requires
     returns

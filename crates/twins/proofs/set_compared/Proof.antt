@@ -1,6 +1,6 @@
 -- `set_compared` meets its contract. Assumes nothing.
 use Rattle.twins.proofs.ComparedCalls.{translated-is, written-length}
-use Rattle.twins.specs.Compared.{verdictOf, verdict}
+use Rattle.twins.specs.Compared.{movedBoth, compared}
 use Rattle.translation.specs.Answer.{translatedOf}
 use Rattle.model.proofs.CorrespondenceDemand3.{translated}
 use Rattle.model.specs.Translation.{twinBytes}
@@ -59,17 +59,21 @@ twin-compared-requires c κs =
 same-length : tie.Need-same-length
 same-length c = search needs
 
+nothing-compared-requires : tie.Need-nothing-compared-requires
+nothing-compared-requires c κs = search needs
+
 returns : tie.Need-returns
 returns c =
-    let b = c .before .before .before .before .before .before .before .before .before .before .before in
+    let b = c .before .before .before .before .before .before .before .before .before .before .before .before in
     let s = now (b .args .s) in
     let buffer = now (b .args .twin) in
-    let y = c .before .before .before .before .before .translate in
+    let y = c .before .before .before .before .before .before .translate in
     let out = y .last .1 .1 .0 in
-    let g = c .before .w .given in
+    let g = c .before .before .w .given in
     let made = sym (ap (λ z. translatedOf z out) (g .1)) ∙ y .ensures in
     let e = sym (ap (λ z. translatedOf z out) (g .1)) ∙ translated-is s buffer (y .result) out (b .pre .unrefused) (y .ensures) in
-    (ap (λ z. verdict (z .answer) (length (now (b .args .masks)))) e, ap (λ z. z .lent) e)
+    let both = movedBoth s (twinBytes s) (now (b .args .masks)) (b .args .plays) (now (b .args .kinds)) in
+    (c .nothing-compared .ensures ∙ ap (λ z. compared (z .answer) both) e, ap (λ z. z .lent) e)
 
 same-length-2 : tie.Need-same-length-2
 same-length-2 c = search needs
@@ -84,7 +88,8 @@ returns-2 c =
     let g = c .before .before .before .n .given in
     let made = sym (ap (λ z. translatedOf z out) (g .1)) ∙ y .ensures in
     let e = sym (ap (λ z. translatedOf z out) (g .1)) ∙ translated-is s buffer (y .result) out (b .pre .unrefused) (y .ensures) in
-    (ap verdictOf (c .twin-compared .ensures) ∙ ap (λ z. verdict (z .answer) (length (now (b .args .masks)))) e, ap (λ z. z .lent) e)
+    let whole = translated s buffer (g .0 .0) out (sym e) .1 in
+    (c .twin-compared .ensures ∙ ap (λ z. movedBoth s z (now (b .args .masks)) (b .args .plays) (now (b .args .kinds))) whole ∙ ap (λ z. compared (z .answer) (movedBoth s (twinBytes s) (now (b .args .masks)) (b .args .plays) (now (b .args .kinds)))) e, ap (λ z. z .lent) e)
 
 pub set-compared-spec : {M : Type 1} → statement M
 set-compared-spec =
@@ -92,6 +97,7 @@ set-compared-spec =
     (tie.spec
     translate-requires
     enum-known-w
+    nothing-compared-requires
     enum-known-n
     slice-reshare-prefix-twin-compared
     slice-aggregate-twin-compared

@@ -28,12 +28,15 @@ table-compared-requires c κs =
     let t = now (b .args .t) in
     (b .pre .0, accepted-of t _ (c .before .before .before .check .ensures) (c .before .table .given .0 .0) (c .before .table .given .1), twin-reads s t (bytes (c .before .before .before .before .before .before .before)) (b .pre .0 .unrefused) (b .pre .1))
 
+nothing-compared-requires : tie.Need-nothing-compared-requires
+nothing-compared-requires c κs = search needs
+
 returns : tie.Need-returns
 returns c =
-    let b = c .before .before .before .before .before .before .before .before in
+    let b = c .before .before .before .before .before .before .before .before .before in
     let s = now (b .args .s) in
     let t = now (b .args .t) in
-    not-both (twin-unrefused s t (bytes (c .before .before .before .before .before .before .before)) (b .pre .0 .unrefused) (b .pre .1)) (refused-of t _ (c .before .before .before .check .ensures) (c .before .w .given .0 .0) (c .before .w .given .1))
+    not-both (twin-unrefused s t (bytes (c .before .before .before .before .before .before .before .before)) (b .pre .0 .unrefused) (b .pre .1)) (refused-of t _ (c .before .before .before .before .check .ensures) (c .before .before .w .given .0 .0) (c .before .before .w .given .1))
 
 returns-2 : tie.Need-returns-2
 returns-2 c = search needs
@@ -44,6 +47,7 @@ twin-compared-spec =
     (tie.spec
     check-requires
     enum-known-w
+    nothing-compared-requires
     enum-known-table
     table-compared-requires
     returns
