@@ -45,15 +45,18 @@ fn compare_masks(s: &[u8], masks: &[u32]) {
     let mut twin = [0u8; 232576];
     let kinds = [0u8; 65536];
     let cycles = twins::compare(s, b"", masks, &mut twin);
-    if !tell(b"cycles", cycles.verdict) {
+    let by_cycles = cycles.verdict;
+    if !tell(b"cycles", by_cycles) {
         return;
     }
     let turns = twins::compare(s, &kinds, masks, &mut twin);
-    if !tell(b"turns", turns.verdict) {
+    let by_turns = turns.verdict;
+    if !tell(b"turns", by_turns) {
         return;
     }
     let played = twins::compare_plays(s, masks, &mut twin);
-    tell(b"long run", played.verdict);
+    let by_plays = played.verdict;
+    tell(b"long run", by_plays);
 }
 
 // As many masks as there are whole ones in the bytes, and room; answers how many.
