@@ -11,7 +11,7 @@
 --                               Charts                          ticks, afterHolds, everyHolds, row, transitionHolds, acted, follow, chartStep
 --   The translation             Translation                     twin, twinBytes, translate
 --                               Automata                        top, grown, literalHolds, openEdges, theOne, edgeStep
---                               Correspondence                  clockFor, Corresponds, AnswersMatch, CallMatches, MoveAlike, Demand₃
+--                               Correspondence                  clockFor, Corresponds, AnswersMatch, CallMatches, afterCalls, MoveAlike, Demand₃
 --   Refusal table               records/specs/Refusal, Framing  refusalNumber, lowest, framing (1 to 3)
 --                               ChartFile                       chartLimits, unused (4), inCode (5), allNamed (6), .. chartsRefusal
 --                               AutomataFile                    automataLimits, automataRefusal (11)
