@@ -5,9 +5,9 @@ use mathlib.Core.List.{List, _∷_, map}
 use Prim.Native.Nat.{ℕ, zero, suc, _+_, _-_}
 use native.Mathlib.Omega.{arith}
 use lib.Dec.{eqb}
-use Rattle.records.specs.Lists.{keep, from, upto}
-use Rattle.model.specs.Owned.{of}
-use Rattle.chart_files.proofs.ListLaws.{keep-map, map-map, keep-keep}
+use Rattle.prelude.specs.Lists.{keep, from, upto}
+use Rattle.prelude.specs.Owned.{of}
+use Rattle.prelude.proofs.Maps.{keep-map, map-map, keep-keep}
 use Rattle.automata.specs.Index.{ownerIn, ownedBy}
 
 -- numbers counted from a start, and from 0

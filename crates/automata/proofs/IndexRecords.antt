@@ -7,8 +7,8 @@ use native.Mathlib.Omega.{arith}
 use lib.Dec.{eqb, ltb}
 use lib.ListN.{length, replicate, length-replicate}
 use borrow.Author.Tests.{ne-eqb, ltb-true, ltb-false}
-use Rattle.records.specs.Lists.{keep, from, upto}
-use Rattle.model.specs.Owned.{of}
+use Rattle.prelude.specs.Lists.{keep, from, upto}
+use Rattle.prelude.specs.Owned.{of}
 use Rattle.model.specs.AutomataTable.{readAutomata, edge}
 use Rattle.model.specs.Automata.{leaving}
 use Rattle.machines.proofs.ChainsEarliest.{keep-alike}

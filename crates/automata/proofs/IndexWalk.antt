@@ -7,7 +7,7 @@ use native.Mathlib.Omega.{arith}
 use lib.Dec.{eqb, ltb}
 use lib.ListN.{getD}
 use borrow.Author.Tests.{ne-eqb, eqb-true, eqb-false, lt-ltb, le-ltb}
-use Rattle.records.specs.Lists.{keep, from}
+use Rattle.prelude.specs.Lists.{keep, from}
 use Rattle.machines.specs.Chains.{earliest, remaining}
 use Rattle.machines.proofs.ChainsEarliest.{Found, none-found, one-found, earliest-one, earliest-none}
 use Rattle.machines.proofs.Chains.{chain-done}

@@ -6,7 +6,6 @@ pub mod IndexOwned
 pub mod IndexRecords
 pub mod StepOfOpen
 pub mod StepOf
-pub mod AllRead
 pub mod RunOfClocks
 pub mod TurnOfKept
 pub mod TurnOf

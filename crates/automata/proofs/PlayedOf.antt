@@ -13,7 +13,7 @@ use Rattle.model.specs.Runs.{Run, Machine, possible, checked, cycle, checkedBy}
 use Rattle.model.specs.AutomataTable.{Automata, readAutomata}
 use Rattle.model.specs.Automata.{edgeStep, automata}
 use Rattle.model.specs.Calls.{automataTables}
-use Rattle.model.proofs.BoolLaws.{is-true, of-true}
+use Rattle.prelude.proofs.Bools.{is-true, of-true}
 use Rattle.model.proofs.ChecksPossible.{possible-fits, possible-rests}
 use Rattle.model.proofs.ChecksKeptBySteps.{table-cycle-possible}
 use Rattle.automata_files.specs.declared.Shape.{Shape}

@@ -8,7 +8,7 @@ use native.Mathlib.Omega.{arith}
 use borrow.Author.Tests.{leb-true, ltb-true, lt-ltb, ne-eqb}
 use lib.Dec.{leb, ltb, eqb}
 use lib.ListN.{length, getD, replicate, length-replicate}
-use Rattle.records.specs.Lists.{all, upto, mapFrom}
+use Rattle.prelude.specs.Lists.{all, upto, mapFrom}
 use Rattle.model.specs.Runs.{Run, timersPossible}
 use Rattle.model.specs.AutomataTable.{Timing, after, every, readAutomata}
 use Rattle.model.specs.AutomataTable as M
@@ -19,10 +19,12 @@ use Rattle.automata_files.specs.Places.{clockAt}
 use Rattle.automata_files.proofs.PlacesRead.{most-clocks, length-clocks, clock-is}
 use Rattle.automata_files.proofs.NamedThings.{ticks-known}
 use Rattle.machines.proofs.Files.{all-alike}
-use Rattle.machines.proofs.Filled.{getD-mapFrom}
+use Rattle.prelude.proofs.Filled.{getD-mapFrom}
 use Rattle.machines.proofs.ChecksClauses.{all-upto}
 use Rattle.automata.specs.Accepted.{Accepted}
-use Rattle.automata.specs.RunOf.{topAt, grownAt, ClocksPossible, turnFor, capFor, grownTo, turnAt, capAt, HasLimits}
+use Rattle.timings.specs.Growth.{mostTop, turnFor, capFor}
+use Rattle.timings.proofs.GrowthBounds.{top-most}
+use Rattle.automata.specs.RunOf.{topAt, grownAt, ClocksPossible, turnAt, capAt, HasLimits}
 
 module _ (s : List ℕ) (sh : Shape) (is : IsShape s sh) (r : Run) where
   abbrev inside : ℕ → Bool
@@ -46,20 +48,11 @@ module _ (s : List ℕ) (sh : Shape) (is : IsShape s sh) (r : Run) where
       one k x true e = ap (λ c. grown (c .timing) (c .ticks) x) (clock-is s sh is k (ltb-true k (sh .clocks) e))
       one k x false e = refl
 
-highest : (t : Timing) (d : ℕ) → d ≤ 36_000 → top t d ≤ 36_001
-highest after d h = omega arith
-highest every d h = omega arith
-
 pub low-of : (s : List ℕ) (sh : Shape) → Accepted s sh → (r : Run) → timersPossible (automata (readAutomata s)) r ≡ true → ClocksPossible (sh .clocks) (r .timers)
 low-of s sh ok r e k h =
-    let t : top (clockAt s sh k .timing) (clockAt s sh k .ticks) ≤ 36_001 = highest (clockAt s sh k .timing) (clockAt s sh k .ticks) (ticks-known s sh (ok .shape) (ok .unrefused) k h .1) in
+    let t : top (clockAt s sh k .timing) (clockAt s sh k .ticks) ≤ mostTop = top-most (clockAt s sh k .timing) (clockAt s sh k .ticks) (ticks-known s sh (ok .shape) (ok .unrefused) k h .1) in
     let l : getD (r .timers) k 0 ≤ topAt s sh k = leb-true (getD (r .timers) k 0) (topAt s sh k) (all-upto (λ j. leb (getD (r .timers) j 0) (topAt s sh j)) (sh .clocks) k (sym (clocks-are s sh (ok .shape) r) ∙ e) h) in
     omega arith
-
--- the two limits say how a clock grows
-pub limit : (t : Timing) (d x : ℕ) → d ≤ 36_000 → x ≤ 36_001 → grownTo (turnFor t d) (capFor t d) x ≡ grown t d x
-limit after d x h l = ap (λ b. cond b 1 (min (x + 1) (d + 1))) (ne-eqb x 65535 (λ e. absurd (omega arith)))
-limit every d x h l = ap (λ y. cond (eqb x d) 1 y) (let z : min (x + 1) 65535 ≡ x + 1 = omega arith in z)
 
 -- arrays of 256 places in which the limits are written have them
 pub room-for-limits : (length (replicate {A = ℕ} 256 65535) ≡ 256) × (length (replicate {A = ℕ} 256 65535) ≡ 256)

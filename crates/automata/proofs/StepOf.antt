@@ -6,7 +6,7 @@ use Prim.Native.Nat.{ℕ}
 use lib.ListN.{getD, set}
 use Rattle.records.specs.Refusal.{Refusal, Out, val, fault, _>>=_, choose}
 use Rattle.expressions.specs.Nodes.{Node}
-use Rattle.model.specs.Owned.{of}
+use Rattle.prelude.specs.Owned.{of}
 use Rattle.model.specs.Runs.{Variable, World, Run, Answer, taken, Deed, deed, deeds, guardHolds}
 use Rattle.model.specs.AutomataTable.{LiteralTrigger, always, event, clock, Literal, Automata, edge}
 use Rattle.model.specs.Automata.{literalTriggerHolds, literalHolds, reads, opens, theOne, reset, leaving, openEdges, edgeStep}

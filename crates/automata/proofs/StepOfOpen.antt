@@ -3,7 +3,7 @@ use mathlib.Core.Path.{_≡_, refl, sym, ap, _∙_}
 use mathlib.Core.Bool.{Bool, true, false, not, cond}
 use mathlib.Core.List.{List, [], _∷_, map}
 use Prim.Native.Nat.{ℕ, _-_}
-use Rattle.records.specs.Lists.{keep, from}
+use Rattle.prelude.specs.Lists.{keep, from}
 use Rattle.records.specs.Refusal.{Refusal, Out, val, fault, _>>=_, choose}
 use Rattle.model.specs.Runs.{Run}
 use Rattle.model.specs.AutomataTable.{Literal, Automata, readAutomata}

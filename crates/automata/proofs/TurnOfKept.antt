@@ -6,7 +6,7 @@ use native.Mathlib.Nat.{le-refl}
 use native.Mathlib.Omega.{arith}
 use lib.ListN.{length, getD, set, length-set}
 use Rattle.records.specs.Refusal.{Out, val, fault, _>>=_}
-use Rattle.model.specs.Owned.{of}
+use Rattle.prelude.specs.Owned.{of}
 use Rattle.model.specs.Runs.{World, Run, Answer, deeds, taken}
 use Rattle.model.specs.AutomataTable.{Automata, edge}
 use Rattle.model.specs.Automata.{theOne, reset, openEdges, edgeStep}

@@ -1,17 +1,18 @@
--- The code's run as the model's. Its arrays have 8, 256 and 64 places by their types, as the model's check 12 asks of a lent run. Assumes nothing: these
+-- The code's run as the model's. Its arrays have their places by their types, as the model's check 12 asks of a lent run. Assumes nothing: these
 -- are definitions.
 use mathlib.Core.Path.{_≡_}
-use mathlib.Core.Bool.{Bool, cond}
+use mathlib.Core.Bool.{cond}
 use mathlib.Core.List.{List}
-use Prim.Native.Nat.{ℕ, _+_, _≤_, _<_, min}
-use lib.Dec.{eqb, ltb}
+use Prim.Native.Nat.{ℕ, _≤_, _<_}
+use lib.Dec.{ltb}
 use lib.IntN.{ℤ}
 use lib.ListN.{length, getD}
+use Rattle.model.specs.Limits.{mostCharts, mostVariables, mostClocks}
 use Rattle.model.specs.Runs.{Run}
-use Rattle.model.specs.AutomataTable.{Timing, after, every}
 use Rattle.model.specs.Automata.{top, grown}
 use Rattle.automata_files.specs.declared.Shape.{Shape}
 use Rattle.automata_files.specs.Places.{clockAt}
+use Rattle.timings.specs.Growth.{mostTop, turnFor, capFor}
 use Rattle.automata.specs.declared.runs.Run as declared-run
 
 -- a run by its places
@@ -24,14 +25,10 @@ runIn at clocks vars events position cycles = record {
 
 -- the places that its arrays have by their types
 abbrev pub Sized : List ℕ → List ℕ → List ℤ → Type 0
-Sized at clocks vars = (length at ≡ 8) × (length clocks ≡ 256) × (length vars ≡ 64)
+Sized at clocks vars = (length at ≡ mostCharts) × (length clocks ≡ mostClocks) × (length vars ≡ mostVariables)
 
 abbrev pub runOf : declared-run.Run → Run
 runOf r = runIn (r .locations) (r .clocks) (r .variables) (r .events) (r .position) (r .cycles)
-
--- a clock's timing, by whether it is an after-clock
-abbrev pub timingIf : Bool → Timing
-timingIf b = cond b after every
 
 -- clock k's top, and what a place of a run's clocks has after time passed, as the file's bytes say
 abbrev pub topAt : List ℕ → Shape → ℕ → ℕ
@@ -42,20 +39,7 @@ grownAt s sh k x = cond (ltb k (sh .clocks)) (grown (clockAt s sh k .timing) (cl
 
 -- no clock in use is over the highest top, so that each has room for one more
 abbrev pub ClocksPossible : ℕ → List ℕ → Type 0
-ClocksPossible count clocks = (k : ℕ) → k < count → getD clocks k 0 ≤ 36_001
-
--- ---- a clock's growth by two limits: where it turns, and where it stops; 65,535 is nowhere
-
-abbrev pub turnFor : Timing → ℕ → ℕ
-turnFor after d = 65535
-turnFor every d = d
-
-abbrev pub capFor : Timing → ℕ → ℕ
-capFor after d = d + 1
-capFor every d = 65535
-
-abbrev pub grownTo : ℕ → ℕ → ℕ → ℕ
-grownTo turn cap x = cond (eqb x turn) 1 (min (x + 1) cap)
+ClocksPossible count clocks = (k : ℕ) → k < count → getD clocks k 0 ≤ mostTop
 
 -- of so many clocks in use each place has its limit; the places behind them stay
 abbrev pub turnAt : List ℕ → Shape → ℕ → ℕ → ℕ

@@ -6,7 +6,7 @@ use Prim.Native.Nat.{ℕ, _<_}
 use lib.IntN.{ℤ}
 use lib.ListN.{set}
 use Rattle.records.specs.Refusal.{many-open, Out, val, fault, _>>=_}
-use Rattle.model.specs.Owned.{of}
+use Rattle.prelude.specs.Owned.{of}
 use Rattle.model.specs.Runs.{World, Run, Answer, taken, deeds}
 use Rattle.model.specs.AutomataTable.{Automata, edge}
 use Rattle.model.specs.Automata.{literalHolds, reads, opens, theOne, leaving, reset}

@@ -11,6 +11,7 @@ use Rattle.machines.specs.Turns as R
 use Rattle.machines.specs.declared.answers.Answer.{Answer}
 use Rattle.machines.specs.declared.answers.Ending.{Ending}
 use Rattle.automata_files.specs.declared.Shape.{Shape}
+use Rattle.timings.specs.Growth.{mostTop}
 use Rattle.automata.specs.declared.turns.Turned.{Turned}
 use Rattle.automata.specs.declared.cycles.Called.{Called}
 use Rattle.automata.specs.declared.cycles.Progress.{Progress}
@@ -40,7 +41,7 @@ pub record Prepared (s : List ℕ) (sh : Shape) (first next : List ℕ) : Type 0
 
 -- of so many clocks none is over the highest top
 abbrev pub clockPossibleAt : Shape → ℕ → ℕ → ℕ → Type 0
-clockPossibleAt sh cycles k x = k < sh .clocks → x ≤ 36_001
+clockPossibleAt sh cycles k x = k < sh .clocks → x ≤ mostTop
 
 -- A run in the midst of a cycle: its position is one of the automata's or time's, and time can pass.
 abbrev pub Ready : Shape → M.Run → Type 0

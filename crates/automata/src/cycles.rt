@@ -24,6 +24,12 @@ use machines::answers::Ending;
 use machines::answers::Reason;
 use machines::checks::Before;
 use machines::checks::events_given;
+use records::sizes::Clocks;
+use records::sizes::Places;
+use records::sizes::TABLE_KEYS;
+use records::sizes::TABLE_RECORDS;
+use records::sizes::TableHeads;
+use records::sizes::Variables;
 
 // The answer of a call that is done or not, and the run after it.
 pub struct Called {
@@ -35,7 +41,7 @@ pub struct Called {
 fn turns_of_cycle(
     s: &[u8],
     shape: Shape,
-    first: &[u16; 896],
+    first: &TableHeads,
     next: &[u16],
     run: Run,
     events: u32,
@@ -86,7 +92,7 @@ fn cycle_making_index(s: &[u8], shape: Shape, next: &mut [u16], run: Run, events
     requires { ⌜ RoomFor shape (now next) ⌝ }
     ensures { λ r. ⌜ calledOf r ≡ settled (runOf run) (model-cycle (machine (readAutomata (now (s .entry)))) events (runOf run)) ⌝ }
 {
-    let mut first = [65535u16; 896];
+    let mut first = [65535u16; TABLE_KEYS];
     index_of(s, shape, &mut first, next);
     turns_of_cycle(s, shape, &first, next, run, events)
 }
@@ -100,7 +106,7 @@ pub fn cycle_by_turns(s: &[u8], shape: Shape, run: Run, events: u32) -> Called
         let mut next = [65535u16; 1024];
         cycle_making_index(s, shape, &mut next, run, events)
     } else {
-        let mut next = [14536u16; 14536];
+        let mut next = [14536u16; TABLE_RECORDS];
         cycle_making_index(s, shape, &mut next, run, events)
     }
 }
@@ -115,11 +121,11 @@ pub enum Progress {
 fn automata_turns(
     s: &[u8],
     shape: Shape,
-    first: &[u16; 896],
+    first: &TableHeads,
     next: &[u16],
-    locations: &mut [u16; 8],
-    clocks: &mut [u16; 256],
-    vars: &mut [i16; 64],
+    locations: &mut Places,
+    clocks: &mut Clocks,
+    vars: &mut Variables,
     events: u32,
     position: u32,
     cycles: u32,
@@ -157,13 +163,13 @@ fn automata_turns(
 fn cycle_or_fault(
     s: &[u8],
     shape: Shape,
-    first: &[u16; 896],
+    first: &TableHeads,
     next: &[u16],
-    turn: &[u16; 256],
-    cap: &[u16; 256],
-    locations: &mut [u16; 8],
-    clocks: &mut [u16; 256],
-    vars: &mut [i16; 64],
+    turn: &Clocks,
+    cap: &Clocks,
+    locations: &mut Places,
+    clocks: &mut Clocks,
+    vars: &mut Variables,
     events: u32,
     position: u32,
     cycles: u32,
@@ -198,13 +204,13 @@ fn cycle_or_fault(
 pub fn cycle_or_none(
     s: &[u8],
     shape: Shape,
-    first: &[u16; 896],
+    first: &TableHeads,
     next: &[u16],
-    turn: &[u16; 256],
-    cap: &[u16; 256],
-    locations: &mut [u16; 8],
-    clocks: &mut [u16; 256],
-    vars: &mut [i16; 64],
+    turn: &Clocks,
+    cap: &Clocks,
+    locations: &mut Places,
+    clocks: &mut Clocks,
+    vars: &mut Variables,
     events: u32,
     position: u32,
     cycles: u32,
@@ -247,13 +253,13 @@ pub fn cycle_or_none(
 pub fn cycle_after_checks(
     s: &[u8],
     shape: Shape,
-    first: &[u16; 896],
+    first: &TableHeads,
     next: &[u16],
-    turn: &[u16; 256],
-    cap: &[u16; 256],
-    locations: &mut [u16; 8],
-    clocks: &mut [u16; 256],
-    vars: &mut [i16; 64],
+    turn: &Clocks,
+    cap: &Clocks,
+    locations: &mut Places,
+    clocks: &mut Clocks,
+    vars: &mut Variables,
     present: u32,
     position: u32,
     cycles: u32,

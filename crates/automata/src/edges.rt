@@ -18,6 +18,10 @@ use super::literals::literal_holds;
 use automata_files::Shape;
 use expressions::arithmetic::Truth;
 use machines::answers::Reason;
+use records::sizes::Clocks;
+use records::sizes::LITERAL_KEYS;
+use records::sizes::TableHeads;
+use records::sizes::Variables;
 
 // What the edges read so far come to.
 pub enum Tally {
@@ -49,17 +53,17 @@ fn read_fault(w: expressions::arithmetic::Reason) -> Reason
 fn edge_open(
     s: &[u8],
     shape: Shape,
-    first: &[u16; 896],
+    first: &TableHeads,
     next: &[u16],
-    clocks: &[u16; 256],
-    vars: &[i16; 64],
+    clocks: &Clocks,
+    vars: &Variables,
     events: u32,
     e: u16,
 ) -> Truth
     requires { ⌜ Accepted (now s) shape × HasIndex (now s) shape (now first) (now next) × (e < shape .edges) ⌝ }
     ensures { λ r. ⌜ truthOf r ≡ edgeOpen (readAutomata (now (s .entry))) (bareRun (now (clocks .entry)) (now (vars .entry)) events) e ⌝ }
 {
-    let mut n = first[(128 + e) as usize];
+    let mut n = first[(LITERAL_KEYS + e) as usize];
     while n != 65535 {
         match literal_holds(s, shape, clocks, vars, events, n) {
             Truth::Fault(w) => return Truth::Fault(w),
@@ -91,10 +95,10 @@ fn with_open(tally: Tally, e: u16) -> Tally
 fn count_edge(
     s: &[u8],
     shape: Shape,
-    first: &[u16; 896],
+    first: &TableHeads,
     next: &[u16],
-    clocks: &[u16; 256],
-    vars: &[i16; 64],
+    clocks: &Clocks,
+    vars: &Variables,
     events: u32,
     automaton: u16,
     e: u16,
@@ -135,10 +139,10 @@ fn choice_for(tally: Tally) -> Choice
 pub fn open_edge(
     s: &[u8],
     shape: Shape,
-    first: &[u16; 896],
+    first: &TableHeads,
     next: &[u16],
-    clocks: &[u16; 256],
-    vars: &[i16; 64],
+    clocks: &Clocks,
+    vars: &Variables,
     events: u32,
     automaton: u16,
     location: u16,

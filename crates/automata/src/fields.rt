@@ -5,7 +5,7 @@ ghost use Rattle.records.specs.Bytes.{byte, two};
 ghost use Rattle.automata_files.specs.Shape.{IsShape};
 ghost use Rattle.automata_files.specs.Places.{firstEdge, firstLiteral, firstClock, firstUpdate, firstReset, literalIn, edgeAt, clockAt};
 ghost use Rattle.automata.specs.Accepted.{InFile, FewRecords};
-ghost use Rattle.automata.specs.RunOf.{timingIf};
+ghost use Rattle.timings.specs.Growth.{timingIf};
 use automata_files::Shape;
 
 // The number of a kind's first record.

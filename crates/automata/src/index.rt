@@ -8,6 +8,11 @@ use super::fields::first_reset;
 use super::fields::first_update;
 use super::fields::two_of;
 use automata_files::Shape;
+use records::sizes::EDGE_OWNERS;
+use records::sizes::EFFECT_KEYS;
+use records::sizes::LITERAL_KEYS;
+use records::sizes::LOCATION_OWNERS;
+use records::sizes::TableHeads;
 
 // Where a kind stands: its records from `start` up to `end`, and its owners' keys, so many from `base` on.
 pub struct Span {
@@ -26,7 +31,7 @@ fn owner_of(s: &[u8], n: u16) -> u16
 }
 
 // From the last record down, so that each finds the one behind it.
-fn link(s: &[u8], span: Span, first: &mut [u16; 896], next: &mut [u16])
+fn link(s: &[u8], span: Span, first: &mut TableHeads, next: &mut [u16])
     requires { ⌜ Linkable (now s) span (now first) (now next) ⌝ }
     ensures { λ _. ⌜ Links (now (s .entry)) span (now (first .entry)) (now (next .entry)) (now (first .exit)) (now (next .exit)) ⌝ }
 {
@@ -41,7 +46,7 @@ fn link(s: &[u8], span: Span, first: &mut [u16; 896], next: &mut [u16])
 }
 
 // Of each key its first record, and of each record the next of its key; 65535 is none. What is lent names none.
-pub fn index_of(s: &[u8], shape: Shape, first: &mut [u16; 896], next: &mut [u16])
+pub fn index_of(s: &[u8], shape: Shape, first: &mut TableHeads, next: &mut [u16])
     requires { ⌜ Accepted (now s) shape ⌝ }
     requires { ⌜ Blank (now first) ⌝ }
     requires { ⌜ RoomFor shape (now next) ⌝ }
@@ -58,7 +63,7 @@ pub fn index_of(s: &[u8], shape: Shape, first: &mut [u16; 896], next: &mut [u16]
             start: edge,
             end: literal,
             base: 0,
-            owners: 128,
+            owners: LOCATION_OWNERS,
         },
         first,
         next,
@@ -68,8 +73,8 @@ pub fn index_of(s: &[u8], shape: Shape, first: &mut [u16; 896], next: &mut [u16]
         Span {
             start: literal,
             end: literal + shape.literals,
-            base: 128,
-            owners: 384,
+            base: LITERAL_KEYS,
+            owners: EDGE_OWNERS,
         },
         first,
         next,
@@ -79,8 +84,8 @@ pub fn index_of(s: &[u8], shape: Shape, first: &mut [u16; 896], next: &mut [u16]
         Span {
             start: update,
             end: reset + shape.resets,
-            base: 512,
-            owners: 384,
+            base: EFFECT_KEYS,
+            owners: EDGE_OWNERS,
         },
         first,
         next,

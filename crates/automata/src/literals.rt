@@ -18,9 +18,11 @@ use automata_files::Shape;
 use expressions::arithmetic::Truth;
 use machines::deeds::present;
 use machines::values::guard_holds;
+use records::sizes::Clocks;
+use records::sizes::Variables;
 
 // Whether the trigger of literal n holds; a clock's holds at the clock's ticks.
-fn trigger_holds(s: &[u8], shape: Shape, clocks: &[u16; 256], events: u32, n: u16) -> bool
+fn trigger_holds(s: &[u8], shape: Shape, clocks: &Clocks, events: u32, n: u16) -> bool
     requires { ⌜ Accepted (now s) shape × (firstLiteral shape ≤ n) × (n < firstClock shape) ⌝ }
     ensures { λ r. ⌜ ((vars : List ℤ) → r ≡ literalTriggerHolds (readAutomata (now (s .entry))) (bareRun (now (clocks .entry)) vars events) (literalIn (now (s .entry)) n .1 .trigger)) ⌝ }
 {
@@ -40,8 +42,8 @@ fn trigger_holds(s: &[u8], shape: Shape, clocks: &[u16; 256], events: u32, n: u1
 fn condition_holds(
     s: &[u8],
     shape: Shape,
-    clocks: &[u16; 256],
-    vars: &[i16; 64],
+    clocks: &Clocks,
+    vars: &Variables,
     events: u32,
     n: u16,
 ) -> Truth
@@ -59,8 +61,8 @@ fn condition_holds(
 pub fn literal_holds(
     s: &[u8],
     shape: Shape,
-    clocks: &[u16; 256],
-    vars: &[i16; 64],
+    clocks: &Clocks,
+    vars: &Variables,
     events: u32,
     n: u16,
 ) -> Truth

@@ -19,6 +19,14 @@ use super::runs::run_in;
 use automata_files::Shape;
 use machines::answers::Cycles;
 use machines::answers::Ending;
+use records::sizes::CLOCKS;
+use records::sizes::Clocks;
+use records::sizes::MOST_CYCLES;
+use records::sizes::Places;
+use records::sizes::TABLE_KEYS;
+use records::sizes::TABLE_RECORDS;
+use records::sizes::TableHeads;
+use records::sizes::Variables;
 
 pub struct Played {
     pub answer: Cycles,
@@ -32,9 +40,9 @@ pub struct Rest {
 }
 
 fn further_to(
-    locations: [u16; 8],
-    clocks: [u16; 256],
-    variables: [i16; 64],
+    locations: Places,
+    clocks: Clocks,
+    variables: Variables,
     cycles: u32,
     count: u32,
 ) -> Rest
@@ -55,10 +63,10 @@ fn further_to(
 fn further_cycles(
     s: &[u8],
     shape: Shape,
-    first: &[u16; 896],
+    first: &TableHeads,
     next: &[u16],
-    turn: &[u16; 256],
-    cap: &[u16; 256],
+    turn: &Clocks,
+    cap: &Clocks,
     run: Run,
     masks: &[u32],
 ) -> Rest
@@ -73,7 +81,7 @@ fn further_cycles(
     let mut cycles = run.cycles;
     let mut k: usize = 0;
     while k < masks.len() {
-        if cycles == 1000000 {
+        if cycles == MOST_CYCLES {
             return further_to(locations, clocks, variables, cycles, k as u32);
         }
         match cycle_or_none(
@@ -106,10 +114,10 @@ fn further_cycles(
 fn play_with_index(
     s: &[u8],
     shape: Shape,
-    first: &[u16; 896],
+    first: &TableHeads,
     next: &[u16],
-    turn: &[u16; 256],
-    cap: &[u16; 256],
+    turn: &Clocks,
+    cap: &Clocks,
     run: Run,
     masks: &[u32],
 ) -> Played
@@ -167,9 +175,9 @@ fn play_making_index(s: &[u8], shape: Shape, next: &mut [u16], run: Run, masks: 
     requires { ⌜ RoomFor shape (now next) ⌝ }
     ensures { λ r. ⌜ playedOf r ≡ settled (runOf run) (playing (machine (readAutomata (now (s .entry)))) (now (masks .entry)) (runOf run)) ⌝ }
 {
-    let mut first = [65535u16; 896];
-    let mut turn = [65535u16; 256];
-    let mut cap = [65535u16; 256];
+    let mut first = [65535u16; TABLE_KEYS];
+    let mut turn = [65535u16; CLOCKS];
+    let mut cap = [65535u16; CLOCKS];
     index_of(s, shape, &mut first, next);
     limits_of(s, shape, &mut turn, &mut cap);
     play_with_index(s, shape, &first, next, &turn, &cap, run, masks)
@@ -184,7 +192,7 @@ pub fn play_in_place(s: &[u8], shape: Shape, run: Run, masks: &[u32]) -> Played
         let mut next = [65535u16; 1024];
         play_making_index(s, shape, &mut next, run, masks)
     } else {
-        let mut next = [14536u16; 14536];
+        let mut next = [14536u16; TABLE_RECORDS];
         play_making_index(s, shape, &mut next, run, masks)
     }
 }

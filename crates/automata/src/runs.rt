@@ -4,15 +4,16 @@ ghost use Prim.Native.Nat.{ℕ, _≤_, _<_};
 ghost use mathlib.Core.Bool.{cond};
 ghost use lib.Dec.{leb, eqb};
 ghost use lib.ListN.{length, getD};
-ghost use Rattle.records.specs.Lists.{all, upto, mapFrom};
+ghost use Rattle.prelude.specs.Lists.{all, upto, mapFrom};
 ghost use Rattle.model.specs.Runs.{start as started, possible, checked, restZero};
 ghost use Rattle.model.specs.AutomataTable.{readAutomata};
-ghost use Rattle.model.specs.Automata.{automata as machine, top, grown};
+ghost use Rattle.model.specs.Automata.{automata as machine, grown};
+ghost use Rattle.timings.specs.Growth.{mostTop};
 ghost use Rattle.automata_files.specs.Shape.{IsShape};
 ghost use Rattle.automata_files.specs.Places.{clockAt};
 ghost use Rattle.machines.specs.Checks.{beforeOf};
 ghost use Rattle.automata.specs.Accepted.{Accepted};
-ghost use Rattle.automata.specs.RunOf.{runIn, runOf, Sized, timingIf, topAt, grownAt, ClocksPossible, turnFor, capFor, grownTo, turnAt, capAt, HasLimits};
+ghost use Rattle.automata.specs.RunOf.{runIn, runOf, Sized, topAt, grownAt, ClocksPossible, turnAt, capAt, HasLimits};
 use super::fields::is_after;
 use super::fields::ticks_of;
 use super::values::values_of;
@@ -22,13 +23,21 @@ use machines::checks::decide;
 use machines::checks::initial_places;
 use machines::checks::shared_possible;
 use machines::values::start_values;
+use records::sizes::CLOCKS;
+use records::sizes::Clocks;
+use records::sizes::Places;
+use records::sizes::Variables;
+use timings::cap_for;
+use timings::grown_to;
+use timings::top;
+use timings::turn_for;
 
 // A run: of each automaton its present location, the clocks, the variables, the events present, the position in the cycle, the cycles done.
 #[repr(C)]
 pub struct Run {
-    pub locations: [u16; 8],
-    pub clocks: [u16; 256],
-    pub variables: [i16; 64],
+    pub locations: Places,
+    pub clocks: Clocks,
+    pub variables: Variables,
     pub events: u32,
     pub position: u32,
     pub cycles: u32,
@@ -36,9 +45,9 @@ pub struct Run {
 
 // A run by its places.
 pub fn run_in(
-    locations: &[u16; 8],
-    clocks: &[u16; 256],
-    vars: &[i16; 64],
+    locations: &Places,
+    clocks: &Clocks,
+    vars: &Variables,
     events: u32,
     position: u32,
     cycles: u32,
@@ -64,7 +73,7 @@ pub fn start(s: &[u8], shape: Shape) -> Run
     ensures { λ r. ⌜ runOf r ≡ started (machine (readAutomata (now (s .entry)))) ⌝ }
 {
     let locations = initial_places(s, shape.automata);
-    let clocks = [0u16; 256];
+    let clocks = [0u16; CLOCKS];
     let values = values_of(shape);
     let variables = start_values(s, values);
     Run {
@@ -77,17 +86,6 @@ pub fn start(s: &[u8], shape: Shape) -> Run
     }
 }
 
-// An after-clock's top is one more than its ticks, an every-clock's is its ticks.
-fn top(after: bool, ticks: u16) -> u32
-    ensures { λ r. ⌜ r ≡ top (timingIf after) ticks ⌝ }
-{
-    if after {
-        (ticks as u32) + 1
-    } else {
-        ticks as u32
-    }
-}
-
 fn clock_possible(s: &[u8], shape: Shape, k: u16, x: u16) -> bool
     requires { ⌜ IsShape (now s) shape × (k < shape .clocks) ⌝ }
     ensures { λ r. ⌜ r ≡ leb x (topAt (now (s .entry)) shape k) ⌝ }
@@ -96,7 +94,7 @@ fn clock_possible(s: &[u8], shape: Shape, k: u16, x: u16) -> bool
 }
 
 // No clock is over its top. All are read, without a way out of the loop.
-fn clocks_possible(s: &[u8], shape: Shape, clocks: &[u16; 256]) -> bool
+fn clocks_possible(s: &[u8], shape: Shape, clocks: &Clocks) -> bool
     requires { ⌜ IsShape (now s) shape ⌝ }
     ensures { λ r. ⌜ r ≡ all (λ k. leb (getD (now (clocks .entry)) k 0) (topAt (now (s .entry)) shape k)) (upto (shape .clocks)) ⌝ }
 {
@@ -111,13 +109,13 @@ fn clocks_possible(s: &[u8], shape: Shape, clocks: &[u16; 256]) -> bool
 }
 
 // All are read, so that many are compared at once.
-fn clocks_unused(count: u16, clocks: &[u16; 256]) -> bool
+fn clocks_unused(count: u16, clocks: &Clocks) -> bool
     requires { ⌜ length (now clocks) ≡ 256 ⌝ }
     ensures { λ r. ⌜ r ≡ restZero count (now (clocks .entry)) ⌝ }
 {
     let mut unused = true;
     let mut k = count as usize;
-    while k < 256 {
+    while k < CLOCKS {
         unused = unused & (clocks[k] == 0);
         k += 1;
     }
@@ -128,9 +126,9 @@ fn clocks_unused(count: u16, clocks: &[u16; 256]) -> bool
 fn is_possible(
     s: &[u8],
     shape: Shape,
-    locations: &[u16; 8],
-    clocks: &[u16; 256],
-    vars: &[i16; 64],
+    locations: &Places,
+    clocks: &Clocks,
+    vars: &Variables,
     events: u32,
     position: u32,
     cycles: u32,
@@ -157,9 +155,9 @@ fn is_possible(
 pub fn before_turn(
     s: &[u8],
     shape: Shape,
-    locations: &[u16; 8],
-    clocks: &[u16; 256],
-    vars: &[i16; 64],
+    locations: &Places,
+    clocks: &Clocks,
+    vars: &Variables,
     present: u32,
     position: u32,
     cycles: u32,
@@ -172,23 +170,8 @@ pub fn before_turn(
     decide(possible, events, position, cycles)
 }
 
-// Where a clock goes back to 1: an every-clock at its ticks, an after-clock nowhere, as none comes to 65535.
-fn turn_for(after: bool, ticks: u16) -> u16
-    ensures { λ r. ⌜ r ≡ turnFor (timingIf after) ticks ⌝ }
-{
-    if after { 65535 } else { ticks }
-}
-
-// The most that a clock grows to: an after-clock's top.
-fn cap_for(after: bool, ticks: u16) -> u16
-    requires { ⌜ ticks ≤ 36000 ⌝ }
-    ensures { λ r. ⌜ r ≡ capFor (timingIf after) ticks ⌝ }
-{
-    if after { ticks + 1 } else { 65535 }
-}
-
 // Of each clock where it turns and where it stops, read once for many cycles.
-pub fn limits_of(s: &[u8], shape: Shape, turn: &mut [u16; 256], cap: &mut [u16; 256])
+pub fn limits_of(s: &[u8], shape: Shape, turn: &mut Clocks, cap: &mut Clocks)
     requires { ⌜ Accepted (now s) shape ⌝ }
     requires { ⌜ (length (now turn) ≡ 256) × (length (now cap) ≡ 256) ⌝ }
     ensures { λ _. ⌜ (now (turn .exit) ≡ mapFrom 0 (turnAt (now (s .entry)) shape) (now (turn .entry))) × (now (cap .exit) ≡ mapFrom 0 (capAt (now (s .entry)) shape) (now (cap .entry))) ⌝ }
@@ -202,18 +185,8 @@ pub fn limits_of(s: &[u8], shape: Shape, turn: &mut [u16; 256], cap: &mut [u16; 
     }
 }
 
-fn grown_to(turn: u16, cap: u16, x: u16) -> u16
-    requires { ⌜ x ≤ 36001 ⌝ }
-    ensures { λ r. ⌜ r ≡ grownTo turn cap x ⌝ }
-{
-    if x == turn {
-        return 1;
-    }
-    if x < cap { x + 1 } else { cap }
-}
-
-fn clock_grown(s: &[u8], shape: Shape, turn: &[u16; 256], cap: &[u16; 256], k: u16, x: u16) -> u16
-    requires { ⌜ Accepted (now s) shape × HasLimits (now s) shape (now turn) (now cap) × (k < shape .clocks) × (x ≤ 36001) ⌝ }
+fn clock_grown(s: &[u8], shape: Shape, turn: &Clocks, cap: &Clocks, k: u16, x: u16) -> u16
+    requires { ⌜ Accepted (now s) shape × HasLimits (now s) shape (now turn) (now cap) × (k < shape .clocks) × (x ≤ mostTop) ⌝ }
     ensures { λ r. ⌜ r ≡ grown (clockAt (now (s .entry)) shape k .timing) (clockAt (now (s .entry)) shape k .ticks) x ⌝ }
 {
     let i = k as usize;
@@ -221,7 +194,7 @@ fn clock_grown(s: &[u8], shape: Shape, turn: &[u16; 256], cap: &[u16; 256], k: u
 }
 
 // Each clock in use grows.
-pub fn grow(s: &[u8], shape: Shape, turn: &[u16; 256], cap: &[u16; 256], clocks: &mut [u16; 256])
+pub fn grow(s: &[u8], shape: Shape, turn: &Clocks, cap: &Clocks, clocks: &mut Clocks)
     requires { ⌜ Accepted (now s) shape × HasLimits (now s) shape (now turn) (now cap) ⌝ }
     requires { ⌜ length (now clocks) ≡ 256 ⌝ }
     requires { ⌜ ClocksPossible (shape .clocks) (now clocks) ⌝ }
@@ -236,14 +209,14 @@ pub fn grow(s: &[u8], shape: Shape, turn: &[u16; 256], cap: &[u16; 256], clocks:
 }
 
 // Each clock in use grows, its limits read for this once.
-pub fn pass_time(s: &[u8], shape: Shape, clocks: &mut [u16; 256])
+pub fn pass_time(s: &[u8], shape: Shape, clocks: &mut Clocks)
     requires { ⌜ Accepted (now s) shape ⌝ }
     requires { ⌜ length (now clocks) ≡ 256 ⌝ }
     requires { ⌜ ClocksPossible (shape .clocks) (now clocks) ⌝ }
     ensures { λ _. ⌜ now (clocks .exit) ≡ mapFrom 0 (grownAt (now (s .entry)) shape) (now (clocks .entry)) ⌝ }
 {
-    let mut turn = [65535u16; 256];
-    let mut cap = [65535u16; 256];
+    let mut turn = [65535u16; CLOCKS];
+    let mut cap = [65535u16; CLOCKS];
     limits_of(s, shape, &mut turn, &mut cap);
     grow(s, shape, &turn, &cap, clocks);
 }

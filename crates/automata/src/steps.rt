@@ -2,7 +2,7 @@
 ghost use mathlib.Core.Path.{_≡_};
 ghost use Prim.Native.Nat.{ℕ, _+_, _-_, _≤_, _<_};
 ghost use lib.ListN.{length};
-ghost use Rattle.model.specs.Owned.{of};
+ghost use Rattle.prelude.specs.Owned.{of};
 ghost use Rattle.model.specs.Runs.{deed};
 ghost use Rattle.model.specs.AutomataTable.{readAutomata};
 ghost use Rattle.model.specs.Automata.{reset, edgeStep};
@@ -23,8 +23,13 @@ use super::values::values_of;
 use automata_files::Shape;
 use machines::answers::Reason;
 use machines::deeds::Done;
-use machines::deeds::assign;
-use machines::deeds::raised;
+use machines::deeds::do_deed;
+use machines::deeds::done_by;
+use records::sizes::Clocks;
+use records::sizes::EFFECT_KEYS;
+use records::sizes::Places;
+use records::sizes::TableHeads;
+use records::sizes::Variables;
 
 // The edge taken and the events after it, or why none is taken.
 pub enum Stepped {
@@ -32,17 +37,15 @@ pub enum Stepped {
     Fault(Reason),
 }
 
-// The update is that of record n: an event is raised, or a node assigned.
-fn do_update(s: &[u8], shape: Shape, n: u16, vars: &mut [i16; 64], events: u32) -> Done
+// The deed of the update that is record n.
+fn do_update(s: &[u8], shape: Shape, n: u16, vars: &mut Variables, events: u32) -> Done
     requires { ⌜ Accepted (now s) shape × (firstUpdate shape ≤ n) × (n < firstReset shape) ⌝ }
     ensures { λ r. ⌜ ((p c : ℕ) → worldAfter r (now (vars .exit)) p c ≡ deed (readAutomata (now (s .entry)) .nodes) (readAutomata (now (s .entry)) .variables) (updateIn (now (s .entry)) n .1) (worldIn (now (vars .entry)) events p c)) ⌝ }
 {
     let code = byte_of(s, n, 1);
     let x = byte_of(s, n, 4);
-    if code == 2 {
-        return Done::Events(raised(x, events));
-    }
-    assign(s, values_of(shape), x, two_of(s, n, 6), vars, events)
+    let node = two_of(s, n, 6);
+    done_by(do_deed(s, values_of(shape), code, x, node, vars, events))
 }
 
 // The clock that record n resets.
@@ -54,7 +57,7 @@ fn clock_of(s: &[u8], shape: Shape, n: u16) -> u16
 }
 
 // An edge's resets, from the record on where they start.
-fn reset_clocks(s: &[u8], shape: Shape, next: &[u16], start: u16, e: u16, clocks: &mut [u16; 256])
+fn reset_clocks(s: &[u8], shape: Shape, next: &[u16], start: u16, e: u16, clocks: &mut Clocks)
     requires { ⌜ Accepted (now s) shape × NextOf (now s) (firstReset shape) (firstReset shape + shape .resets) (now next) × RoomFor shape (now next) × (start ≡ earliest (ownedBy (now s) e) (firstReset shape) (firstReset shape + shape .resets - firstReset shape)) ⌝ }
     ensures { λ _. ⌜ now (clocks .exit) ≡ reset (of e (readAutomata (now (s .entry)) .resets)) (now (clocks .entry)) ⌝ }
 {
@@ -70,12 +73,12 @@ fn reset_clocks(s: &[u8], shape: Shape, next: &[u16], start: u16, e: u16, clocks
 fn take_edge(
     s: &[u8],
     shape: Shape,
-    first: &[u16; 896],
+    first: &TableHeads,
     next: &[u16],
     automaton: u16,
-    locations: &mut [u16; 8],
-    clocks: &mut [u16; 256],
-    vars: &mut [i16; 64],
+    locations: &mut Places,
+    clocks: &mut Clocks,
+    vars: &mut Variables,
     events: u32,
     e: u16,
 ) -> Stepped
@@ -86,7 +89,7 @@ fn take_edge(
 {
     let reset = first_reset(shape);
     let mut raised = events;
-    let mut n = first[(512 + e) as usize];
+    let mut n = first[(EFFECT_KEYS + e) as usize];
     while n < reset {
         match do_update(s, shape, n, vars, raised) {
             Done::Fault(w) => return Stepped::Fault(w),
@@ -106,12 +109,12 @@ fn take_edge(
 pub fn edge_step(
     s: &[u8],
     shape: Shape,
-    first: &[u16; 896],
+    first: &TableHeads,
     next: &[u16],
     automaton: u16,
-    locations: &mut [u16; 8],
-    clocks: &mut [u16; 256],
-    vars: &mut [i16; 64],
+    locations: &mut Places,
+    clocks: &mut Clocks,
+    vars: &mut Variables,
     events: u32,
 ) -> Stepped
     requires { ⌜ Accepted (now s) shape ⌝ }

@@ -21,6 +21,12 @@ use automata_files::Shape;
 use machines::answers::Answer;
 use machines::checks::Before;
 use machines::checks::events_given;
+use records::sizes::Clocks;
+use records::sizes::Places;
+use records::sizes::TABLE_KEYS;
+use records::sizes::TABLE_RECORDS;
+use records::sizes::TableHeads;
+use records::sizes::Variables;
 
 // A turn's answer, and the run after it.
 pub struct Turned {
@@ -32,11 +38,11 @@ pub struct Turned {
 fn automaton_turn(
     s: &[u8],
     shape: Shape,
-    first: &[u16; 896],
+    first: &TableHeads,
     next: &[u16],
-    locations: &mut [u16; 8],
-    clocks: &mut [u16; 256],
-    vars: &mut [i16; 64],
+    locations: &mut Places,
+    clocks: &mut Clocks,
+    vars: &mut Variables,
     events: &mut u32,
     position: &mut u32,
 ) -> Answer
@@ -69,11 +75,11 @@ fn automaton_turn(
 fn turn_taken(
     s: &[u8],
     shape: Shape,
-    first: &[u16; 896],
+    first: &TableHeads,
     next: &[u16],
-    locations: &mut [u16; 8],
-    clocks: &mut [u16; 256],
-    vars: &mut [i16; 64],
+    locations: &mut Places,
+    clocks: &mut Clocks,
+    vars: &mut Variables,
     events: &mut u32,
     position: &mut u32,
     cycles: &mut u32,
@@ -108,11 +114,11 @@ fn turn_taken(
 fn turn_in_place(
     s: &[u8],
     shape: Shape,
-    first: &[u16; 896],
+    first: &TableHeads,
     next: &[u16],
-    locations: &mut [u16; 8],
-    clocks: &mut [u16; 256],
-    vars: &mut [i16; 64],
+    locations: &mut Places,
+    clocks: &mut Clocks,
+    vars: &mut Variables,
     present: &mut u32,
     position: &mut u32,
     cycles: &mut u32,
@@ -155,9 +161,9 @@ fn turn_in_place(
 // A turn's answer with the run after it: what is in the places, or what was lent where no turn was taken.
 fn settle_turn(
     lent: Run,
-    locations: &[u16; 8],
-    clocks: &[u16; 256],
-    vars: &[i16; 64],
+    locations: &Places,
+    clocks: &Clocks,
+    vars: &Variables,
     events: u32,
     position: u32,
     cycles: u32,
@@ -202,7 +208,7 @@ fn settle_turn(
 pub fn turn(
     s: &[u8],
     shape: Shape,
-    first: &[u16; 896],
+    first: &TableHeads,
     next: &[u16],
     run: Run,
     events: u32,
@@ -247,7 +253,7 @@ fn turn_making_index(s: &[u8], shape: Shape, next: &mut [u16], run: Run, events:
     requires { ⌜ RoomFor shape (now next) ⌝ }
     ensures { λ r. ⌜ turnOf r ≡ settled (runOf run) (model-turn (machine (readAutomata (now (s .entry)))) events (runOf run)) ⌝ }
 {
-    let mut first = [65535u16; 896];
+    let mut first = [65535u16; TABLE_KEYS];
     index_of(s, shape, &mut first, next);
     turn(s, shape, &first, next, run, events)
 }
@@ -262,7 +268,7 @@ pub fn one_turn(s: &[u8], shape: Shape, run: Run, events: u32) -> Turned
         let mut next = [65535u16; 1024];
         turn_making_index(s, shape, &mut next, run, events)
     } else {
-        let mut next = [14536u16; 14536];
+        let mut next = [14536u16; TABLE_RECORDS];
         turn_making_index(s, shape, &mut next, run, events)
     }
 }

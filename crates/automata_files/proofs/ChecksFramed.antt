@@ -5,7 +5,7 @@ use mathlib.Core.Option.{Option, some, none}
 use mathlib.Core.List.{List, [], _∷_, _++_, map}
 use Prim.Native.Nat.{ℕ}
 use native.Mathlib.Omega.{arith}
-use Rattle.records.specs.Lists.{all}
+use Rattle.prelude.specs.Lists.{all}
 use Rattle.records.specs.Refusal.{Refusal, bad-table, lowest}
 use Rattle.records.specs.RefusalOf.{refusalOf}
 use Rattle.records.specs.declared.refusals.Refusal as declared-refusal

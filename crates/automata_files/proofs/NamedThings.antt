@@ -9,13 +9,13 @@ use borrow.Author.Tests.{leb-true, ltb-true, eqb-true, not-true, not-false}
 use lib.Dec.{leb, ltb, eqb}
 use lib.ListN.{getD}
 use lib.Signed.{leZ}
-use Rattle.records.specs.Lists.{all, upto, caseOf}
+use Rattle.prelude.specs.Lists.{all, upto, caseOf}
 use Rattle.records.specs.Bytes.{byte, two, signed, records, kind}
 use Rattle.records.specs.Refusal.{Refusal, lowest}
 use Rattle.records.specs.Framing.{howMany, firstOf}
 use Rattle.records.proofs.Records.{recordAt, byte-record}
 use Rattle.records.proofs.RoundTrips.{two-record}
-use Rattle.records.proofs.FramingLaws.{and-true}
+use Rattle.prelude.proofs.Counts.{and-true}
 use Rattle.expressions.specs.Nodes.{nodeAt}
 use Rattle.expressions.specs.Sorts.{nodesNamed, operandsFit, operandUses}
 use Rattle.model.specs.Owned.{home}
@@ -27,7 +27,7 @@ use Rattle.model.specs.AutomataFile.{automataLimits, literalInCode, tableInCode
 use Rattle.chart_files.specs.Used.{truths, numbers}
 use Rattle.chart_files.proofs.Places.{all-getD, thing-passes}
 use Rattle.chart_files.proofs.InCode.{ranged}
-use Rattle.chart_files.proofs.NumberLaws.{all-at}
+use Rattle.prelude.proofs.Numbers.{all-at}
 use Rattle.automata_files.specs.declared.Shape.{Shape}
 use Rattle.automata_files.specs.Shape.{IsShape}
 use Rattle.automata_files.specs.Places.{firstLiteral, firstVariable, firstUpdate, literalTriggerBy, initialAt, homeAt, edgeAt, literalAt, clockAt, variableAt, updateAt, resetAt, nodePart}

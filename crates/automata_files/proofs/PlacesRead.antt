@@ -6,12 +6,12 @@ use native.Mathlib.Nat.{zero-add}
 use native.Mathlib.Omega.{arith}
 use lib.Dec.{eqb}
 use lib.ListN.{length, getD, length-map}
-use Rattle.records.specs.Lists.{upto, caseOf}
+use Rattle.prelude.specs.Lists.{upto, caseOf}
 use Rattle.records.specs.Bytes.{byte, two, ofKind}
 use Rattle.records.specs.Framing.{howMany, firstOf}
 use Rattle.records.proofs.Records.{recordAt, byte-record}
 use Rattle.records.proofs.RoundTrips.{two-record}
-use Rattle.records.proofs.FramingLaws.{getD-upto}
+use Rattle.prelude.proofs.Counts.{getD-upto}
 use Rattle.records.proofs.Framed.{length-ofKind, first-and-many, framed-one, framed-most}
 use Rattle.expressions.specs.Nodes.{readNode, nodeOf, nodeAt}
 use Rattle.model.specs.Owned.{home}

@@ -6,19 +6,19 @@ use Prim.Native.Nat.{ℕ, min, _≤_}
 use native.Mathlib.Omega.{arith}
 use lib.Dec.{leb, ltb, eqb}
 use lib.ListN.{length, getD, replicate}
-use Rattle.records.specs.Lists.{all, gather, upto}
+use Rattle.prelude.specs.Lists.{all, gather, upto}
 use Rattle.expressions.specs.Nodes.{Node, nodeOf, nodeAt}
 use Rattle.expressions.specs.Sorts.{sortOf, isNumber, isTruth, nodesNamed, operandsFit, operandUses}
 use Rattle.expressions.specs.Uses.{addUses, allOperands}
-use Rattle.records.proofs.FramingLaws.{getD-upto}
+use Rattle.prelude.proofs.Counts.{getD-upto}
 use Rattle.expressions.proofs.Uses.{counted, at-most-once}
 use Rattle.model.specs.Owned.{home}
 use Rattle.model.specs.AutomataTable.{readAutomata}
 use Rattle.model.specs.ChartFile.{between, guardNamed, deedNamed, guardNodes, assignedNodes}
 use Rattle.model.specs.AutomataFile.{literalTriggerNamed, tableNamed, clocksTick, insideAutomata, idleEdgesStay, tableNodesFit}
 use Rattle.chart_files.specs.Used.{truths, numbers}
-use Rattle.chart_files.proofs.ListLaws.{all-map, gather-map}
-use Rattle.chart_files.proofs.NumberLaws.{all-alike}
+use Rattle.prelude.proofs.Maps.{all-map, gather-map}
+use Rattle.prelude.proofs.Numbers.{all-alike}
 use Rattle.chart_files.proofs.Used.{all-gather}
 use Rattle.automata_files.specs.declared.Shape.{Shape}
 use Rattle.automata_files.specs.Shape.{IsShape}

@@ -6,8 +6,8 @@ use Prim.Native.Nat.{ℕ, zero, suc}
 use native.Mathlib.Omega.{arith}
 use borrow.Author.Tests.{lt-ltb, le-leb, ne-eqb}
 use lib.Dec.{leb, ltb, eqb}
-use Rattle.records.specs.Lists.{caseOf}
-use Rattle.expressions.proofs.Loops.{and-one}
+use Rattle.prelude.specs.Lists.{caseOf}
+use Rattle.prelude.proofs.Loops.{and-one}
 use Rattle.model.specs.ChartFile.{zeroBytes, unusedAreZero}
 use Rattle.chart_files.proofs.RecordLoops.{unused-one, unused-two}
 use Rattle.chart_files.proofs.UnusedWords.{joined}

@@ -2,7 +2,7 @@
 use mathlib.Core.Bool.{Bool, _&&_}
 use mathlib.Core.List.{List}
 use Prim.Native.Nat.{ℕ}
-use Rattle.records.specs.Lists.{all}
+use Rattle.prelude.specs.Lists.{all}
 use Rattle.records.specs.Bytes.{records}
 use Rattle.model.specs.AutomataTable.{readAutomata}
 use Rattle.model.specs.ChartFile.{unusedAreZero}

@@ -2,19 +2,20 @@
 ghost use mathlib.Core.Path.{_≡_};
 ghost use mathlib.Core.Bool.{true};
 ghost use mathlib.Core.List.{[], _∷_};
-ghost use Rattle.records.specs.Lists.{caseOf};
+ghost use Rattle.prelude.specs.Lists.{caseOf};
 ghost use Rattle.model.specs.ChartFile.{isEvent};
 ghost use Rattle.model.specs.AutomataFile.{literalInCode, tableInCode};
 use chart_files::codes::deed_in_code;
 use chart_files::codes::node_in_code;
 use chart_files::codes::variable_in_code;
 use records::byte_at;
+use records::sizes::LAST_EVENT;
 
 fn literal_trigger_in_code(code: u8, event: u8) -> bool
     ensures { λ r. ⌜ r ≡ caseOf code ((1, isEvent event) ∷ []) true ⌝ }
 {
     match code {
-        1 => event <= 31,
+        1 => event <= LAST_EVENT,
         _ => true,
     }
 }

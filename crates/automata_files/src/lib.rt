@@ -3,7 +3,7 @@ ghost use mathlib.Core.Path.{_≡_};
 ghost use mathlib.Core.Bool.{_&&_};
 ghost use Prim.Native.Nat.{_≤_};
 ghost use lib.ListN.{length};
-ghost use Rattle.records.specs.Lists.{all};
+ghost use Rattle.prelude.specs.Lists.{all};
 ghost use Rattle.records.specs.Bytes.{records};
 ghost use Rattle.model.specs.ChartFile.{unusedAreZero};
 ghost use Rattle.model.specs.AutomataFile.{unusedInTable, tableInCode};
@@ -25,6 +25,8 @@ use nodes::table_nodes_fit;
 use records::Framing;
 use records::frame_of;
 use records::refusals::Refusal;
+use records::sizes::NODES;
+use records::sizes::TABLE_LIMITS;
 use structure::clocks_tick;
 use structure::idle_edges_stay;
 use structure::inside_automata;
@@ -50,13 +52,12 @@ pub enum Checked {
 }
 
 // The most of each kind.
-const MOST: [u16; 9] = [8, 128, 384, 2432, 256, 64, 1024, 6144, 4096];
 
 // Refusals 1 to 3, read for kinds 33 to 41.
 pub fn shape_of(s: &[u8]) -> Checked
     ensures { λ r. ⌜ IsShaped (now (s .entry)) r ⌝ }
 {
-    let most = MOST;
+    let most = TABLE_LIMITS;
     let frame = frame_of(s, 33, &most);
     let answer = frame.answer;
     match answer {
@@ -107,7 +108,7 @@ fn passes(s: &[u8], shape: Shape) -> bool
     requires { ⌜ IsShape (now s) shape ⌝ }
     ensures { λ r. ⌜ r ≡ passes (now (s .entry)) ⌝ }
 {
-    let mut uses = [0u8; 1024];
+    let mut uses = [0u8; NODES];
     let nodes = node_records(s, shape);
     let found = test_nodes(nodes, shape.nodes, shape.variables, &mut uses);
     all_sound(s)

@@ -1,6 +1,6 @@
 // Refusal 6, read for an automata file: numbers that name nothing.
 ghost use mathlib.Core.Path.{_≡_};
-ghost use Rattle.records.specs.Lists.{all, upto};
+ghost use Rattle.prelude.specs.Lists.{all, upto};
 ghost use Rattle.expressions.specs.Nodes.{nodeAt};
 ghost use Rattle.expressions.specs.Verdicts.{verdictOf};
 ghost use Rattle.model.specs.AutomataTable.{readAutomata};

@@ -1,6 +1,6 @@
 // Refusal 11 beyond 1 to 6: ticks of clocks, ends of edges, idle edges.
 ghost use mathlib.Core.Path.{_≡_};
-ghost use Rattle.records.specs.Lists.{all, upto};
+ghost use Rattle.prelude.specs.Lists.{all, upto};
 ghost use Rattle.model.specs.Owned.{home};
 ghost use Rattle.model.specs.AutomataTable.{readAutomata};
 ghost use Rattle.model.specs.AutomataFile.{clocksTick, insideAutomata, idleEdgesStay};
@@ -14,12 +14,13 @@ use super::fields::initial_of;
 use super::fields::source_of;
 use super::fields::target_of;
 use super::fields::ticks_of;
+use records::sizes::MOST_TICKS;
 
 fn clock_ticks(s: &[u8], shape: Shape, k: u16) -> bool
     ensures { λ r. ⌜ r ≡ clockTicks (now (s .entry)) shape k ⌝ }
 {
     let ticks = ticks_of(s, shape, k);
-    (1 <= ticks) & (ticks <= 36000)
+    (1 <= ticks) & (ticks <= MOST_TICKS)
 }
 
 pub fn clocks_tick(s: &[u8], shape: Shape) -> bool

@@ -6,11 +6,11 @@ use Prim.Native.Nat.{ℕ, _+_, _≤_, _<_}
 use native.Mathlib.Omega.{arith}
 use borrow.Author.Tests.{leb-true}
 use lib.Dec.{leb}
-use Rattle.records.specs.Lists.{all, caseOf}
+use Rattle.prelude.specs.Lists.{all, caseOf}
 use Rattle.records.specs.Bytes.{byte, records, kind}
 use Rattle.records.specs.Framing.{howMany, firstOf}
 use Rattle.records.proofs.Records.{recordAt, byte-record}
-use Rattle.records.proofs.FramingLaws.{and-true}
+use Rattle.prelude.proofs.Counts.{and-true}
 use Rattle.model.specs.ChartFile.{chartLimits, between, inCode, transitionInCode, variableInCode, nodeInCode, deedInCode, actionInCode}
 use Rattle.chart_files.specs.declared.Shape.{Shape}
 use Rattle.chart_files.specs.Shape.{IsShape}

@@ -5,19 +5,19 @@ use mathlib.Core.List.{List}
 use Prim.Native.Nat.{ℕ}
 use lib.Dec.{ltb, eqb}
 use lib.ListN.{length}
-use Rattle.records.specs.Lists.{all, upto}
+use Rattle.prelude.specs.Lists.{all, upto}
 use Rattle.expressions.specs.Nodes.{nodeOf, nodeAt}
 use Rattle.expressions.specs.Sorts.{nodesNamed}
-use Rattle.expressions.proofs.Loops.{and-assoc}
+use Rattle.prelude.proofs.Loops.{and-assoc}
 use Rattle.model.specs.ChartSet.{readActions, readCharts}
 use Rattle.model.specs.ChartFile.{guardNamed, deedNamed, allNamed}
 use Rattle.chart_files.specs.declared.Shape.{Shape}
 use Rattle.chart_files.specs.Shape.{IsShape}
 use Rattle.chart_files.specs.Places.{initialAt, homeAt, transitionAt, placeAt, actionAt, nodePart}
 use Rattle.chart_files.specs.Names.{initialNamed, homeNamed, transitionNamed, actionNamed}
-use Rattle.records.proofs.FramingLaws.{and-true}
-use Rattle.chart_files.proofs.ListLaws.{all-map}
-use Rattle.chart_files.proofs.NumberLaws.{all-both}
+use Rattle.prelude.proofs.Counts.{and-true}
+use Rattle.prelude.proofs.Maps.{all-map}
+use Rattle.prelude.proofs.Numbers.{all-both}
 use Rattle.chart_files.proofs.PlacesRead.{length-initial, length-homes, length-transitions, length-variables, length-nodes, initial-are, homes-are, transitions-are, lookup-is, all-actions}
 
 module _ (s : List ℕ) (sh : Shape) (is : IsShape s sh) where

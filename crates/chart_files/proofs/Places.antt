@@ -9,16 +9,16 @@ use borrow.Author.Tests.{leb-true, le-ltb, ltb-true, ltb-false, eqb-true}
 use lib.Dec.{leb, ltb, eqb}
 use lib.ListN.{length, getD, take, drop, length-take, List·getD-eq-default, drop-of-length-le}
 use lib.Seq.{getD-take, getD-drop}
-use Rattle.records.specs.Lists.{all, keep, count, upto, caseOf}
+use Rattle.prelude.specs.Lists.{all, keep, count, upto, caseOf}
 use Rattle.records.specs.Bytes.{byte, two, four, signed, records, kind, ofKind}
 use Rattle.records.specs.Framing.{limits, known, howMany, firstOf, framing}
 use Rattle.records.proofs.Records.{recordAt, byte-record}
 use Rattle.records.proofs.RoundTrips.{two-alike, four-alike}
-use Rattle.records.proofs.FramingLaws.{and-true, below-next, is-table, getD-upto}
+use Rattle.prelude.proofs.Counts.{and-true, below-next, is-table, getD-upto}
 use Rattle.records.proofs.Framed.{length-ofKind, framed-known, framed-thing}
 use Rattle.expressions.specs.Nodes.{Node, unknown, nodeBy, readNode, nodeOf, nodeAt}
-use Rattle.chart_files.proofs.ListLaws.{map-map, alike-upto}
-use Rattle.chart_files.proofs.NumberLaws.{both-true}
+use Rattle.prelude.proofs.Maps.{map-map, alike-upto}
+use Rattle.prelude.proofs.Numbers.{both-true}
 
 -- where a kind's records start
 pub next-first : (s : List ℕ) (k : ℕ) → firstOf (suc k) s ≡ firstOf k s + howMany k s

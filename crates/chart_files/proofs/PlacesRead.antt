@@ -7,15 +7,15 @@ use native.Mathlib.Nat.{zero-add}
 use native.Mathlib.Omega.{arith}
 use lib.Dec.{eqb}
 use lib.ListN.{length, getD, length-map}
-use Rattle.records.specs.Lists.{all, any, count, keep, gather, upto, caseOf}
+use Rattle.prelude.specs.Lists.{all, any, count, keep, gather, upto, caseOf}
 use Rattle.records.specs.Bytes.{byte, two, four, signed, records, kind, ofKind}
 use Rattle.records.specs.Framing.{howMany, firstOf}
 use Rattle.records.proofs.Records.{recordAt, byte-record}
 use Rattle.records.proofs.RoundTrips.{two-record, four-record}
-use Rattle.records.proofs.FramingLaws.{getD-upto}
+use Rattle.prelude.proofs.Counts.{getD-upto}
 use Rattle.records.proofs.Framed.{length-ofKind, first-and-many, framed-one, framed-most}
 use Rattle.expressions.specs.Nodes.{unknown, readNode, nodeOf, nodeAt}
-use Rattle.model.specs.Owned.{of}
+use Rattle.prelude.specs.Owned.{of}
 use Rattle.model.specs.Runs.{Variable, Deed}
 use Rattle.model.specs.ChartSet.{event, after, every, always, noTransition, transition, readGuard, readDeed, readTransition, readVariable, readActions, readCharts}
 use Rattle.model.specs.ChartFile.{chartLimits}
@@ -23,7 +23,7 @@ use Rattle.chart_files.specs.declared.Shape.{Shape}
 use Rattle.chart_files.specs.Shape.{IsShape}
 use Rattle.chart_files.specs.Places.{firstState, firstTransition, firstVariable, firstNode, firstAction, transitionIn, variableIn, actionIn, initialAt, homeAt, transitionAt, variableAt, placeAt, actionAt, nodePart}
 use Rattle.chart_files.proofs.Places.{things, none-below, next-first, things-read, node-part, node-lookup}
-use Rattle.chart_files.proofs.ListLaws.{all-map, any-map, count-map, keep-map, map-map, gather-map, all-keep, any-keep, count-keep, keep-keep, gather-keep}
+use Rattle.prelude.proofs.Maps.{all-map, any-map, count-map, keep-map, map-map, gather-map, all-keep, any-keep, count-keep, keep-keep, gather-keep}
 
 -- ---- what record n says, read where it stands
 

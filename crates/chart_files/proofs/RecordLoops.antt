@@ -7,9 +7,9 @@ use native.Mathlib.Omega.{arith}
 use lib.Dec.{eqb}
 use lib.ListN.{length, take, drop, length-take, length-drop}
 use lib.Seq.{take-nil, drop-nil}
-use Rattle.records.specs.Lists.{all}
+use Rattle.prelude.specs.Lists.{all}
 use Rattle.records.specs.Bytes.{byte, records}
-use Rattle.expressions.proofs.Loops.{and-one, and-two, and-assoc}
+use Rattle.prelude.proofs.Loops.{and-one, and-two, and-assoc}
 use Rattle.model.specs.ChartFile.{zeroBytes, unusedAreZero}
 use Rattle.records.proofs.Records.{recordAt, rest, rest-all, rest-none, rest-one}
 

@@ -7,11 +7,11 @@ use native.Mathlib.Omega.{arith}
 use borrow.Author.Tests.{lt-leb, le-leb, lt-ltb, ltb-true, eqb-true, ne-eqb}
 use lib.Dec.{leb, ltb, eqb}
 use lib.ListN.{length, replicate}
-use Rattle.records.specs.Lists.{all, any, count, keep, upto, distinct}
+use Rattle.prelude.specs.Lists.{all, any, count, keep, upto, distinct}
 use Rattle.records.specs.Bytes.{records}
-use Rattle.records.proofs.FramingLaws.{length-keep, and-true}
+use Rattle.prelude.proofs.Counts.{length-keep, and-true}
 use Rattle.expressions.proofs.Uses.{times}
-use Rattle.expressions.proofs.Loops.{and-assoc}
+use Rattle.prelude.proofs.Loops.{and-assoc}
 use Rattle.model.specs.Owned.{home}
 use Rattle.model.specs.ChartSet.{Transition, readCharts, readActions}
 use Rattle.model.specs.ChartFile.{between, inCode, insideCharts, leavingState, unconditional, initialFits, prioritiesDiffer, atMostEight}
@@ -21,9 +21,9 @@ use Rattle.chart_files.specs.Places.{transitionAt, placeAt, actionAt, in
 use Rattle.chart_files.specs.Names.{initialNamed, actionNamed}
 use Rattle.chart_files.specs.Tallies.{noneAbove}
 use Rattle.chart_files.specs.Structure.{insideChart, transitionFitsInitials, actionFitsInitials, leftOnce, sourceAt, pairAt, ownerAt}
-use Rattle.chart_files.proofs.ListLaws.{all-map, count-map, keep-map, map-map, all-keep}
+use Rattle.prelude.proofs.Maps.{all-map, count-map, keep-map, map-map, all-keep}
 use Rattle.chart_files.proofs.PlacesRead.{length-homes, length-transitions, initial-is, transitions-are, all-actions, count-actions, most-states}
-use Rattle.chart_files.proofs.NumberLaws.{all-at, all-by, all-alike, all-append, count-append, not-any, all-both, count-either}
+use Rattle.prelude.proofs.Numbers.{all-at, all-by, all-alike, all-append, count-append, not-any, all-both, count-either}
 use Rattle.chart_files.proofs.StructureInitials.{marks, apart-once, idle-once, left-once}
 use Rattle.chart_files.proofs.InCode.{place-in-code}
 use Rattle.chart_files.proofs.StructureOwners.{owners-within}

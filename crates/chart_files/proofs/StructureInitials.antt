@@ -7,12 +7,12 @@ use native.Mathlib.Omega.{arith}
 use borrow.Author.Tests.{ltb-true, ltb-false, eqb-true, eqb-false, eq-eqb, ne-eqb}
 use lib.Dec.{ltb, eqb}
 use lib.ListN.{length, getD, replicate, length-replicate, getD-replicate, List·getD-eq-default}
-use Rattle.records.specs.Lists.{all, count, upto}
-use Rattle.records.proofs.FramingLaws.{and-true}
+use Rattle.prelude.specs.Lists.{all, count, upto}
+use Rattle.prelude.proofs.Counts.{and-true}
 use Rattle.expressions.specs.Uses.{addUses}
 use Rattle.expressions.proofs.Uses.{times, adds-length, adds-at, once}
-use Rattle.chart_files.proofs.ListLaws.{all-map}
-use Rattle.chart_files.proofs.NumberLaws.{all-at, all-both}
+use Rattle.prelude.proofs.Maps.{all-map}
+use Rattle.prelude.proofs.Numbers.{all-at, all-both}
 
 -- ---- tests of all
 

@@ -7,12 +7,12 @@ use native.Mathlib.Omega.{arith}
 use borrow.Author.Tests.{eqb-true, eqb-false, eq-eqb, ne-eqb}
 use lib.Dec.{leb, eqb}
 use lib.ListN.{replicate}
-use Rattle.records.specs.Lists.{all, count, from, upto}
+use Rattle.prelude.specs.Lists.{all, count, from, upto}
 use Rattle.expressions.proofs.Uses.{times}
-use Rattle.expressions.proofs.Loops.{and-assoc}
+use Rattle.prelude.proofs.Loops.{and-assoc}
 use Rattle.chart_files.specs.Tallies.{noneAbove}
-use Rattle.chart_files.proofs.ListLaws.{count-map}
-use Rattle.chart_files.proofs.NumberLaws.{all-alike, count-alike}
+use Rattle.prelude.proofs.Maps.{count-map}
+use Rattle.prelude.proofs.Numbers.{all-alike, count-alike}
 use Rattle.chart_files.proofs.Tallies.{within-is}
 
 -- the numbers below a + b: those below a, and those from a on

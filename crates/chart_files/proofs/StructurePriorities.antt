@@ -7,12 +7,12 @@ use native.Mathlib.Omega.{arith}
 use borrow.Author.Tests.{le-leb, leb-true, leb-false, eqb-true, eqb-false, eq-eqb, ne-eqb}
 use lib.Dec.{leb, eqb, eqb·suc-zero}
 use lib.ListN.{replicate}
-use Rattle.records.specs.Lists.{all, count, keep, mem, distinct, upto}
-use Rattle.records.proofs.FramingLaws.{and-true}
+use Rattle.prelude.specs.Lists.{all, count, keep, mem, distinct, upto}
+use Rattle.prelude.proofs.Counts.{and-true}
 use Rattle.expressions.proofs.Uses.{times}
 use Rattle.chart_files.specs.Tallies.{noneAbove}
-use Rattle.chart_files.proofs.NumberLaws.{same-truth, both-true, all-at, all-by, count-alike, never}
-use Rattle.chart_files.proofs.ListLaws.{count-map, count-keep}
+use Rattle.prelude.proofs.Numbers.{same-truth, both-true, all-at, all-by, count-alike, never}
+use Rattle.prelude.proofs.Maps.{count-map, count-keep}
 use Rattle.chart_files.proofs.Tallies.{within-is}
 
 -- ---- distinct: none comes twice

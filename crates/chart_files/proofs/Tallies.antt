@@ -9,12 +9,12 @@ use borrow.Author.Tests.{lt-ltb, le-leb, ltb-true, leb-true, leb-false, eqb-true
 use lib.Dec.{ltb, leb, eqb}
 use lib.ListN.{length, getD, replicate, length-set, take, length-replicate, getD-replicate, replicate-append-replicate, List·getD-eq-default}
 use lib.Seq.{take-at, getD-set-same, getD-set-other}
-use Rattle.records.specs.Lists.{all, count, from, upto}
-use Rattle.records.proofs.FramingLaws.{and-true}
+use Rattle.prelude.specs.Lists.{all, count, from, upto}
+use Rattle.prelude.proofs.Counts.{and-true}
 use Rattle.expressions.proofs.Uses.{times}
-use Rattle.expressions.proofs.Loops.{left-more, left-none}
+use Rattle.prelude.proofs.Loops.{left-more, left-none}
 use Rattle.chart_files.specs.Tallies.{addOne, noneAbove, tally}
-use Rattle.chart_files.proofs.NumberLaws.{same-truth, both-true, all-at, all-by}
+use Rattle.prelude.proofs.Numbers.{same-truth, both-true, all-at, all-by}
 
 -- what stands at a place with what is still to be counted there
 one-more : (c : List ℕ) (k : ℕ) (ks : List ℕ) (j : ℕ) → j < length c → getD (addOne c k) j 0 + times j ks ≡ getD c j 0 + times j (k ∷ ks)

@@ -7,9 +7,9 @@ use native.Mathlib.Nat.{zero-add}
 use native.Mathlib.Omega.{arith}
 use borrow.Author.Tests.{lt-ltb, le-leb, leb-true, eqb-true, eqb-false, eq-eqb, ne-eqb}
 use lib.Dec.{leb, ltb, eqb}
-use Rattle.records.specs.Lists.{all, caseOf}
+use Rattle.prelude.specs.Lists.{all, caseOf}
 use Rattle.records.specs.Bytes.{byte, two, four}
-use Rattle.expressions.proofs.Loops.{and-one, and-assoc}
+use Rattle.prelude.proofs.Loops.{and-one, and-assoc}
 use Rattle.model.specs.ChartFile.{zeroBytes, unusedAreZero, between}
 use Rattle.chart_files.proofs.RecordLoops.{zerosFrom, zeros-next, unused-one, unused-two}
 

@@ -7,12 +7,12 @@ use native.Mathlib.Nat.{sub-zero}
 use native.Mathlib.Omega.{arith}
 use lib.Dec.{eqb}
 use lib.ListN.{length, getD, replicate, length-replicate, getD-replicate}
-use Rattle.records.specs.Lists.{all, count, gather, from, upto}
+use Rattle.prelude.specs.Lists.{all, count, gather, from, upto}
 use Rattle.records.specs.Bytes.{records}
 use Rattle.expressions.specs.Nodes.{nodeOf, nodeAt}
 use Rattle.expressions.specs.Sorts.{sortOf, isNumber, isTruth}
 use Rattle.expressions.specs.Uses.{addUses, allOperands}
-use Rattle.expressions.proofs.Loops.{left-more, left-none}
+use Rattle.prelude.proofs.Loops.{left-more, left-none}
 use Rattle.expressions.proofs.Uses.{times, adds-append, adds-length, adds-at, once}
 use Rattle.model.specs.ChartSet.{readCharts, readActions}
 use Rattle.model.specs.ChartFile.{inCode, guardNodes, assignedNodes, guards, assigned, uses}
@@ -20,10 +20,10 @@ use Rattle.chart_files.specs.declared.Shape.{Shape}
 use Rattle.chart_files.specs.Shape.{IsShape}
 use Rattle.chart_files.specs.Places.{transitionAt, placeAt, nodePart}
 use Rattle.chart_files.specs.Used.{guardAt, assignedAt, operandUse, guardUse, assignedUse, allUses, truths, numbers}
-use Rattle.chart_files.proofs.ListLaws.{gather-map, alike-upto}
+use Rattle.prelude.proofs.Maps.{gather-map, alike-upto}
 use Rattle.chart_files.proofs.PlacesRead.{transitions-are, gather-actions, lookup-is, length-nodes, most-nodes}
-use Rattle.model.proofs.ListLaws.{gather-append}
-use Rattle.chart_files.proofs.NumberLaws.{all-alike, all-append, all-both, count-append}
+use Rattle.prelude.proofs.Lists.{gather-append}
+use Rattle.prelude.proofs.Numbers.{all-alike, all-append, all-both, count-append}
 use Rattle.chart_files.proofs.InCode.{place-in-code}
 
 -- ---- gathered lists

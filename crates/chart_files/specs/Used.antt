@@ -3,7 +3,7 @@ use mathlib.Core.Bool.{Bool}
 use mathlib.Core.List.{List}
 use Prim.Native.Nat.{ℕ}
 use lib.ListN.{replicate}
-use Rattle.records.specs.Lists.{all, gather, upto}
+use Rattle.prelude.specs.Lists.{all, gather, upto}
 use Rattle.expressions.specs.Nodes.{Node, nodeAt}
 use Rattle.expressions.specs.Sorts.{sortOf, isNumber, isTruth}
 use Rattle.expressions.specs.Uses.{addUses, allOperands}

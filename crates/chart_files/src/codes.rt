@@ -2,19 +2,22 @@
 ghost use mathlib.Core.Path.{_≡_};
 ghost use mathlib.Core.Bool.{true};
 ghost use mathlib.Core.List.{[], _∷_};
-ghost use Rattle.records.specs.Lists.{caseOf};
+ghost use Rattle.prelude.specs.Lists.{caseOf};
 ghost use Rattle.model.specs.ChartFile.{isEvent, isDuration, transitionInCode, variableInCode, nodeInCode, deedInCode, actionInCode, inCode};
 use records::byte_at;
 use records::i16_at;
+use records::sizes::LAST_EVENT;
+use records::sizes::LAST_PRIORITY;
+use records::sizes::MOST_MILLISECONDS;
 use records::u32_at;
 
 fn trigger_in_code(code: u8, event: u8, ms: u32) -> bool
     ensures { λ r. ⌜ r ≡ caseOf code ((1, isEvent event) ∷ (2, isDuration ms) ∷ (3, isDuration ms) ∷ []) true ⌝ }
 {
     match code {
-        1 => event <= 31,
-        2 => (1 <= ms) & (ms <= 3600000),
-        3 => (1 <= ms) & (ms <= 3600000),
+        1 => event <= LAST_EVENT,
+        2 => (1 <= ms) & (ms <= MOST_MILLISECONDS),
+        3 => (1 <= ms) & (ms <= MOST_MILLISECONDS),
         _ => true,
     }
 }
@@ -25,7 +28,7 @@ fn transition_in_code(r: &[u8]) -> bool
     let priority = byte_at(r, 1);
     let code = byte_at(r, 6);
     (1 <= priority)
-        & (priority <= 16)
+        & (priority <= LAST_PRIORITY)
         & (code <= 3)
         & trigger_in_code(code, byte_at(r, 7), u32_at(r, 8))
 }
@@ -47,7 +50,7 @@ pub fn node_in_code(r: &[u8]) -> bool
 pub fn deed_in_code(code: u8, x: u8) -> bool
     ensures { λ t. ⌜ t ≡ deedInCode code x ⌝ }
 {
-    (1 <= code) & (code <= 2) & ((code != 2) | (x <= 31))
+    (1 <= code) & (code <= 2) & ((code != 2) | (x <= LAST_EVENT))
 }
 
 fn action_in_code(r: &[u8]) -> bool

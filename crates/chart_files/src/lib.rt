@@ -1,6 +1,6 @@
 // The reader of chart files: the framing, the checks on what the records say, and the refusal of a file.
 ghost use mathlib.Core.Path.{_≡_};
-ghost use Rattle.records.specs.Lists.{all};
+ghost use Rattle.prelude.specs.Lists.{all};
 ghost use Rattle.records.specs.Bytes.{records};
 ghost use Rattle.model.specs.ChartFile.{unused, unusedAreZero, inCode};
 ghost use Rattle.chart_files.specs.Shape.{IsShape, IsShaped, IsChecked};
@@ -20,6 +20,8 @@ use names::all_named;
 use records::Framing;
 use records::frame_of;
 use records::refusals::Refusal;
+use records::sizes::NODES;
+use records::sizes::SET_LIMITS;
 use structure::structured;
 use timing::all_ticking;
 use unused::record_clean;
@@ -42,13 +44,12 @@ pub enum Checked {
 }
 
 // The most of each kind.
-const MOST: [u16; 6] = [8, 128, 256, 64, 1024, 512];
 
 // Refusals 1 to 3.
 pub fn shape_of(s: &[u8]) -> Checked
     ensures { λ r. ⌜ IsShaped (now (s .entry)) r ⌝ }
 {
-    let most = MOST;
+    let most = SET_LIMITS;
     let frame = frame_of(s, 1, &most);
     let answer = frame.answer;
     match answer {
@@ -107,7 +108,7 @@ fn check_framed(s: &[u8], shape: Shape) -> Checked
     if !tested.coded {
         return Checked::Refused(Refusal::BrokenCode);
     }
-    let mut uses = [0u8; 1024];
+    let mut uses = [0u8; NODES];
     let nodes = node_records(s, shape);
     let found = test_nodes(nodes, shape.nodes, shape.variables, &mut uses);
     if !all_named(s, shape, found) {

@@ -5,7 +5,7 @@ ghost use mathlib.Core.List.{map, _++_};
 ghost use Prim.Native.Nat.{_+_, _*_, _≤_, _<_};
 ghost use lib.Dec.{ltb};
 ghost use lib.ListN.{length, getD};
-ghost use Rattle.records.specs.Lists.{all, upto};
+ghost use Rattle.prelude.specs.Lists.{all, upto};
 ghost use Rattle.records.specs.Bytes.{records};
 ghost use Rattle.expressions.specs.Uses.{addUses};
 ghost use Rattle.model.specs.ChartSet.{readCharts};
@@ -30,6 +30,10 @@ use super::fields::target_of;
 use super::fields::trigger_of;
 use expressions::sorts::add_use;
 use records::byte_at;
+use records::sizes::OWNED;
+use records::sizes::PRIORITIES;
+use records::sizes::STATES;
+use records::sizes::TRANSITIONS;
 
 // The chart of a state; a number that names no state has chart 0.
 fn chart_of(s: &[u8], shape: Shape, state: u16) -> u8
@@ -189,8 +193,8 @@ fn initials_fit(s: &[u8], shape: Shape) -> bool
     requires { ⌜ IsShape (now s) shape × (all (initialNamed (now s) shape) (upto (shape .charts)) ≡ true) ⌝ }
     ensures { λ r. ⌜ r ≡ all (file.initialFits (readCharts (now (s .entry)))) (upto (shape .charts)) ⌝ }
 {
-    let mut initial = [0u8; 128];
-    let mut left = [0u8; 128];
+    let mut initial = [0u8; STATES];
+    let mut left = [0u8; STATES];
     count_initials(s, shape, &mut initial);
     count_sources(s, shape, &mut left);
     all_left_once(s, shape, &left)
@@ -244,7 +248,7 @@ fn priorities_differ(s: &[u8], shape: Shape) -> bool
     requires { ⌜ IsShape (now s) shape × (all file.inCode (records (now s)) ≡ true) ⌝ }
     ensures { λ r. ⌜ r ≡ all (file.prioritiesDiffer (readCharts (now (s .entry)))) (upto (length (readCharts (now (s .entry)) .homes))) ⌝ }
 {
-    let mut seen = [0u8; 2048];
+    let mut seen = [0u8; STATES * PRIORITIES];
     let n = 16 * (shape.states as usize);
     pairs_within(s, shape, &mut seen[..n])
 }
@@ -268,7 +272,7 @@ fn owners_within(s: &[u8], shape: Shape, counts: &mut [u8]) -> bool
     let n = shape.actions;
     let mut i = 0;
     while i < n {
-        if !count_within(counts, owner_at(s, shape, i), 8) {
+        if !count_within(counts, owner_at(s, shape, i), OWNED) {
             return false;
         }
         i += 1;
@@ -281,7 +285,7 @@ fn owners_act(s: &[u8], shape: Shape) -> bool
     requires { ⌜ IsShape (now s) shape × (all file.inCode (records (now s)) ≡ true) × (file.allNamed (readCharts (now s)) ≡ true) ⌝ }
     ensures { λ r. ⌜ r ≡ (all (file.atMostEight (readCharts (now (s .entry)) .entries ++ readCharts (now (s .entry)) .exits)) (upto (length (readCharts (now (s .entry)) .homes))) && all (file.atMostEight (readCharts (now (s .entry)) .transition-actions)) (upto (length (readCharts (now (s .entry)) .transitions)))) ⌝ }
 {
-    let mut counts = [0u8; 384];
+    let mut counts = [0u8; STATES + TRANSITIONS];
     let n = (shape.states as usize) + (shape.transitions as usize);
     owners_within(s, shape, &mut counts[..n])
 }

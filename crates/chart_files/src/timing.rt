@@ -1,6 +1,6 @@
 // Refusal 9: timing triggers of 0 ticks.
 ghost use mathlib.Core.Path.{_≡_};
-ghost use Rattle.records.specs.Lists.{all};
+ghost use Rattle.prelude.specs.Lists.{all};
 ghost use Rattle.model.specs.ChartSet.{readCharts};
 ghost use Rattle.model.specs.ChartFile as F;
 ghost use Rattle.chart_files.specs.Shape.{IsShape};
@@ -8,16 +8,16 @@ ghost use Rattle.chart_files.specs.Parts.{triggerFor};
 use super::Shape;
 use super::fields::Trigger;
 use super::fields::trigger_of;
+use timings::ticks;
 
-// Ticks are milliseconds / 100 to the nearest, halves up: from 50 on there is one at least.
 fn ticking(t: Trigger) -> bool
     ensures { λ r. ⌜ r ≡ F.ticking (triggerFor t) ⌝ }
 {
     match t {
         Trigger::Always => true,
         Trigger::Event(_) => true,
-        Trigger::After(ms) => 50 <= ms,
-        Trigger::Every(ms) => 50 <= ms,
+        Trigger::After(ms) => 0 < ticks(ms),
+        Trigger::Every(ms) => 0 < ticks(ms),
     }
 }
 

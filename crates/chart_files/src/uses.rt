@@ -4,7 +4,7 @@ ghost use mathlib.Core.Bool.{true};
 ghost use Prim.Native.Nat.{_≤_};
 ghost use lib.Dec.{eqb};
 ghost use lib.ListN.{length, getD, replicate};
-ghost use Rattle.records.specs.Lists.{all, upto};
+ghost use Rattle.prelude.specs.Lists.{all, upto};
 ghost use Rattle.records.specs.Bytes.{records};
 ghost use Rattle.expressions.specs.Nodes.{nodeOf, nodeAt};
 ghost use Rattle.expressions.specs.Verdicts.{verdictOf};

@@ -9,13 +9,13 @@ use native.Mathlib.Omega.{arith}
 use lib.Dec.{leb, ltb, eqb}
 use lib.ListN.{length, getD}
 use borrow.Author.Tests.{eq-eqb, leb-true, ltb-true, eqb-true, eqb-false, not-true, not-false}
-use Rattle.records.specs.Lists.{keep, all, from, upto, caseOf}
+use Rattle.prelude.specs.Lists.{keep, all, from, upto, caseOf}
 use Rattle.records.specs.Bytes.{byte, two, four, records, kind, ofKind}
 use Rattle.records.specs.Framing.{howMany, firstOf}
 use Rattle.records.specs.Refusal.{Refusal, odd-length, lowest}
 use Rattle.records.proofs.Records.{recordAt, byte-record}
 use Rattle.records.proofs.RoundTrips.{four-record}
-use Rattle.records.proofs.FramingLaws.{and-true}
+use Rattle.prelude.proofs.Counts.{and-true}
 use Rattle.records.proofs.Framed.{length-ofKind, framed-thing}
 use Rattle.expressions.specs.Nodes.{nodeOf}
 use Rattle.expressions.specs.Sorts.{nodesNamed}
@@ -29,7 +29,8 @@ use Rattle.chart_files.specs.Places.{triggerBy, firstTransition, firstAction, t
 use Rattle.chart_files.proofs.PlacesRead.{first-transition, first-action, transition-is, length-homes, length-transitions, length-variables, most-states, most-transitions, all-actions}
 use Rattle.charts.specs.Accepted.{Accepted}
 use Rattle.charts.specs.Tables.{KeyedOwner}
-use Rattle.charts.specs.Replies.{Holdable, Doable}
+use Rattle.machines.specs.Deeds.{Doable}
+use Rattle.charts.specs.Replies.{Holdable}
 use Rattle.machines.proofs.ChecksClauses.{all-upto}
 
 -- a list of tests of which none applies

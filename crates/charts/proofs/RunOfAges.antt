@@ -9,8 +9,8 @@ use borrow.Author.Tests.{ltb-true, ltb-false, eqb-true, eqb-false}
 use lib.Dec.{ltb, eqb}
 use lib.ListN.{length, getD, set, length-set}
 use lib.Seq.{getD-set-same, getD-set-other, ext-getD}
-use Rattle.records.specs.Lists.{mapFrom}
-use Rattle.machines.proofs.Filled.{length-mapFrom, getD-mapFrom}
+use Rattle.prelude.specs.Lists.{mapFrom}
+use Rattle.prelude.proofs.Filled.{length-mapFrom, getD-mapFrom}
 
 module _ (g : ℕ → ℕ) (l₀ : List ℕ) where
   -- of l₀ the places before k, as far as there are any

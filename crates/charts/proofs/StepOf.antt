@@ -11,10 +11,10 @@ use borrow.Author.Tests.{eq-eqb, ne-eqb, eqb-true, eqb-false, ltb-true, ltb-fals
 use lib.Dec.{eqb, ltb}
 use lib.IntN.{ℤ}
 use lib.ListN.{length}
-use Rattle.records.specs.Lists.{keep, gather, from, upto, sorted, caseOf}
+use Rattle.prelude.specs.Lists.{keep, gather, from, upto, sorted, caseOf}
 use Rattle.records.specs.Refusal.{Refusal, Out, val, fault, _>>=_, choose}
-use Rattle.expressions.proofs.Loops.{left-more, left-none}
-use Rattle.model.specs.Owned.{of}
+use Rattle.prelude.proofs.Loops.{left-more, left-none}
+use Rattle.prelude.specs.Owned.{of}
 use Rattle.model.specs.Runs.{World, Run, Answer, taken, idle, deeds}
 use Rattle.model.specs.ChartSet.{ChartSet, readActions, readCharts, transition}
 use Rattle.model.specs.Charts.{row, firstThat, acted, follow}

@@ -8,7 +8,7 @@ use borrow.Author.Tests.{ltb-true, ltb-false}
 use lib.Dec.{ltb}
 use lib.IntN.{ℤ}
 use lib.ListN.{getD}
-use Rattle.records.specs.Lists.{mapFrom}
+use Rattle.prelude.specs.Lists.{mapFrom}
 use Rattle.records.specs.Refusal.{Refusal, Out, val, fault, _>>=_}
 use Rattle.model.specs.Runs.{Run, Answer, moved, stepped}
 use Rattle.model.specs.ChartSet.{ChartSet, readCharts}

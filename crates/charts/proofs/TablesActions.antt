@@ -7,8 +7,8 @@ use Prim.Native.Nat.{ℕ, _+_, _<_}
 use native.Mathlib.Omega.{arith}
 use lib.Dec.{eqb}
 use borrow.Author.Tests.{eq-eqb, eqb-true}
-use Rattle.records.specs.Lists.{keep, upto, caseOf}
-use Rattle.model.specs.Owned.{of}
+use Rattle.prelude.specs.Lists.{keep, upto, caseOf}
+use Rattle.prelude.specs.Owned.{of}
 use Rattle.model.specs.ChartSet.{readActions}
 use Rattle.chart_files.specs.declared.Shape.{Shape}
 use Rattle.chart_files.specs.Places.{placeAt, actionAt}

@@ -7,7 +7,7 @@ use native.Mathlib.Omega.{arith}
 use borrow.Author.Tests.{ne-eqb, eqb-true, eqb-false}
 use lib.Dec.{eqb}
 use lib.IntN.{ℤ}
-use Rattle.records.specs.Lists.{keep, upto}
+use Rattle.prelude.specs.Lists.{keep, upto}
 use Rattle.records.specs.Refusal.{Refusal, Out, val, fault, _>>=_}
 use Rattle.model.specs.Runs.{World, deed, deeds}
 use Rattle.model.specs.ChartSet.{readCharts}

@@ -8,7 +8,7 @@ use lib.Dec.{eqb}
 use lib.ListN.{length, getD, set, replicate, length-set, length-replicate, getD-replicate}
 use lib.Seq.{getD-set-same, getD-set-other}
 use borrow.Author.Tests.{eqb-true, eqb-false, eq-eqb, ne-eqb}
-use Rattle.records.specs.Lists.{from}
+use Rattle.prelude.specs.Lists.{from}
 use Rattle.charts.specs.Tables.{highest, earliest, rowEntry}
 use Rattle.machines.proofs.ChainsEarliest.{earliest-one, earliest-none}
 

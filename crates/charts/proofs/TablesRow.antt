@@ -8,21 +8,21 @@ use native.Mathlib.Omega.{arith}
 use lib.Dec.{leb, ltb, eqb}
 use lib.ListN.{length, getD}
 use borrow.Author.Tests.{le-leb, lt-ltb, eq-eqb, eqb-true, not-true}
-use Rattle.records.specs.Lists.{keep, gather, from, upto, all, mem, distinct}
-use Rattle.records.proofs.FramingLaws.{impossible, and-true}
+use Rattle.prelude.specs.Lists.{keep, gather, from, upto, all, mem, distinct}
+use Rattle.prelude.proofs.Counts.{impossible, and-true}
 use Rattle.model.specs.ChartSet.{ChartSet, noTransition, readCharts, transition}
 use Rattle.model.specs.Charts.{row}
 use Rattle.model.specs.ChartFile.{prioritiesDiffer}
 use Rattle.chart_files.specs.declared.Shape.{Shape}
 use Rattle.chart_files.specs.Places.{transitionAt}
-use Rattle.chart_files.proofs.ListLaws.{keep-keep}
+use Rattle.prelude.proofs.Maps.{keep-keep}
 use Rattle.chart_files.proofs.PlacesRead.{transition-is, length-transitions, most-transitions}
 use Rattle.charts.specs.Accepted.{Accepted}
 use Rattle.charts.specs.Tables.{headOr, earliest, named, leaves, rowEntry, HasRows, highest, HasEnds}
 use Rattle.machines.proofs.ChainsEarliest.{keep-alike, only-one}
 use Rattle.charts.proofs.Accepted.{all-kept, priority-known, differ}
 use Rattle.charts.proofs.TablesFilled.{leaving, Rows, priorityFrom, Ended}
-use Rattle.model.proofs.Sorting.{sorted-buckets}
+use Rattle.prelude.proofs.Sorting.{sorted-buckets}
 
 all-from : (p : ℕ → Bool) (k n : ℕ) → ((t : ℕ) → k ≤ t → t < k + n → p t ≡ true) → all p (from k n) ≡ true
 unfolding all from

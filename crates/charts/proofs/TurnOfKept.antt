@@ -5,7 +5,7 @@ use Prim.Native.Nat.{ℕ}
 use native.Mathlib.Nat.{le-refl}
 use lib.ListN.{getD, set}
 use Rattle.records.specs.Refusal.{Out, val, fault, _>>=_}
-use Rattle.model.specs.Owned.{of}
+use Rattle.prelude.specs.Owned.{of}
 use Rattle.model.specs.Runs.{World, Run, deeds, taken}
 use Rattle.model.specs.ChartSet.{ChartSet, transition}
 use Rattle.model.specs.Charts.{firstThat, row, transitionHolds, acted, follow, chartStep}

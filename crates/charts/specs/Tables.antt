@@ -6,7 +6,7 @@ use mathlib.Core.List.{List, [], _∷_, map}
 use Prim.Native.Nat.{ℕ, _+_, _-_, _≤_, _<_, min, max}
 use lib.Dec.{eqb}
 use lib.ListN.{length, getD}
-use Rattle.records.specs.Lists.{keep, upto, caseOf}
+use Rattle.prelude.specs.Lists.{keep, upto, caseOf}
 use Rattle.records.specs.Refusal.{Out, _>>=_}
 use Rattle.model.specs.Runs.{World, deeds}
 use Rattle.model.specs.ChartSet.{ChartSet, readCharts, transition}

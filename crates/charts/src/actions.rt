@@ -6,14 +6,16 @@ ghost use Rattle.charts.specs.Tables.{keyFor, keyAt, KeyedOwner};
 use chart_files::Shape;
 use chart_files::fields::owner_of;
 use chart_files::fields::place_of;
+use records::sizes::CROSSING_KEYS;
+use records::sizes::EXIT_KEYS;
 
 fn key_for(place: u8, owner: u16) -> u16
     requires { ⌜ KeyedOwner place owner ⌝ }
     ensures { λ r. ⌜ r ≡ keyFor place owner ⌝ }
 {
     match place {
-        2 => 128 + owner,
-        3 => 256 + owner,
+        2 => EXIT_KEYS + owner,
+        3 => CROSSING_KEYS + owner,
         _ => owner,
     }
 }

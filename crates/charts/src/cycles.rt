@@ -16,6 +16,10 @@ use super::turns::turn;
 use chart_files::Shape;
 use machines::answers::Answer;
 use machines::answers::Ending;
+use records::sizes::ACTION_KEYS;
+use records::sizes::ACTIONS;
+use records::sizes::PRIORITIES;
+use records::sizes::STATES;
 
 // The answer of a call that is done or not, and the run after it.
 pub struct Called {
@@ -40,11 +44,11 @@ pub fn cycle_by_turns(s: &[u8], shape: Shape, run: Run, events: u32) -> Called
     requires { ⌜ Accepted (now s) shape ⌝ }
     ensures { λ r. ⌜ calledOf r ≡ settled (runOf run) (model-cycle (machine (readCharts (now (s .entry)))) events (runOf run)) ⌝ }
 {
-    let empty = [256u16; 16];
-    let mut rows = [empty; 128];
-    let mut ends = [0u8; 128];
-    let mut first = [65535u16; 512];
-    let mut next = [65535u16; 512];
+    let empty = [256u16; PRIORITIES];
+    let mut rows = [empty; STATES];
+    let mut ends = [0u8; STATES];
+    let mut first = [65535u16; ACTION_KEYS];
+    let mut next = [65535u16; ACTIONS];
     fill_rows(s, shape, &mut rows, &mut ends);
     fill_actions(s, shape, &mut first, &mut next);
     let mut present = run;

@@ -10,8 +10,10 @@ ghost use Rattle.charts.specs.Tables.{HasActions, deedsOfThree};
 use super::values::values_of;
 use chart_files::Shape;
 use chart_files::fields::first_variable;
-use machines::deeds::assign_code;
-use machines::deeds::raised;
+use machines::deeds::do_deed;
+use records::sizes::ActionHeads;
+use records::sizes::ActionLinks;
+use records::sizes::Variables;
 use records::u16_within;
 
 fn first_action(shape: Shape) -> usize
@@ -20,30 +22,28 @@ fn first_action(shape: Shape) -> usize
     first_variable(shape) + (shape.variables as usize) + (shape.nodes as usize)
 }
 
-// Code 2 raises, another assigns.
-fn do_deed(s: &[u8], shape: Shape, a: u16, vars: &mut [i16; 64], events: u32) -> u64
+// The deed of action a.
+fn do_action(s: &[u8], shape: Shape, a: u16, vars: &mut Variables, events: u32) -> u64
     requires { ⌜ Accepted (now s) shape × (a < shape .actions) ⌝ }
     ensures { λ r. ⌜ ((p c : ℕ) → worldBy r (now (vars .exit)) p c ≡ deed (readCharts (now (s .entry)) .nodes) (readCharts (now (s .entry)) .variables) (actionAt (now (s .entry)) shape a .1) (worldIn (now (vars .entry)) events p c)) × IsCode r ⌝ }
 {
     let at = 16 * (first_action(shape) + (a as usize));
+    let code = s[at + 4];
     let x = s[at + 5];
-    if s[at + 4] == 2 {
-        raised(x, events) as u64
-    } else {
-        assign_code(s, values_of(shape), x, u16_within(s, at + 6), vars, events)
-    }
+    let n = u16_within(s, at + 6);
+    do_deed(s, values_of(shape), code, x, n, vars, events)
 }
 
 // The deeds of three keys, one key after the other, each in file order and seeing the last. One loop, so that a deed is done at one place of the code.
 pub fn do_deeds(
     s: &[u8],
     shape: Shape,
-    first: &[u16; 512],
-    next: &[u16; 512],
+    first: &ActionHeads,
+    next: &ActionLinks,
     leaving: u16,
     crossing: u16,
     entering: u16,
-    vars: &mut [i16; 64],
+    vars: &mut Variables,
     events: u32,
 ) -> u64
     requires { ⌜ Accepted (now s) shape × HasActions (now s) shape (now first) (now next) × (leaving < 512) × (crossing < 512) × (entering < 512) ⌝ }
@@ -61,7 +61,7 @@ pub fn do_deeds(
             let key = if k == 1 { crossing } else { entering };
             a = first[key as usize];
         } else {
-            let after = do_deed(s, shape, a, vars, present);
+            let after = do_action(s, shape, a, vars, present);
             if 4294967295 < after {
                 return after;
             }

@@ -3,7 +3,7 @@ ghost use mathlib.Core.Path.{_≡_};
 ghost use Prim.Native.Nat.{ℕ, _+_, _-_, _≤_, _<_};
 ghost use lib.Dec.{T};
 ghost use lib.ListN.{length, getD};
-ghost use Rattle.records.specs.Lists.{mapFrom};
+ghost use Rattle.prelude.specs.Lists.{mapFrom};
 ghost use Rattle.records.specs.Refusal.{val};
 ghost use Rattle.model.specs.Outcome.{settled};
 ghost use Rattle.model.specs.Runs.{Run as model-run, possible, checked, cycle as model-cycle};
@@ -28,6 +28,18 @@ use machines::answers::Reason;
 use machines::checks::Before;
 use machines::checks::events_given;
 use machines::deeds::reason_by;
+use records::sizes::ACTION_KEYS;
+use records::sizes::ACTIONS;
+use records::sizes::ActionHeads;
+use records::sizes::ActionLinks;
+use records::sizes::Ages;
+use records::sizes::Ends;
+use records::sizes::MOST_CYCLES;
+use records::sizes::PRIORITIES;
+use records::sizes::Places;
+use records::sizes::Rows;
+use records::sizes::STATES;
+use records::sizes::Variables;
 
 // How many cycles were done, or why not even the first was, and the run after them.
 pub struct Played {
@@ -42,7 +54,7 @@ enum Progress {
 }
 
 // Time passes once the charts' turns are taken, whose events these are, unless one of them faulted.
-fn time_after(charts: u16, ages: &mut [u32; 8], events: u64) -> Progress
+fn time_after(charts: u16, ages: &mut Ages, events: u64) -> Progress
     requires { ⌜ (charts ≤ 8) × (events ≤ 4_294_967_295 → (k : ℕ) → k < charts → getD (now ages) k 0 < 4_294_967_295) ⌝ }
     ensures { λ r. ⌜ ((q : model-run) → ranTo r q ≡ endedBy events q) × (events ≤ 4_294_967_295 → now (ages .exit) ≡ mapFrom 0 (aged charts) (now (ages .entry))) × (4_294_967_295 < events → now (ages .exit) ≡ now (ages .entry)) ⌝ }
 {
@@ -57,13 +69,13 @@ fn time_after(charts: u16, ages: &mut [u32; 8], events: u64) -> Progress
 fn cycle_or_fault(
     s: &[u8],
     shape: Shape,
-    rows: &[[u16; 16]; 128],
-    ends: &[u8; 128],
-    first: &[u16; 512],
-    next: &[u16; 512],
-    states: &mut [u16; 8],
-    ages: &mut [u32; 8],
-    vars: &mut [i16; 64],
+    rows: &Rows,
+    ends: &Ends,
+    first: &ActionHeads,
+    next: &ActionLinks,
+    states: &mut Places,
+    ages: &mut Ages,
+    vars: &mut Variables,
     events: u32,
     position: u32,
     cycles: u32,
@@ -95,13 +107,13 @@ fn cycle_or_fault(
 fn cycle_or_none(
     s: &[u8],
     shape: Shape,
-    rows: &[[u16; 16]; 128],
-    ends: &[u8; 128],
-    first: &[u16; 512],
-    next: &[u16; 512],
-    states: &mut [u16; 8],
-    ages: &mut [u32; 8],
-    vars: &mut [i16; 64],
+    rows: &Rows,
+    ends: &Ends,
+    first: &ActionHeads,
+    next: &ActionLinks,
+    states: &mut Places,
+    ages: &mut Ages,
+    vars: &mut Variables,
     events: u32,
     cycles: u32,
 ) -> Progress
@@ -140,13 +152,13 @@ fn cycle_or_none(
 fn further_cycles(
     s: &[u8],
     shape: Shape,
-    rows: &[[u16; 16]; 128],
-    ends: &[u8; 128],
-    first: &[u16; 512],
-    next: &[u16; 512],
-    states: &mut [u16; 8],
-    ages: &mut [u32; 8],
-    vars: &mut [i16; 64],
+    rows: &Rows,
+    ends: &Ends,
+    first: &ActionHeads,
+    next: &ActionLinks,
+    states: &mut Places,
+    ages: &mut Ages,
+    vars: &mut Variables,
     cycles: u32,
     masks: &[u32],
 ) -> u32
@@ -157,7 +169,7 @@ fn further_cycles(
     let mut done = cycles;
     let mut k: usize = 0;
     while k < masks.len() {
-        if done == 1000000 {
+        if done == MOST_CYCLES {
             return done - cycles;
         }
         match cycle_or_none(
@@ -187,10 +199,10 @@ fn further_cycles(
 fn play_further(
     s: &[u8],
     shape: Shape,
-    rows: &[[u16; 16]; 128],
-    ends: &[u8; 128],
-    first: &[u16; 512],
-    next: &[u16; 512],
+    rows: &Rows,
+    ends: &Ends,
+    first: &ActionHeads,
+    next: &ActionLinks,
     run: Run,
     masks: &[u32],
 ) -> Played
@@ -225,10 +237,10 @@ fn play_further(
 fn play_from_first(
     s: &[u8],
     shape: Shape,
-    rows: &[[u16; 16]; 128],
-    ends: &[u8; 128],
-    first: &[u16; 512],
-    next: &[u16; 512],
+    rows: &Rows,
+    ends: &Ends,
+    first: &ActionHeads,
+    next: &ActionLinks,
     run: Run,
     masks: &[u32],
 ) -> Played
@@ -268,10 +280,10 @@ fn play_from_first(
 fn play_with_tables(
     s: &[u8],
     shape: Shape,
-    rows: &[[u16; 16]; 128],
-    ends: &[u8; 128],
-    first: &[u16; 512],
-    next: &[u16; 512],
+    rows: &Rows,
+    ends: &Ends,
+    first: &ActionHeads,
+    next: &ActionLinks,
     run: Run,
     masks: &[u32],
 ) -> Played
@@ -298,11 +310,11 @@ pub fn play_in_place(s: &[u8], shape: Shape, run: Run, masks: &[u32]) -> Played
     requires { ⌜ Accepted (now s) shape ⌝ }
     ensures { λ r. ⌜ playedOf r ≡ settled (runOf run) (playing (machine (readCharts (now (s .entry)))) (now (masks .entry)) (runOf run)) ⌝ }
 {
-    let empty = [256u16; 16];
-    let mut rows = [empty; 128];
-    let mut ends = [0u8; 128];
-    let mut first = [65535u16; 512];
-    let mut next = [65535u16; 512];
+    let empty = [256u16; PRIORITIES];
+    let mut rows = [empty; STATES];
+    let mut ends = [0u8; STATES];
+    let mut first = [65535u16; ACTION_KEYS];
+    let mut next = [65535u16; ACTIONS];
     fill_rows(s, shape, &mut rows, &mut ends);
     fill_actions(s, shape, &mut first, &mut next);
     play_with_tables(s, shape, &rows, &ends, &first, &next, run, masks)

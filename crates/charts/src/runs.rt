@@ -3,7 +3,7 @@ ghost use mathlib.Core.Path.{_≡_};
 ghost use Prim.Native.Nat.{ℕ, _≤_, _<_};
 ghost use lib.Dec.{leb};
 ghost use lib.ListN.{length, getD};
-ghost use Rattle.records.specs.Lists.{all, upto, mapFrom};
+ghost use Rattle.prelude.specs.Lists.{all, upto, mapFrom};
 ghost use Rattle.model.specs.Runs.{start as started, possible, checked, give as model-give, timePassed, restZero};
 ghost use Rattle.model.specs.ChartSet.{ChartSet, readCharts};
 ghost use Rattle.model.specs.Charts.{charts as machine};
@@ -18,20 +18,24 @@ use machines::checks::events_given;
 use machines::checks::initial_places;
 use machines::checks::shared_possible;
 use machines::values::start_values;
+use records::sizes::Ages;
+use records::sizes::CHARTS;
+use records::sizes::Places;
+use records::sizes::Variables;
 
 // A run: of each chart its present state and that state's age, the variables, the events present, the position in the cycle, the cycles done.
 #[repr(C)]
 pub struct Run {
-    pub states: [u16; 8],
-    pub ages: [u32; 8],
-    pub variables: [i16; 64],
+    pub states: Places,
+    pub ages: Ages,
+    pub variables: Variables,
     pub events: u32,
     pub position: u32,
     pub cycles: u32,
 }
 
 // No age is over the count of cycles.
-fn ages_possible(charts: u16, ages: [u32; 8], cycles: u32) -> bool
+fn ages_possible(charts: u16, ages: Ages, cycles: u32) -> bool
     requires { ⌜ charts ≤ 8 ⌝ }
     ensures { λ r. ⌜ r ≡ all (λ k. leb (getD ages k 0) cycles) (upto charts) ⌝ }
 {
@@ -46,11 +50,11 @@ fn ages_possible(charts: u16, ages: [u32; 8], cycles: u32) -> bool
     true
 }
 
-fn ages_unused(charts: u16, ages: [u32; 8]) -> bool
+fn ages_unused(charts: u16, ages: Ages) -> bool
     ensures { λ r. ⌜ r ≡ restZero charts ages ⌝ }
 {
     let mut k = charts as usize;
-    while k < 8 {
+    while k < CHARTS {
         if ages[k] != 0 {
             return false;
         }
@@ -65,7 +69,7 @@ pub fn start(s: &[u8], shape: Shape) -> Run
     ensures { λ r. ⌜ runOf r ≡ started (machine (readCharts (now (s .entry)))) ⌝ }
 {
     let states = initial_places(s, shape.charts);
-    let ages = [0u32; 8];
+    let ages = [0u32; CHARTS];
     let values = values_of(shape);
     let variables = start_values(s, values);
     Run {
@@ -119,7 +123,7 @@ pub fn give(mut run: Run, events: u32) -> Run
 }
 
 // In place: a copy of the ages would be read back wider than it was written.
-pub fn grow_ages(charts: u16, ages: &mut [u32; 8])
+pub fn grow_ages(charts: u16, ages: &mut Ages)
     requires { ⌜ charts ≤ 8 ⌝ }
     requires { ⌜ ((k : ℕ) → k < charts → getD (now ages) k 0 < 4294967295) ⌝ }
     ensures { λ _. ⌜ now (ages .exit) ≡ mapFrom 0 (aged charts) (now (ages .entry)) ⌝ }
@@ -149,12 +153,7 @@ pub fn time_passed(charts: u16, mut run: Run) -> Run
 }
 
 // The run of these places between two cycles.
-pub fn run_between_cycles(
-    states: [u16; 8],
-    ages: [u32; 8],
-    variables: [i16; 64],
-    cycles: u32,
-) -> Run
+pub fn run_between_cycles(states: Places, ages: Ages, variables: Variables, cycles: u32) -> Run
     ensures { λ r. ⌜ runOf r ≡ runIn states ages variables 0 1 cycles ⌝ }
 {
     Run {

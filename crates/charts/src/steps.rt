@@ -20,9 +20,18 @@ use super::transitions::target_of;
 use chart_files::Shape;
 use expressions::arithmetic::Truth;
 use machines::deeds::fault_code;
+use records::sizes::ActionHeads;
+use records::sizes::ActionLinks;
+use records::sizes::Ages;
+use records::sizes::CROSSING_KEYS;
+use records::sizes::EXIT_KEYS;
+use records::sizes::Ends;
+use records::sizes::Places;
+use records::sizes::Rows;
+use records::sizes::Variables;
 
 // A place of a row that names none does not hold.
-fn slot_holds(s: &[u8], shape: Shape, vars: &[i16; 64], events: u32, age: u32, t: u16) -> Truth
+fn slot_holds(s: &[u8], shape: Shape, vars: &Variables, events: u32, age: u32, t: u16) -> Truth
     requires { ⌜ Accepted (now s) shape × ((t ≡ 65535 → ⊥) → t < shape .transitions) ⌝ }
     ensures { λ r. ⌜ truthOf r ≡ slotHolds (transitionHolds (readCharts (now (s .entry))) (bareWorld (now (vars .entry)) events) age) t ⌝ }
 {
@@ -37,9 +46,9 @@ fn slot_holds(s: &[u8], shape: Shape, vars: &[i16; 64], events: u32, age: u32, t
 fn first_that(
     s: &[u8],
     shape: Shape,
-    rows: &[[u16; 16]; 128],
-    ends: &[u8; 128],
-    vars: &[i16; 64],
+    rows: &Rows,
+    ends: &Ends,
+    vars: &Variables,
     events: u32,
     age: u32,
     state: u16,
@@ -72,17 +81,17 @@ fn first_that(
 fn do_actions(
     s: &[u8],
     shape: Shape,
-    first: &[u16; 512],
-    next: &[u16; 512],
+    first: &ActionHeads,
+    next: &ActionLinks,
     t: u16,
-    vars: &mut [i16; 64],
+    vars: &mut Variables,
     events: u32,
 ) -> u64
     requires { ⌜ Accepted (now s) shape × HasActions (now s) shape (now first) (now next) × (t < shape .transitions) ⌝ }
     ensures { λ r. ⌜ ((p c : ℕ) → worldBy r (now (vars .exit)) p c ≡ acted (readCharts (now (s .entry))) t (worldIn (now (vars .entry)) events p c)) × IsCode r ⌝ }
 {
-    let leaving = 128 + source_of(s, shape, t);
-    let crossing = 256 + t;
+    let leaving = EXIT_KEYS + source_of(s, shape, t);
+    let crossing = CROSSING_KEYS + t;
     let entering = target_of(s, shape, t);
     do_deeds(
         s,
@@ -101,13 +110,13 @@ fn do_actions(
 fn follow(
     s: &[u8],
     shape: Shape,
-    first: &[u16; 512],
-    next: &[u16; 512],
+    first: &ActionHeads,
+    next: &ActionLinks,
     chart: u16,
     t: u16,
-    states: &mut [u16; 8],
-    ages: &mut [u32; 8],
-    vars: &mut [i16; 64],
+    states: &mut Places,
+    ages: &mut Ages,
+    vars: &mut Variables,
     events: u32,
 ) -> u64
     requires { ⌜ Accepted (now s) shape × HasActions (now s) shape (now first) (now next) × (chart < 8) × (t < shape .transitions) ⌝ }
@@ -127,14 +136,14 @@ fn follow(
 fn step_in_place(
     s: &[u8],
     shape: Shape,
-    rows: &[[u16; 16]; 128],
-    ends: &[u8; 128],
-    first: &[u16; 512],
-    next: &[u16; 512],
+    rows: &Rows,
+    ends: &Ends,
+    first: &ActionHeads,
+    next: &ActionLinks,
     chart: u16,
-    states: &mut [u16; 8],
-    ages: &mut [u32; 8],
-    vars: &mut [i16; 64],
+    states: &mut Places,
+    ages: &mut Ages,
+    vars: &mut Variables,
     events: u32,
     chosen: &mut u16,
 ) -> u64
@@ -170,15 +179,15 @@ fn step_in_place(
 pub fn turns_in_place(
     s: &[u8],
     shape: Shape,
-    rows: &[[u16; 16]; 128],
-    ends: &[u8; 128],
-    first: &[u16; 512],
-    next: &[u16; 512],
+    rows: &Rows,
+    ends: &Ends,
+    first: &ActionHeads,
+    next: &ActionLinks,
     from: u16,
     to: u16,
-    states: &mut [u16; 8],
-    ages: &mut [u32; 8],
-    vars: &mut [i16; 64],
+    states: &mut Places,
+    ages: &mut Ages,
+    vars: &mut Variables,
     events: u32,
     chosen: &mut u16,
 ) -> u64

@@ -9,6 +9,10 @@ use super::actions::key_of;
 use super::transitions::source_of;
 use chart_files::Shape;
 use chart_files::fields::priority_of;
+use records::sizes::ActionHeads;
+use records::sizes::ActionLinks;
+use records::sizes::Ends;
+use records::sizes::Rows;
 
 fn higher(a: u8, b: u8) -> u8
     ensures { λ r. ⌜ r ≡ max a b ⌝ }
@@ -17,7 +21,7 @@ fn higher(a: u8, b: u8) -> u8
 }
 
 // Of each state its leaving transitions, by priority, in rows of none, which is 256: a number of two unlike bytes is put by plain stores, and one of two like bytes by one instruction repeated for each byte. And the highest priority of each.
-pub fn fill_rows(s: &[u8], shape: Shape, rows: &mut [[u16; 16]; 128], ends: &mut [u8; 128])
+pub fn fill_rows(s: &[u8], shape: Shape, rows: &mut Rows, ends: &mut Ends)
     requires { ⌜ Accepted (now s) shape × (now rows ≡ replicate 128 (replicate 16 256)) × (now ends ≡ replicate 128 0) ⌝ }
     ensures { λ _. ⌜ HasRows (readCharts (now (s .entry))) (now (rows .exit)) × HasEnds (readCharts (now (s .entry))) (now (rows .exit)) (now (ends .exit)) ⌝ }
 {
@@ -33,7 +37,7 @@ pub fn fill_rows(s: &[u8], shape: Shape, rows: &mut [[u16; 16]; 128], ends: &mut
 }
 
 // The transition at a place of a state's row; 65535 is none.
-pub fn slot_of(s: &[u8], shape: Shape, rows: &[[u16; 16]; 128], state: u16, place: usize) -> u16
+pub fn slot_of(s: &[u8], shape: Shape, rows: &Rows, state: u16, place: usize) -> u16
     requires { ⌜ Accepted (now s) shape × HasRows (readCharts (now s)) (now rows) × (state < shape .states) × (place < 16) ⌝ }
     ensures { λ r. ⌜ r ≡ slotAt (readCharts (now (s .entry))) state (place + 1) ⌝ }
 {
@@ -43,7 +47,7 @@ pub fn slot_of(s: &[u8], shape: Shape, rows: &[[u16; 16]; 128], state: u16, plac
 }
 
 // From the last action down, so that each finds the one behind it.
-pub fn fill_actions(s: &[u8], shape: Shape, first: &mut [u16; 512], next: &mut [u16; 512])
+pub fn fill_actions(s: &[u8], shape: Shape, first: &mut ActionHeads, next: &mut ActionLinks)
     requires { ⌜ Accepted (now s) shape × (now first ≡ replicate 512 65535) × (now next ≡ replicate 512 65535) ⌝ }
     ensures { λ _. ⌜ HasActions (now (s .entry)) shape (now (first .exit)) (now (next .exit)) × (drop (shape .actions) (now (next .exit)) ≡ drop (shape .actions) (now (next .entry))) ⌝ }
 {

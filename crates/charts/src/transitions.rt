@@ -13,6 +13,7 @@ use chart_files::Shape;
 use chart_files::fields::first_transition;
 use expressions::arithmetic::Truth;
 use machines::values::guard_holds;
+use records::sizes::Variables;
 use records::u16_within;
 
 pub fn source_of(s: &[u8], shape: Shape, t: u16) -> u16
@@ -30,7 +31,7 @@ pub fn target_of(s: &[u8], shape: Shape, t: u16) -> u16
 }
 
 // The trigger first, then the guard only if the trigger holds.
-pub fn holds(s: &[u8], shape: Shape, vars: &[i16; 64], events: u32, age: u32, t: u16) -> Truth
+pub fn holds(s: &[u8], shape: Shape, vars: &Variables, events: u32, age: u32, t: u16) -> Truth
     requires { ⌜ Accepted (now s) shape × (t < shape .transitions) ⌝ }
     ensures { λ r. ⌜ truthOf r ≡ transitionHolds (readCharts (now (s .entry))) (bareWorld (now (vars .entry)) events) age t ⌝ }
 {

@@ -2,26 +2,14 @@
 ghost use mathlib.Core.Path.{_≡_};
 ghost use Prim.Native.Nat.{_+_, _*_, _<_};
 ghost use lib.ListN.{length};
-ghost use Rattle.model.specs.Charts.{ticks, everyHolds, triggered};
+ghost use Rattle.model.specs.Charts.{triggered};
 ghost use Rattle.chart_files.specs.Places.{triggerIn};
 ghost use Rattle.charts.specs.Replies.{Holdable};
 use machines::deeds::present;
 use records::u32_within;
-
-// A tick is 100 milliseconds, to the nearest, halves up.
-pub fn ticks(ms: u32) -> u64
-    ensures { λ r. ⌜ r ≡ ticks ms ⌝ }
-{
-    ((ms as u64) + 50) / 100
-}
-
-// At the positive multiples of d.
-fn every_holds(d: u64, age: u32) -> bool
-    requires { ⌜ 0 < d ⌝ }
-    ensures { λ r. ⌜ r ≡ everyHolds d age ⌝ }
-{
-    (0 < age) & ((age as u64) % d == 0)
-}
+use timings::after_holds;
+use timings::every_holds;
+use timings::ticks;
 
 // Of the transition that is record n.
 pub fn triggered(s: &[u8], n: usize, age: u32, events: u32) -> bool
@@ -31,7 +19,7 @@ pub fn triggered(s: &[u8], n: usize, age: u32, events: u32) -> bool
     let at = 16 * n;
     match s[at + 6] {
         1 => present(s[at + 7], events),
-        2 => (age as u64) == ticks(u32_within(s, at + 8)),
+        2 => after_holds(ticks(u32_within(s, at + 8)), age),
         3 => every_holds(ticks(u32_within(s, at + 8)), age),
         _ => true,
     }

@@ -22,6 +22,17 @@ use chart_files::Shape;
 use machines::answers::Answer;
 use machines::checks::Before;
 use machines::deeds::reason_by;
+use records::sizes::ACTION_KEYS;
+use records::sizes::ACTIONS;
+use records::sizes::ActionHeads;
+use records::sizes::ActionLinks;
+use records::sizes::Ages;
+use records::sizes::Ends;
+use records::sizes::PRIORITIES;
+use records::sizes::Places;
+use records::sizes::Rows;
+use records::sizes::STATES;
+use records::sizes::Variables;
 
 // A turn's answer, and the run after it.
 pub struct Turned {
@@ -42,9 +53,9 @@ fn answer_by(chosen: u16) -> Answer
 // A chart's turn from the places after it, and the next position. Where it faults the run is the one that was given.
 fn chart_turned(
     lent: Run,
-    states: [u16; 8],
-    ages: [u32; 8],
-    variables: [i16; 64],
+    states: Places,
+    ages: Ages,
+    variables: Variables,
     after: u64,
     chosen: u16,
     position: u32,
@@ -76,10 +87,10 @@ fn chart_turned(
 fn chart_turn(
     s: &[u8],
     shape: Shape,
-    rows: &[[u16; 16]; 128],
-    ends: &[u8; 128],
-    first: &[u16; 512],
-    next: &[u16; 512],
+    rows: &Rows,
+    ends: &Ends,
+    first: &ActionHeads,
+    next: &ActionLinks,
     lent: Run,
     run: Run,
 ) -> Turned
@@ -124,10 +135,10 @@ fn chart_turn(
 fn turn_taken(
     s: &[u8],
     shape: Shape,
-    rows: &[[u16; 16]; 128],
-    ends: &[u8; 128],
-    first: &[u16; 512],
-    next: &[u16; 512],
+    rows: &Rows,
+    ends: &Ends,
+    first: &ActionHeads,
+    next: &ActionLinks,
     lent: Run,
     run: Run,
 ) -> Turned
@@ -150,10 +161,10 @@ fn turn_taken(
 pub fn turn(
     s: &[u8],
     shape: Shape,
-    rows: &[[u16; 16]; 128],
-    ends: &[u8; 128],
-    first: &[u16; 512],
-    next: &[u16; 512],
+    rows: &Rows,
+    ends: &Ends,
+    first: &ActionHeads,
+    next: &ActionLinks,
     run: Run,
     events: u32,
 ) -> Turned
@@ -177,11 +188,11 @@ pub fn one_turn(s: &[u8], shape: Shape, run: Run, events: u32) -> Turned
     requires { ⌜ Accepted (now s) shape ⌝ }
     ensures { λ r. ⌜ turnOf r ≡ settled (runOf run) (model-turn (machine (readCharts (now (s .entry)))) events (runOf run)) ⌝ }
 {
-    let empty = [256u16; 16];
-    let mut rows = [empty; 128];
-    let mut ends = [0u8; 128];
-    let mut first = [65535u16; 512];
-    let mut next = [65535u16; 512];
+    let empty = [256u16; PRIORITIES];
+    let mut rows = [empty; STATES];
+    let mut ends = [0u8; STATES];
+    let mut first = [65535u16; ACTION_KEYS];
+    let mut next = [65535u16; ACTIONS];
     fill_rows(s, shape, &mut rows, &mut ends);
     fill_actions(s, shape, &mut first, &mut next);
     turn(s, shape, &rows, &ends, &first, &next, run, events)

@@ -8,6 +8,7 @@ use messages::input::read_file;
 use messages::texts::set_into;
 use messages::texts::table_into;
 use messages::words::print;
+use records::sizes::FILE_ROOM;
 use refusals::tell_set;
 use refusals::tell_table;
 
@@ -46,7 +47,7 @@ fn check_bytes(s: &[u8]) {
 }
 
 fn check_named(name: &[u8]) {
-    let mut file = [0u8; 262144];
+    let mut file = [0u8; FILE_ROOM];
     let got = read_file(name, &mut file, Form::Either);
     if got.failed {
         return;

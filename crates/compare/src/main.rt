@@ -14,6 +14,8 @@ use messages::input::arguments;
 use messages::input::fill;
 use messages::input::read_file;
 use messages::words::tell_refusal;
+use records::sizes::FILE_ROOM;
+use records::sizes::LONGEST_TABLE;
 use twins::Verdict;
 
 // Whether they were alike: what was compared, and how many calls were made.
@@ -42,7 +44,7 @@ fn tell(what: &[u8], verdict: Verdict) -> bool {
 
 // Of kinds, 0 is a turn; past their end calls are cycles.
 fn compare_masks(s: &[u8], masks: &[u32]) {
-    let mut twin = [0u8; 232576];
+    let mut twin = [0u8; LONGEST_TABLE];
     let kinds = [0u8; 65536];
     let cycles = twins::compare(s, b"", masks, &mut twin);
     let by_cycles = cycles.verdict;
@@ -95,7 +97,7 @@ fn compare_file(s: &[u8]) {
 }
 
 fn compare_named(name: &[u8]) {
-    let mut file = [0u8; 262144];
+    let mut file = [0u8; FILE_ROOM];
     let got = read_file(name, &mut file, Form::Set);
     if got.failed {
         return;

@@ -14,6 +14,7 @@ use expressions::arithmetic::Number;
 use expressions::arithmetic::Reason;
 use expressions::arithmetic::Truth;
 use records::Framing;
+use records::sizes::Variables;
 
 fn reason_code(w: Reason) -> i64
     ensures { λ r. ⌜ r ≡ reasonCode (valueReasonOf w) ⌝ }
@@ -25,7 +26,7 @@ fn reason_code(w: Reason) -> i64
 }
 
 #[no_mangle]
-pub extern "C" fn expression_truth(nodes: &[u8], vars: &[i16; 64], n: u16) -> i64
+pub extern "C" fn expression_truth(nodes: &[u8], vars: &Variables, n: u16) -> i64
     ensures { λ r. ⌜ r ≡ truthCode (truth (nodeAt (now (nodes .entry))) (now (vars .entry)) n) ⌝ }
 {
     match expressions::values::truth_of(nodes, vars, n) {
@@ -35,7 +36,7 @@ pub extern "C" fn expression_truth(nodes: &[u8], vars: &[i16; 64], n: u16) -> i6
 }
 
 #[no_mangle]
-pub extern "C" fn expression_number(nodes: &[u8], vars: &[i16; 64], n: u16) -> i64
+pub extern "C" fn expression_number(nodes: &[u8], vars: &Variables, n: u16) -> i64
     ensures { λ r. ⌜ r ≡ numberCode (number (nodeAt (now (nodes .entry))) (now (vars .entry)) n) ⌝ }
 {
     match expressions::values::number_of(nodes, vars, n) {

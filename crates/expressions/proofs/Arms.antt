@@ -7,7 +7,7 @@ use lib.Dec.{eqb}
 use lib.ListN.{getD}
 use lib.IntN.{ℤ, pos}
 use Rattle.records.specs.Refusal.{Out, val, choose}
-use Rattle.records.specs.Lists.{caseOf}
+use Rattle.prelude.specs.Lists.{caseOf}
 use Rattle.records.specs.Bytes.{byte, two, four±}
 use Rattle.expressions.specs.Nodes.{Node, nodeBy, nodeAt}
 use Rattle.expressions.specs.Values.{numberBy, truthBy, number, truth}

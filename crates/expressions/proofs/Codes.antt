@@ -7,7 +7,7 @@ use native.Mathlib.Omega.{arith}
 use borrow.Author.Tests.{leb-true, ltb-true, ltb-false, eqb-true, eqb-false}
 use lib.Dec.{T, leb, ltb, eqb}
 use lib.IntN.{ℤ, pos}
-use Rattle.records.specs.Lists.{caseOf}
+use Rattle.prelude.specs.Lists.{caseOf}
 use Rattle.records.specs.Refusal.{Out, val}
 use Rattle.expressions.specs.Nodes.{Node, constant, variable, arithmetic, choice, comparison, negation, both, either, unknown, sum, difference, product, quotient, remainder, equal, less, at-most, nodeBy}
 use Rattle.expressions.specs.Values.{numberBy, truthBy}

@@ -1,7 +1,7 @@
 -- Records of nodes, for examples. A negative constant is given by its code, as 0xffff_ffff for −1. Assumes nothing.
 use mathlib.Core.List.{List, _∷_, _++_}
 use Prim.Native.Nat.{ℕ}
-use Rattle.records.specs.Lists.{padded}
+use Rattle.prelude.specs.Lists.{padded}
 use Rattle.records.specs.Bytes.{bytes2, bytes4}
 
 -- a record: the bytes given, then zeros

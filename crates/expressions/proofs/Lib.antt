@@ -5,7 +5,6 @@ pub mod Depth
 pub mod Codes
 pub mod Fields
 pub mod Arms
-pub mod Loops
 pub mod Uses
 pub mod Verdicts
 pub mod ExampleNodes

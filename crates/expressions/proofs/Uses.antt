@@ -8,10 +8,10 @@ use borrow.Author.Tests.{eqb-true, eqb-false, ne-eqb, lt-leb}
 use lib.Dec.{eqb, leb}
 use lib.ListN.{length, getD, replicate, length-set, length-map, length-replicate, getD-replicate}
 use lib.Seq.{getD-set-same, getD-set-other, ext-getD}
-use Rattle.records.specs.Lists.{count, gather, from, upto}
+use Rattle.prelude.specs.Lists.{count, gather, from, upto}
 use Rattle.expressions.specs.Nodes.{Node}
 use Rattle.expressions.specs.Uses.{addUse, addUses, allOperands, operandNumbers}
-use Rattle.expressions.proofs.Loops.{left-more, left-none}
+use Rattle.prelude.proofs.Loops.{left-more, left-none}
 
 pub adds-append : (u xs ys : List ℕ) → addUses u (xs ++ ys) ≡ addUses (addUses u xs) ys
 unfolding addUses

@@ -3,7 +3,7 @@ use mathlib.Core.Path.{_≡_}
 use mathlib.Core.List.{List, [], _∷_}
 use Prim.Native.Nat.{ℕ, _+_, _*_}
 use lib.IntN.{ℤ}
-use Rattle.records.specs.Lists.{caseOf}
+use Rattle.prelude.specs.Lists.{caseOf}
 use Rattle.records.specs.Bytes.{byte, two}
 use Rattle.expressions.specs.Nodes.{Node, nodeBy, Arithmetic, sum, difference, product, quotient, remainder, Comparison, equal, less, at-most}
 use Rattle.expressions.specs.declared.nodes.Fields.{Fields}

@@ -3,7 +3,7 @@ use mathlib.Core.List.{List, [], _∷_, _++_}
 use Prim.Native.Nat.{ℕ, _*_}
 use lib.ListN.{getD, drop}
 use lib.IntN.{ℤ, pos}
-use Rattle.records.specs.Lists.{caseOf, Lists}
+use Rattle.prelude.specs.Lists.{caseOf, Lists}
 use Rattle.records.specs.Bytes.{byte, two, four±, bytes2, bytes4±}
 
 pub data Arithmetic : Type 0 where

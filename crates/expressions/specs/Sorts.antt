@@ -3,7 +3,7 @@ use mathlib.Core.Bool.{Bool, true, false, _&&_}
 use mathlib.Core.List.{List, [], _∷_, map}
 use Prim.Native.Nat.{ℕ}
 use lib.Dec.{ltb, eqb}
-use Rattle.records.specs.Lists.{all, count, gather, upto, Lists}
+use Rattle.prelude.specs.Lists.{all, count, gather, upto, Lists}
 use Rattle.expressions.specs.Nodes.{Node, constant, variable, arithmetic, choice, comparison, negation, both, either, unknown}
 
 pub data Sort : Type 0 where

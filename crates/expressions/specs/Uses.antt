@@ -2,7 +2,7 @@
 use mathlib.Core.List.{List, [], _∷_, map}
 use Prim.Native.Nat.{ℕ, _+_, min}
 use lib.ListN.{getD, set}
-use Rattle.records.specs.Lists.{gather, upto}
+use Rattle.prelude.specs.Lists.{gather, upto}
 use Rattle.expressions.specs.Nodes.{Node}
 use Rattle.expressions.specs.Sorts.{operands}
 

@@ -4,7 +4,7 @@ ghost use mathlib.Core.List.{map};
 ghost use Prim.Native.Nat.{_+_, min};
 ghost use lib.Dec.{ltb};
 ghost use lib.IntN.{ℤ};
-ghost use Rattle.records.specs.Lists.{all};
+ghost use Rattle.prelude.specs.Lists.{all};
 ghost use Rattle.expressions.specs.Nodes.{nodeAt};
 ghost use Rattle.expressions.specs.Sorts.{sortOf, isNumber, isTruth, sameSort, operands, variablesOf, nodesNamed, operandFits, operandsFit};
 ghost use Rattle.expressions.specs.Verdicts.{verdict, verdictOf, saysNamed, saysFit};

@@ -26,6 +26,7 @@ use super::arithmetic::wide;
 use super::nodes::fields_at;
 use records::i32_at;
 use records::i32_within;
+use records::sizes::Variables;
 use records::u16_within;
 
 fn variable(vars: &[i16], v: u16) -> i64
@@ -67,7 +68,7 @@ fn picked(first: bool, a: u16, b: u16) -> u16
 }
 
 // Operand a of node n; one that is not lower counts as 0. A leaf is read here, without a call.
-fn operand_number(nodes: &[u8], vars: &[i16; 64], n: u16, a: u16) -> i64
+fn operand_number(nodes: &[u8], vars: &Variables, n: u16, a: u16) -> i64
     ensures { λ r. ⌜ StandsFor r (operandNumber (nodeAt (now (nodes .entry))) (now (vars .entry)) n a) ⌝ }
 {
     if n <= a {
@@ -86,7 +87,7 @@ fn operand_number(nodes: &[u8], vars: &[i16; 64], n: u16, a: u16) -> i64
     number_outcome(nodes, vars, a)
 }
 
-fn operand_truth(nodes: &[u8], vars: &[i16; 64], n: u16, a: u16) -> u8
+fn operand_truth(nodes: &[u8], vars: &Variables, n: u16, a: u16) -> u8
     ensures { λ r. ⌜ TruthStandsFor r (operandTruth (nodeAt (now (nodes .entry))) (now (vars .entry)) n a) ⌝ }
 {
     if a < n {
@@ -97,7 +98,7 @@ fn operand_truth(nodes: &[u8], vars: &[i16; 64], n: u16, a: u16) -> u8
 }
 
 // Operands a and b of node n, left to right: the first fault ends it.
-fn computed(nodes: &[u8], vars: &[i16; 64], n: u16, code: u8, a: u16, b: u16) -> i64
+fn computed(nodes: &[u8], vars: &Variables, n: u16, code: u8, a: u16, b: u16) -> i64
     ensures { λ r. ⌜ StandsFor r (computeOperands (nodeAt (now (nodes .entry))) (now (vars .entry)) (arithmeticOf code) n a b) ⌝ }
 {
     let x = operand_number(nodes, vars, n, a);
@@ -111,7 +112,7 @@ fn computed(nodes: &[u8], vars: &[i16; 64], n: u16, code: u8, a: u16, b: u16) ->
     compute(code, x, y)
 }
 
-fn compared(nodes: &[u8], vars: &[i16; 64], n: u16, code: u8, a: u16, b: u16) -> u8
+fn compared(nodes: &[u8], vars: &Variables, n: u16, code: u8, a: u16, b: u16) -> u8
     ensures { λ r. ⌜ TruthStandsFor r (compareOperands (nodeAt (now (nodes .entry))) (now (vars .entry)) (comparisonOf code) n a b) ⌝ }
 {
     let x = operand_number(nodes, vars, n, a);
@@ -126,7 +127,7 @@ fn compared(nodes: &[u8], vars: &[i16; 64], n: u16, code: u8, a: u16, b: u16) ->
 }
 
 // The truth of operand t of node n picks operand a or b.
-fn chosen(nodes: &[u8], vars: &[i16; 64], n: u16, t: u16, a: u16, b: u16) -> i64
+fn chosen(nodes: &[u8], vars: &Variables, n: u16, t: u16, a: u16, b: u16) -> i64
     ensures { λ r. ⌜ StandsFor r (choose (operandTruth (nodeAt (now (nodes .entry))) (now (vars .entry)) n t) (operandNumber (nodeAt (now (nodes .entry))) (now (vars .entry)) n a) (operandNumber (nodeAt (now (nodes .entry))) (now (vars .entry)) n b)) ⌝ }
 {
     let first = operand_truth(nodes, vars, n, t);
@@ -137,7 +138,7 @@ fn chosen(nodes: &[u8], vars: &[i16; 64], n: u16, t: u16, a: u16, b: u16) -> i64
 }
 
 // Operand a of node n where it is a fault or the truth that decides, else operand b.
-fn decided(nodes: &[u8], vars: &[i16; 64], n: u16, a: u16, b: u16, decides: bool) -> u8
+fn decided(nodes: &[u8], vars: &Variables, n: u16, a: u16, b: u16, decides: bool) -> u8
     ensures { λ r. ⌜ TruthStandsFor r (decide decides (operandTruth (nodeAt (now (nodes .entry))) (now (vars .entry)) n a) (operandTruth (nodeAt (now (nodes .entry))) (now (vars .entry)) n b)) ⌝ }
 {
     let t = operand_truth(nodes, vars, n, a);
@@ -149,7 +150,7 @@ fn decided(nodes: &[u8], vars: &[i16; 64], n: u16, a: u16, b: u16, decides: bool
 }
 
 // By the code: 1 a constant, 2 a variable, 3 to 7 two numbers, 8 a choice.
-fn number_outcome(nodes: &[u8], vars: &[i16; 64], n: u16) -> i64
+fn number_outcome(nodes: &[u8], vars: &Variables, n: u16) -> i64
     ensures { λ r. ⌜ StandsFor r (number (nodeAt (now (nodes .entry))) (now (vars .entry)) n) ⌝ }
 {
     let f = fields_at(nodes, n);
@@ -173,7 +174,7 @@ fn number_outcome(nodes: &[u8], vars: &[i16; 64], n: u16) -> i64
 }
 
 // By the code: 16 to 18 two numbers compared, 19 not, 20 and, 21 or.
-fn truth_outcome(nodes: &[u8], vars: &[i16; 64], n: u16) -> u8
+fn truth_outcome(nodes: &[u8], vars: &Variables, n: u16) -> u8
     ensures { λ r. ⌜ TruthStandsFor r (truth (nodeAt (now (nodes .entry))) (now (vars .entry)) n) ⌝ }
 {
     let f = fields_at(nodes, n);
@@ -203,7 +204,7 @@ fn reason(range: bool) -> Reason
     }
 }
 
-pub fn number_of(nodes: &[u8], vars: &[i16; 64], n: u16) -> Number
+pub fn number_of(nodes: &[u8], vars: &Variables, n: u16) -> Number
     ensures { λ r. ⌜ numberOf r ≡ number (nodeAt (now (nodes .entry))) (now (vars .entry)) n ⌝ }
 {
     let z = number_outcome(nodes, vars, n);
@@ -214,7 +215,7 @@ pub fn number_of(nodes: &[u8], vars: &[i16; 64], n: u16) -> Number
     }
 }
 
-pub fn truth_of(nodes: &[u8], vars: &[i16; 64], n: u16) -> Truth
+pub fn truth_of(nodes: &[u8], vars: &Variables, n: u16) -> Truth
     ensures { λ r. ⌜ truthOf r ≡ truth (nodeAt (now (nodes .entry))) (now (vars .entry)) n ⌝ }
 {
     let t = truth_outcome(nodes, vars, n);

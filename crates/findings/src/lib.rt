@@ -32,8 +32,8 @@ fn ticking(t: Trigger) -> bool
     match t {
         Trigger::Always => true,
         Trigger::Event(_) => true,
-        Trigger::After(ms) => 0 < ((ms as u64) + 50) / 100,
-        Trigger::Every(ms) => 0 < ((ms as u64) + 50) / 100,
+        Trigger::After(ms) => 0 < timings::ticks(ms),
+        Trigger::Every(ms) => 0 < timings::ticks(ms),
     }
 }
 

@@ -15,6 +15,7 @@ use messages::texts::row_into;
 use messages::words::print;
 use messages::words::tell_refusal;
 use paths::Led;
+use records::sizes::FILE_ROOM;
 
 // Whether it was written.
 fn print_row(cycle: u32, chart: u32, transition: u32) -> bool {
@@ -107,7 +108,7 @@ fn lead_file(s: &[u8], name: &[u8]) {
 }
 
 fn lead_named(set: &[u8], path: &[u8]) {
-    let mut file = [0u8; 262144];
+    let mut file = [0u8; FILE_ROOM];
     let got = read_file(set, &mut file, Form::Set);
     if got.failed {
         return;

@@ -8,12 +8,12 @@ use lib.ListN.{length, getD, take, length-append}
 use lib.Seq.{take-suc}
 use lib.IntN.{ℤ, pos}
 use lib.Signed.{mag}
-use Rattle.records.specs.Lists.{gather}
+use Rattle.prelude.specs.Lists.{gather}
 use Rattle.model.specs.ChartSet.{ChartSet}
 use Rattle.model.specs.Runs.{Run, Machine, Answer, taken, idle, time, Trace, done, stopped, turned}
 use Rattle.model.specs.Charts.{charts}
 use Rattle.model.specs.Replay.{decimal, signedDecimal, chosen, space, feed, turnLines, traceLines}
-use Rattle.model.proofs.ListLaws.{gather-append}
+use Rattle.prelude.proofs.Lists.{gather-append}
 use Rattle.lines.specs.Text.{chosenOf, variablesText, lineText, lineIn, turnText, traceText}
 use Rattle.lines.specs.declared.Chosen.{Chosen}
 use Rattle.lines.specs.declared.Chosen.the-variants.{Taken, Idle}

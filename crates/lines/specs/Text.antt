@@ -3,7 +3,7 @@ use mathlib.Core.List.{List, [], _∷_, _++_}
 use Prim.Native.Nat.{ℕ, _-_}
 use lib.ListN.{length, getD, take}
 use lib.IntN.{ℤ}
-use Rattle.records.specs.Lists.{gather}
+use Rattle.prelude.specs.Lists.{gather}
 use Rattle.model.specs.Runs.{Run, Machine, Answer, taken, idle, time, Trace, done, stopped, turned}
 use Rattle.model.specs.Replay.{decimal, signedDecimal, chosen, space, feed}
 use Rattle.lines.specs.declared.Chosen.{Chosen}

@@ -10,11 +10,12 @@ use borrow.Author.Tests.{eq-eqb, eqb-true, eqb-false}
 use lib.Dec.{eqb}
 use lib.ListN.{length, getD, take, set, replicate, length-set, length-take, getD-replicate}
 use lib.Seq.{take-suc, getD-set-same, getD-set-other}
-use Rattle.records.specs.Lists.{keep, count}
+use Rattle.prelude.specs.Lists.{keep, count}
 use Rattle.records.specs.Bytes.{byte, records, kind, ofKind}
 use Rattle.records.proofs.Records.{recordAt, getD-records, length-records}
-use Rattle.records.proofs.FramingLaws.{count-le, kind-record}
-use Rattle.chart_files.proofs.NumberLaws.{count-append}
+use Rattle.prelude.proofs.Counts.{count-le}
+use Rattle.records.proofs.FramingLaws.{kind-record}
+use Rattle.prelude.proofs.Numbers.{count-append}
 use Rattle.list.specs.Listing.{numberOf}
 
 pub number-le : (s : List ℕ) (k n : ℕ) → numberOf s k n ≤ n

@@ -2,10 +2,10 @@
 use mathlib.Core.Path.{refl}
 use mathlib.Core.List.{List, [], _∷_}
 use Prim.Native.Nat.{ℕ}
-use Rattle.records.specs.Lists.{padded}
+use Rattle.prelude.specs.Lists.{padded}
 use Rattle.records.proofs.Tables.{Agree}
 use Rattle.model.specs.Replay.{Replay}
-use Rattle.model.proofs.ExampleSets.{zeroWatch}
+use Rattle.examples.proofs.ExampleSets.{zeroWatch}
 use Rattle.messages.specs.Texts.{ascii}
 use Rattle.list.specs.Listing.{lineText, listed}
 

@@ -3,7 +3,7 @@ use mathlib.Core.List.{List, [], _∷_, _++_}
 use Prim.Native.Nat.{ℕ, _*_}
 use lib.Dec.{eqb}
 use lib.ListN.{take, drop}
-use Rattle.records.specs.Lists.{count, caseOf}
+use Rattle.prelude.specs.Lists.{count, caseOf}
 use Rattle.records.specs.Bytes.{byte, two, records, kind}
 use Rattle.expressions.specs.Nodes.{readNode}
 use Rattle.model.specs.ChartSet.{readTransition, readVariable}

@@ -1,7 +1,7 @@
 -- The lines of a chart set's records without their ends, of things numbered i. Assumes nothing: these are definitions.
 use mathlib.Core.List.{List, [], _∷_, _++_}
 use Prim.Native.Nat.{ℕ}
-use Rattle.records.specs.Lists.{caseOf}
+use Rattle.prelude.specs.Lists.{caseOf}
 use Rattle.records.specs.Bytes.{byte, two}
 use Rattle.model.specs.ChartSet.{Trigger, always, event, after, every, Transition, readDeed}
 use Rattle.messages.specs.Texts.{ascii}

@@ -22,6 +22,7 @@ use messages::input::is_table;
 use messages::input::read_file;
 use messages::words::print;
 use records::byte_at;
+use records::sizes::FILE_ROOM;
 use refusals::tell_set;
 use refusals::tell_table;
 use sets::put_action;
@@ -125,7 +126,7 @@ fn list_bytes(s: &[u8]) {
 }
 
 fn list_named(name: &[u8]) {
-    let mut file = [0u8; 262144];
+    let mut file = [0u8; FILE_ROOM];
     let got = read_file(name, &mut file, Form::Either);
     if got.failed {
         return;

@@ -9,7 +9,7 @@ use lib.Dec.{eqb}
 use lib.ListN.{length, getD, set, replicate, length-set, length-replicate, getD-replicate}
 use lib.Seq.{getD-set-same, getD-set-other}
 use borrow.Author.Tests.{eq-eqb, ne-eqb, eqb-true, eqb-false}
-use Rattle.records.specs.Lists.{keep, from, upto}
+use Rattle.prelude.specs.Lists.{keep, from, upto}
 use Rattle.machines.specs.Chains.{earliest, remaining, withKey, Chained}
 use Rattle.machines.proofs.ChainsEarliest.{Found, none-found, one-found, earliest-one, earliest-none}
 

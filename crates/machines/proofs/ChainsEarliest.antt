@@ -7,8 +7,8 @@ use Prim.Native.Nat.{ℕ, zero, suc, _+_, _-_, _≤_, _<_}
 use native.Mathlib.Nat.{le-refl}
 use native.Mathlib.Omega.{arith}
 use borrow.Author.Tests.{ne-eqb}
-use Rattle.records.specs.Lists.{keep, from}
-use Rattle.expressions.proofs.Loops.{left-more}
+use Rattle.prelude.specs.Lists.{keep, from}
+use Rattle.prelude.proofs.Loops.{left-more}
 use Rattle.machines.specs.Chains.{headOr, earliest, named}
 
 -- those kept by tests that agree below a number

@@ -6,8 +6,8 @@ use native.Mathlib.Omega.{arith}
 use borrow.Author.Tests.{eq-eqb, eqb-true, eqb-false}
 use lib.Dec.{eqb}
 use lib.ListN.{length}
-use Rattle.records.specs.Lists.{all, from, upto}
-use Rattle.records.proofs.FramingLaws.{and-true}
+use Rattle.prelude.specs.Lists.{all, from, upto}
+use Rattle.prelude.proofs.Counts.{and-true}
 use Rattle.model.specs.Runs.{Run, Machine, parts, allPlaces, placesPossible, variablesPossible, timersPossible, positionPossible, countPossible, eventsPossible, unusedZero, possible, restZero, restZeroValues}
 use Rattle.machines.specs.Checks.{sharedPossible}
 

@@ -8,13 +8,13 @@ use borrow.Author.Tests.{ltb-true, ltb-false}
 use lib.Dec.{ltb, eqb}
 use lib.IntN.{ℤ, pos}
 use lib.ListN.{length, getD, drop, length-take, List·getD-eq-default, drop-of-length-le}
-use Rattle.records.specs.Lists.{all, from, upto, caseOf}
-use Rattle.records.proofs.FramingLaws.{getD-upto}
+use Rattle.prelude.specs.Lists.{all, from, upto, caseOf}
+use Rattle.prelude.proofs.Counts.{getD-upto}
 use Rattle.expressions.specs.Nodes.{unknown, readNode, nodeOf, nodeAt}
 use Rattle.model.specs.Runs.{Variable, noVariable, inBounds, placesPossible, variablesPossible}
 use Rattle.machines.specs.declared.values.Values.{Values}
 use Rattle.machines.specs.Files.{homeIn, homesIn, variableIn, variablesIn, nodePart, nodesIn}
-use Rattle.machines.proofs.Filled.{length-from}
+use Rattle.prelude.proofs.Filled.{length-from}
 
 module _ (s : List ℕ) (parts places : ℕ) where
   pub length-homes : length (homesIn s parts places) ≡ places

@@ -1,6 +1,4 @@
 -- Laws that the proofs of several functions use, and that crates above cite.
-pub mod Behind
-pub mod Filled
 pub mod Bits
 pub mod Files
 pub mod ChainsEarliest

@@ -12,7 +12,7 @@ use lib.Dec.{leb, eqb}
 use lib.ListN.{length, getD, drop, drop-of-length-le}
 use lib.Seq.{drop-cons}
 use Rattle.records.specs.Refusal.{Refusal, impossible-run, misplaced-events, cycles-done, Out, val, fault, _>>=_, _>>_, fault-if, unless-refused}
-use Rattle.records.proofs.FramingLaws.{and-true}
+use Rattle.prelude.proofs.Counts.{and-true}
 use Rattle.model.specs.Outcome.{settled}
 use Rattle.model.specs.Calls.{Format}
 use Rattle.model.specs.Runs.{Run, Answer, time, Machine, parts, allPlaces, placesPossible, variablesPossible, timersPossible, positionPossible, countPossible, eventsPossible, unusedZero, possible, checked, give, moved, timePassed, cycle}

@@ -7,7 +7,7 @@ use borrow.Author.Tests.{le-leb, lt-leb, leb-true, eqb-false}
 use lib.Dec.{leb, eqb}
 use lib.ListN.{getD}
 use Rattle.records.specs.Refusal.{Refusal, impossible-run, misplaced-events, cycles-done, Out, val, fault, _>>=_, _>>_, fault-if}
-use Rattle.records.proofs.FramingLaws.{and-true}
+use Rattle.prelude.proofs.Counts.{and-true}
 use Rattle.model.specs.Outcome.{Outcome, settled}
 use Rattle.model.specs.Runs.{Run, Answer, time, Machine, parts, allPlaces, placesPossible, variablesPossible, timersPossible, positionPossible, countPossible, eventsPossible, unusedZero, possible, checked, give, moved, timePassed, stepped, turn, turns, unless-stopped, ended, onto, cycle}
 use Rattle.machines.specs.Turns.{after, finish, Ready, KeptRun}

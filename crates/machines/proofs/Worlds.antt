@@ -11,7 +11,7 @@ use lib.ListN.{getD, set}
 use lib.Pow.{pow-pos, pow-add, split, shr-lt}
 use lib.Signed.{leZ, mag}
 use Rattle.records.specs.Refusal.{Refusal, Out, val, fault, out-of-bounds, _>>=_, _>>_, fault-if}
-use Rattle.records.proofs.FramingLaws.{impossible}
+use Rattle.prelude.proofs.Counts.{impossible}
 use Rattle.expressions.specs.Nodes.{Node, nodeOf}
 use Rattle.expressions.specs.Values.{number}
 use Rattle.model.specs.Runs.{Variable, noVariable, inBounds, present, World, setVar, assign, deed}

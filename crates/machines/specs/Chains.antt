@@ -5,7 +5,7 @@ use mathlib.Core.List.{List, [], _∷_}
 use Prim.Native.Nat.{ℕ, _+_, _-_, _<_}
 use lib.Dec.{eqb}
 use lib.ListN.{getD}
-use Rattle.records.specs.Lists.{keep, from}
+use Rattle.prelude.specs.Lists.{keep, from}
 
 abbrev pub headOr : ℕ → List ℕ → ℕ
 headOr d [] = d

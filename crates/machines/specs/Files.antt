@@ -3,7 +3,7 @@
 use mathlib.Core.List.{List, map}
 use Prim.Native.Nat.{ℕ, _+_, _*_, _^_, _≤_, _<_}
 use lib.ListN.{length, take, drop}
-use Rattle.records.specs.Lists.{upto}
+use Rattle.prelude.specs.Lists.{upto}
 use Rattle.records.specs.Bytes.{byte, two, two±}
 use Rattle.expressions.specs.Nodes.{Node, nodeAt}
 use Rattle.model.specs.Runs.{Variable}

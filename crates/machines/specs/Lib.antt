@@ -5,3 +5,4 @@ pub mod Checks
 pub mod Turns
 pub mod Chains
 pub mod Playing
+pub mod Deeds

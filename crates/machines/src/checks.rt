@@ -4,7 +4,7 @@ ghost use mathlib.Core.Bool.{cond, not, _&&_, _||_};
 ghost use mathlib.Core.List.{[]};
 ghost use Prim.Native.Nat.{_+_, _≤_};
 ghost use lib.Dec.{leb, ltb, eqb};
-ghost use Rattle.records.specs.Lists.{padded};
+ghost use Rattle.prelude.specs.Lists.{padded};
 ghost use Rattle.model.specs.Runs.{inBounds, placesPossible, variablesPossible, restZero, restZeroValues, checkedBy};
 ghost use Rattle.machines.specs.Files.{initialsIn, homeIn, homesIn, variableIn, variablesIn, HasValues};
 ghost use Rattle.machines.specs.Worlds.{worldIn};
@@ -14,6 +14,12 @@ use super::values::highest_of;
 use super::values::lowest_of;
 use records::byte_at;
 use records::refusals::Refusal;
+use records::sizes::CHARTS;
+use records::sizes::LAST_CYCLE;
+use records::sizes::MOST_CYCLES;
+use records::sizes::Places;
+use records::sizes::VARIABLES;
+use records::sizes::Variables;
 use records::u16_at;
 
 fn position_possible(parts: u16, position: u32) -> bool
@@ -28,9 +34,9 @@ fn count_possible(position: u32, cycles: u32) -> bool
     ensures { λ r. ⌜ r ≡ leb cycles (cond (eqb position 1) 1_000_000 999_999) ⌝ }
 {
     if position == 1 {
-        cycles <= 1000000
+        cycles <= MOST_CYCLES
     } else {
-        cycles <= 999999
+        cycles <= LAST_CYCLE
     }
 }
 
@@ -51,11 +57,11 @@ fn counts_possible(parts: u16, events: u32, position: u32, cycles: u32) -> bool
 }
 
 // Places behind the parts' are 0.
-fn places_unused(parts: u16, at: [u16; 8]) -> bool
+fn places_unused(parts: u16, at: Places) -> bool
     ensures { λ r. ⌜ r ≡ restZero parts at ⌝ }
 {
     let mut k = parts as usize;
-    while k < 8 {
+    while k < CHARTS {
         if at[k] != 0 {
             return false;
         }
@@ -65,12 +71,12 @@ fn places_unused(parts: u16, at: [u16; 8]) -> bool
 }
 
 // All are looked at, so that the compiler takes several at once.
-fn variables_unused(count: u16, variables: [i16; 64]) -> bool
+fn variables_unused(count: u16, variables: Variables) -> bool
     ensures { λ r. ⌜ r ≡ restZeroValues count variables ⌝ }
 {
     let mut unused = true;
     let mut k = count as usize;
-    while k < 64 {
+    while k < VARIABLES {
         unused = unused & (variables[k] == 0);
         k += 1;
     }
@@ -85,7 +91,7 @@ fn place_possible(s: &[u8], parts: u16, places: u16, part: u16, place: u16) -> b
 }
 
 // Each part is in a place of its own.
-fn places_possible(s: &[u8], parts: u16, places: u16, at: [u16; 8]) -> bool
+fn places_possible(s: &[u8], parts: u16, places: u16, at: Places) -> bool
     requires { ⌜ parts ≤ 8 ⌝ }
     ensures { λ r. ⌜ r ≡ placesPossible parts (homesIn (now (s .entry)) parts places) at ⌝ }
 {
@@ -108,7 +114,7 @@ fn value_possible(s: &[u8], values: Values, v: u16, value: i16) -> bool
 }
 
 // Each variable is within its bounds.
-fn variables_possible(s: &[u8], values: Values, variables: [i16; 64]) -> bool
+fn variables_possible(s: &[u8], values: Values, variables: Variables) -> bool
     requires { ⌜ HasValues (now s) values ⌝ }
     ensures { λ r. ⌜ r ≡ variablesPossible (variablesIn (now (s .entry)) values) variables ⌝ }
 {
@@ -129,8 +135,8 @@ pub fn shared_possible(
     parts: u16,
     places: u16,
     values: Values,
-    at: [u16; 8],
-    variables: [i16; 64],
+    at: Places,
+    variables: Variables,
     events: u32,
     position: u32,
     cycles: u32,
@@ -161,7 +167,7 @@ pub fn decide(possible: bool, events: u32, position: u32, cycles: u32) -> Before
     if (position != 1) & (events != 0) {
         return Before::Refused(Refusal::MisplacedEvents);
     }
-    if (position == 1) & (cycles == 1000000) {
+    if (position == 1) & (cycles == MOST_CYCLES) {
         return Before::Refused(Refusal::CyclesDone);
     }
     Before::Passed
@@ -175,11 +181,11 @@ pub fn events_given(events: u32, position: u32, present: u32) -> u32
 }
 
 // Of each part its initial place.
-pub fn initial_places(s: &[u8], parts: u16) -> [u16; 8]
+pub fn initial_places(s: &[u8], parts: u16) -> Places
     requires { ⌜ parts ≤ 8 ⌝ }
     ensures { λ r. ⌜ r ≡ padded 8 0 (initialsIn (now (s .entry)) parts) ⌝ }
 {
-    let mut at = [0u16; 8];
+    let mut at = [0u16; CHARTS];
     let mut c: u16 = 0;
     while c < parts {
         let i = c as usize;

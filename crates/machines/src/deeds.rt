@@ -9,6 +9,8 @@ ghost use lib.Signed.{leZ, mag};
 ghost use Rattle.records.specs.Refusal.{fault};
 ghost use Rattle.expressions.specs.Answers as expressions-answers;
 ghost use Rattle.model.specs.Runs.{inBounds, noVariable, present, raised, assign, deed};
+ghost use Rattle.model.specs.ChartSet.{readDeed};
+ghost use Rattle.machines.specs.Deeds.{Doable};
 ghost use Rattle.machines.specs.Files.{variablesIn, nodesIn, HasValues};
 ghost use Rattle.machines.specs.Answers.{reasonOf};
 ghost use Rattle.machines.specs.Worlds.{worldIn, worldAfter, codedFault, coded, IsCode, worldBy};
@@ -17,6 +19,7 @@ use super::values::Values;
 use super::values::bound_within;
 use super::values::number_at;
 use expressions::arithmetic::Number;
+use records::sizes::Variables;
 
 // The events afterwards, or why there are none.
 pub enum Done {
@@ -89,7 +92,7 @@ pub fn reason_by(code: u64) -> Reason
     }
 }
 
-fn done_by(code: u64) -> Done
+pub fn done_by(code: u64) -> Done
     ensures { λ r. ⌜ ((vars : List ℤ) (p c : ℕ) → worldAfter r vars p c ≡ worldBy code vars p c) × ((w : Reason) → r ≡ Done.Fault w → 4_294_967_295 < code) ⌝ }
 {
     if 4294967295 < code {
@@ -100,14 +103,7 @@ fn done_by(code: u64) -> Done
 }
 
 // Node n assigned to variable v: the events afterwards, or the fault, as one number. A fault assigns nothing.
-pub fn assign_code(
-    s: &[u8],
-    values: Values,
-    v: u8,
-    n: u16,
-    vars: &mut [i16; 64],
-    events: u32,
-) -> u64
+fn assign_code(s: &[u8], values: Values, v: u8, n: u16, vars: &mut Variables, events: u32) -> u64
     requires { ⌜ HasValues (now s) values × (v < values .variables) ⌝ }
     ensures { λ r. ⌜ ((p c : ℕ) → worldBy r (now (vars .exit)) p c ≡ deed (nodesIn (now (s .entry)) values) (variablesIn (now (s .entry)) values) (assign v n) (worldIn (now (vars .entry)) events p c))
         × IsCode r × (4_294_967_295 < r → now (vars .exit) ≡ now (vars .entry)) ⌝ }
@@ -126,10 +122,23 @@ pub fn assign_code(
     }
 }
 
-pub fn assign(s: &[u8], values: Values, v: u8, n: u16, vars: &mut [i16; 64], events: u32) -> Done
-    requires { ⌜ HasValues (now s) values × (v < values .variables) ⌝ }
-    ensures { λ r. ⌜ ((p c : ℕ) → worldAfter r (now (vars .exit)) p c ≡ deed (nodesIn (now (s .entry)) values) (variablesIn (now (s .entry)) values) (assign v n) (worldIn (now (vars .entry)) events p c))
-        × ((w : Reason) → r ≡ Done.Fault w → now (vars .exit) ≡ now (vars .entry)) ⌝ }
+// A deed by the fields of its record, an action's or an update's: code 2 raises, another assigns. The events afterwards, or the fault, as one number.
+pub fn do_deed(
+    s: &[u8],
+    values: Values,
+    code: u8,
+    x: u8,
+    n: u16,
+    vars: &mut Variables,
+    events: u32,
+) -> u64
+    requires { ⌜ HasValues (now s) values × Doable (values .variables) (readDeed code x n) ⌝ }
+    ensures { λ r. ⌜ ((p c : ℕ) → worldBy r (now (vars .exit)) p c ≡ deed (nodesIn (now (s .entry)) values) (variablesIn (now (s .entry)) values) (readDeed code x n) (worldIn (now (vars .entry)) events p c))
+        × IsCode r × (4_294_967_295 < r → now (vars .exit) ≡ now (vars .entry)) ⌝ }
 {
-    done_by(assign_code(s, values, v, n, vars, events))
+    if code == 2 {
+        raised(x, events) as u64
+    } else {
+        assign_code(s, values, x, n, vars, events)
+    }
 }

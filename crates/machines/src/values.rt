@@ -4,7 +4,7 @@ ghost use mathlib.Core.List.{map};
 ghost use Prim.Native.Nat.{_+_, _*_, _^_, _<_};
 ghost use lib.IntN.{pos};
 ghost use Rattle.records.specs.Bytes.{two±};
-ghost use Rattle.records.specs.Lists.{upto, padded};
+ghost use Rattle.prelude.specs.Lists.{upto, padded};
 ghost use Rattle.expressions.specs.Nodes.{nodeOf};
 ghost use Rattle.expressions.specs.Values.{number, truth};
 ghost use Rattle.expressions.specs.Answers.{numberOf, truthOf};
@@ -16,6 +16,8 @@ use expressions::arithmetic::Truth;
 use expressions::values::number_of;
 use expressions::values::truth_of;
 use records::i16_at;
+use records::sizes::VARIABLES;
+use records::sizes::Variables;
 
 // The number of the first variable's record, and the counts; the nodes' records follow the variables'.
 pub struct Values {
@@ -64,11 +66,11 @@ pub fn bound_within(s: &[u8], values: Values, v: u8, k: usize) -> i16
 }
 
 // The variables of a fresh run.
-pub fn start_values(s: &[u8], values: Values) -> [i16; 64]
+pub fn start_values(s: &[u8], values: Values) -> Variables
     requires { ⌜ HasValues (now s) values ⌝ }
     ensures { λ r. ⌜ r ≡ padded 64 (pos 0) (map (λ v. variableIn (now (s .entry)) values v .start) (upto (values .variables))) ⌝ }
 {
-    let mut made = [0i16; 64];
+    let mut made = [0i16; VARIABLES];
     let mut v: u16 = 0;
     while v < values.variables {
         let i = v as usize;
@@ -89,14 +91,14 @@ pub fn node_records(s: &[u8], values: Values) -> &[u8]
 }
 
 // Node n, as a number and as a truth.
-pub fn number_at(s: &[u8], values: Values, vars: &[i16; 64], n: u16) -> Number
+pub fn number_at(s: &[u8], values: Values, vars: &Variables, n: u16) -> Number
     requires { ⌜ HasValues (now s) values ⌝ }
     ensures { λ r. ⌜ numberOf r ≡ number (nodeOf (nodesIn (now (s .entry)) values)) (now (vars .entry)) n ⌝ }
 {
     number_of(node_records(s, values), vars, n)
 }
 
-pub fn truth_at(s: &[u8], values: Values, vars: &[i16; 64], n: u16) -> Truth
+pub fn truth_at(s: &[u8], values: Values, vars: &Variables, n: u16) -> Truth
     requires { ⌜ HasValues (now s) values ⌝ }
     ensures { λ r. ⌜ truthOf r ≡ truth (nodeOf (nodesIn (now (s .entry)) values)) (now (vars .entry)) n ⌝ }
 {
@@ -104,7 +106,7 @@ pub fn truth_at(s: &[u8], values: Values, vars: &[i16; 64], n: u16) -> Truth
 }
 
 // A guard that is none holds.
-pub fn guard_holds(s: &[u8], values: Values, vars: &[i16; 64], guard: u16) -> Truth
+pub fn guard_holds(s: &[u8], values: Values, vars: &Variables, guard: u16) -> Truth
     requires { ⌜ HasValues (now s) values ⌝ }
     ensures { λ r. ⌜ truthOf r ≡ guardHolds (nodesIn (now (s .entry)) values) (now (vars .entry)) (readGuard guard) ⌝ }
 {

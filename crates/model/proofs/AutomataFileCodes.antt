@@ -5,7 +5,7 @@ use mathlib.Core.Bool.{Bool, true, false, _&&_}
 use mathlib.Core.List.{List, [], _∷_, map}
 use Prim.Native.Nat.{ℕ}
 use lib.Dec.{T, leb}
-use Rattle.records.specs.Lists.{all, caseOf}
+use Rattle.prelude.specs.Lists.{all, caseOf, bit}
 use Rattle.records.specs.Bytes.{bytes2, records}
 use Rattle.expressions.specs.Nodes as N
 use Rattle.expressions.specs.Nodes.{Node, writeNode}
@@ -14,8 +14,8 @@ use Rattle.model.specs.ChartFile.{unusedAreZero, isEvent}
 use Rattle.model.specs.AutomataTable as A
 use Rattle.model.specs.AutomataTable.{Automata, Edge, Literal, LiteralTrigger, Clock, sections, writeAutomata, writeEdge, writeLiteral, writeClock, writeVariable, writeUpdate, writeReset}
 use Rattle.model.specs.AutomataFile.{unusedInTable, tableInCode}
-use Rattle.model.proofs.BoolLaws.{and-left, and-right, both-of}
-use Rattle.model.proofs.ListLaws.{all-gather, all-cons, all-nil}
+use Rattle.prelude.proofs.Bools.{and-left, and-right, both-of}
+use Rattle.prelude.proofs.Lists.{all-gather, all-cons, all-nil}
 use Rattle.model.proofs.AutomataTableRecords.{recordOf, recordsOf, written-records}
 use Rattle.model.proofs.AutomataTableRead.{fitsVariable, variable-back}
 use Rattle.model.proofs.ChartFile.{ordered, knownNode, codedDeed}
@@ -155,7 +155,7 @@ coded-edge : (e : Edge) → T (tableInCode (recordOf 35 (writeEdge e)))
 unfolding caseOf
 coded-edge e = go (e .idles)
   where
-    go : (b : Bool) → T (leb (A.bit b) 1)
+    go : (b : Bool) → T (leb (bit b) 1)
     go true = tt
     go false = tt
 

@@ -9,7 +9,7 @@ use native.Mathlib.Omega.{arith}
 use borrow.Author.Tests.{le-ltb, ne-eqb}
 use lib.Dec.{T, leb, ltb, eqb, leb→le, le→leb}
 use lib.ListN.{length, length-map}
-use Rattle.records.specs.Lists.{all, any, gather, mapFrom, ascending}
+use Rattle.prelude.specs.Lists.{all, any, gather, mapFrom, ascending}
 use Rattle.records.specs.Bytes.{bytes2, records, kind}
 use Rattle.records.specs.Framing.{known, howMany, oddLength, unorderedKinds, wrongAmounts, framing}
 use Rattle.records.proofs.Framed.{length-ofKind}
@@ -17,8 +17,8 @@ use Rattle.records.proofs.FramingLaws.{is-none}
 use Rattle.expressions.specs.Nodes.{writeNode}
 use Rattle.model.specs.AutomataTable.{Automata, sections, automataRecords, writeAutomata, writeEdge, writeLiteral, writeClock, writeVariable, writeUpdate, writeReset}
 use Rattle.model.specs.AutomataFile.{automataLimits}
-use Rattle.model.proofs.BoolLaws.{and-left, and-right, both-of, is-true, eq→eqb}
-use Rattle.model.proofs.ListLaws.{all-imp}
+use Rattle.prelude.proofs.Bools.{and-left, and-right, both-of, is-true, eq→eqb}
+use Rattle.prelude.proofs.Lists.{all-imp}
 use Rattle.model.proofs.AutomataTableRecords.{recordOf, recordsOf, written-records, length-written, written-kind}
 
 -- ---- kinds that ascend

@@ -7,13 +7,13 @@ use mathlib.Core.List.{List, [], _∷_, _++_, map}
 use Prim.Native.Nat.{ℕ}
 use native.Mathlib.Omega.{arith}
 use lib.Dec.{T, eqb, eqb→eq, eqb-refl}
-use Rattle.records.specs.Lists.{mem, distinct}
+use Rattle.prelude.specs.Lists.{mem, distinct}
 use Rattle.records.specs.Refusal.{Refusal, Out, val, fault, _>>=_, choose}
 use Rattle.model.specs.Charts.{firstThat}
 use Rattle.model.specs.AutomataTable.{Literal}
 use Rattle.model.specs.Automata.{reads, opens}
-use Rattle.model.proofs.BoolLaws.{and-left, and-right, or-right, to-left, is-true, is-false, of-true, eqb-comm}
-use Rattle.model.proofs.ListLaws.{mem-cons, mem-apart}
+use Rattle.prelude.proofs.Bools.{and-left, and-right, or-right, to-left, is-true, is-false, of-true, eqb-comm}
+use Rattle.prelude.proofs.Lists.{mem-cons, mem-apart}
 
 -- those of a row before one of it
 unfoldable pub rowBefore : ℕ → List ℕ → List ℕ

@@ -8,7 +8,7 @@ use native.Mathlib.Omega.{arith}
 use lib.Dec.{T, ltb, eqb, ltb→lt}
 use lib.IntN.{ℤ}
 use lib.Signed.{mag}
-use Rattle.records.specs.Lists.{all, gather, caseOf}
+use Rattle.prelude.specs.Lists.{all, gather, caseOf}
 use Rattle.records.specs.Bytes.{byte, two, signed, unsigned, bytes2, ofKind}
 use Rattle.records.proofs.RoundTrips.{two-bytes2, two±-bytes2±, four±-bytes4±}
 use Rattle.expressions.specs.Nodes as N
@@ -16,9 +16,10 @@ use Rattle.expressions.specs.Nodes.{Node, readNode, writeNode}
 use Rattle.model.specs.Runs.{Variable, Deed, assign, raise}
 use Rattle.model.specs.ChartSet.{readGuard, readVariable}
 use Rattle.model.specs.AutomataTable as A
-use Rattle.model.specs.AutomataTable.{Automata, Edge, Literal, LiteralTrigger, Clock, sections, writeAutomata, readAutomata, bit, writeEdge, writeLiteral, writeGuard, writeClock, writeVariable, writeUpdate, writeReset, readEdge, readLiteral, readClock, readUpdate, readReset, timingCode}
-use Rattle.model.proofs.BoolLaws.{and-left, and-right, ne→eqb}
-use Rattle.model.proofs.ListLaws.{all-cons, all-nil}
+use Rattle.prelude.specs.Lists.{bit}
+use Rattle.model.specs.AutomataTable.{Automata, Edge, Literal, LiteralTrigger, Clock, sections, writeAutomata, readAutomata, writeEdge, writeLiteral, writeGuard, writeClock, writeVariable, writeUpdate, writeReset, readEdge, readLiteral, readClock, readUpdate, readReset, timingCode}
+use Rattle.prelude.proofs.Bools.{and-left, and-right, ne→eqb}
+use Rattle.prelude.proofs.Lists.{all-cons, all-nil}
 use Rattle.model.proofs.AutomataTableRecords.{recordOf, recordsOf, written-kind}
 
 -- ---- what fits its fields

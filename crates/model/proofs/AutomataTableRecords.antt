@@ -8,15 +8,15 @@ use native.Mathlib.Omega.{arith}
 use lib.Dec.{T, leb, eqb, eqb→eq, leb→le}
 use lib.ListN.{length, replicate, length-append, length-map, length-replicate}
 use lib.Seq.{take-at, drop-at}
-use Rattle.records.specs.Lists.{all, keep, gather, padded}
+use Rattle.prelude.specs.Lists.{all, keep, gather, padded}
 use Rattle.records.specs.Bytes.{bytes2, cut, records, kind, ofKind}
 use Rattle.expressions.specs.Nodes as N
 use Rattle.expressions.specs.Nodes.{Node, writeNode}
 use Rattle.model.specs.Runs.{Deed, assign, raise}
 use Rattle.model.specs.AutomataTable as A
 use Rattle.model.specs.AutomataTable.{Automata, LiteralTrigger, Literal, sections, automataRecords, writeAutomata, writeEdge, writeLiteral, writeLiteralTrigger, writeGuard, writeClock, writeVariable, writeDeed, writeUpdate, writeReset}
-use Rattle.model.proofs.BoolLaws.{and-left, and-right, both-of, of-true, eq→eqb}
-use Rattle.model.proofs.ListLaws.{keep-append, all-gather, all-cons, all-nil, all-map}
+use Rattle.prelude.proofs.Bools.{and-left, and-right, both-of, of-true, eq→eqb}
+use Rattle.prelude.proofs.Lists.{keep-append, all-gather, all-cons, all-nil, all-map}
 
 -- ---- records of 16 bytes
 

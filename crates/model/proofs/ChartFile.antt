@@ -8,7 +8,7 @@ use native.Mathlib.Omega.{arith}
 use lib.Dec.{T, leb, ltb, eqb, leb→le, ltb→lt, eqb→eq, nltb→le}
 use lib.ListN.{length, getD, length-map}
 use lib.Signed.{leZ}
-use Rattle.records.specs.Lists.{keep, all, any, count, caseOf, mapFrom, from, upto, mem}
+use Rattle.prelude.specs.Lists.{keep, all, any, count, caseOf, mapFrom, from, upto, mem}
 use Rattle.records.specs.Refusal.{Refusal, odd-length, lowest}
 use Rattle.records.specs.Bytes.{byte, two, four, records, kind, ofKind}
 use Rattle.records.specs.Framing.{howMany}
@@ -20,8 +20,8 @@ use Rattle.model.specs.Owned.{home}
 use Rattle.model.specs.Runs.{Variable, Deed, assign, raise}
 use Rattle.model.specs.ChartSet.{Trigger, always, event, after, every, Transition, ChartSet, readCharts, readTransition, readVariable, readDeed, readActions, transition, noTransition}
 use Rattle.model.specs.ChartFile.{chartLimits, chartTests, chartsRefusal, inCode, transitionInCode, variableInCode, nodeInCode, actionInCode, deedInCode, between, isEvent, isDuration, guardNamed, actionsNamed, allNamed, insideCharts, initialFits, prioritiesDiffer, atMostEight, structured, leavingState, unconditional, guards, assigned, uses, nodesFit, ticking}
-use Rattle.model.proofs.BoolLaws.{and-left, and-right, both-of, not-not, or-right, is-false, of-true, eqb-comm, eqb-ne}
-use Rattle.model.proofs.ListLaws.{all-getD, all-getD-or, any-off, all-kept, all-mapped, all-keep, all-imp, mem-from, mem-left, mem-right, upto-all}
+use Rattle.prelude.proofs.Bools.{and-left, and-right, both-of, not-not, or-right, is-false, of-true, eqb-comm, eqb-ne}
+use Rattle.prelude.proofs.Lists.{all-getD, all-getD-or, any-off, all-kept, all-mapped, all-keep, all-imp, mem-from, mem-left, mem-right, upto-all}
 
 -- ---- tests in a row, none of which applies
 

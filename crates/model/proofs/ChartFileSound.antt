@@ -11,8 +11,8 @@ use Rattle.model.specs.ChartSet.{ChartSet, readCharts}
 use Rattle.model.specs.ChartFile.{between, chartsRefusal}
 use Rattle.model.specs.AutomataTable.{noClock, clockAt}
 use Rattle.model.specs.Translation.{stateCount, twin}
-use Rattle.model.proofs.BoolLaws.{and-left}
-use Rattle.model.proofs.ListLaws.{all-getD, all-getD-or}
+use Rattle.prelude.proofs.Bools.{and-left}
+use Rattle.prelude.proofs.Lists.{all-getD, all-getD-or}
 use Rattle.model.proofs.CorrespondenceStep.{Sound}
 use Rattle.model.proofs.ChartFile.{charts-few, states-few, transitions-few, variables-few, transition-same-chart, target-in, priority-low, priority-high, priorities-differ, initial-named, initial-home, variables-ordered}
 use Rattle.model.proofs.TranslationCounts.{clocks-few}

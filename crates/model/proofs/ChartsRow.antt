@@ -6,14 +6,14 @@ use mathlib.Core.List.{List, [], _∷_, _++_, append-nil}
 use Prim.Native.Nat.{ℕ, suc, _+_, _-_, _≤_, _<_, zero-le}
 use native.Mathlib.Omega.{arith}
 use lib.Dec.{T, leb, ltb, eqb, eqb→eq, eqb-refl, le→leb, lt→ltb, ltb→lt, nltb→le}
-use Rattle.records.specs.Lists.{keep, gather, from, upto, all, mem, distinct}
+use Rattle.prelude.specs.Lists.{keep, gather, from, upto, all, mem, distinct}
 use Rattle.model.specs.ChartSet.{ChartSet, noTransition, transition}
 use Rattle.model.specs.Charts.{row}
 use Rattle.model.specs.ChartFile.{prioritiesDiffer}
 use Rattle.model.specs.Translation.{transitionCount, triedBefore}
-use Rattle.model.proofs.BoolLaws.{and-left, and-right, is-true, is-false, of-true, to-left, not-of, not-false, both-of, eq→eqb}
-use Rattle.model.proofs.ListLaws.{keep-mem, mem-kept, distinct-keep, from-mem, mem-from, distinct-from, mem-sorted, distinct-sorted, gather-mem, all-keep, all-upto, keep-keep, gather-append, from-split, kept-apart}
-use Rattle.model.proofs.Sorting.{sorted-buckets}
+use Rattle.prelude.proofs.Bools.{and-left, and-right, is-true, is-false, of-true, to-left, not-of, not-false, both-of, eq→eqb}
+use Rattle.prelude.proofs.Lists.{keep-mem, mem-kept, distinct-keep, from-mem, mem-from, distinct-from, mem-sorted, distinct-sorted, gather-mem, all-keep, all-upto, keep-keep, gather-append, from-split, kept-apart}
+use Rattle.prelude.proofs.Sorting.{sorted-buckets}
 use Rattle.model.proofs.AutomataOpen.{rowBefore}
 
 module _ (cs : ChartSet) where

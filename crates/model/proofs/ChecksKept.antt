@@ -8,7 +8,7 @@ use lib.Dec.{T, leb, leb→le, nleb→lt}
 use lib.ListN.{length, getD}
 use Rattle.records.specs.Refusal.{Out, val, fault, _>>=_}
 use Rattle.model.specs.Runs.{Run, Answer, taken, idle, time, Machine, parts, possible, checked, give, moved, timePassed, stepped, unless-stopped, onto, turns, ended, cycle}
-use Rattle.model.proofs.BoolLaws.{of-true, not-false}
+use Rattle.prelude.proofs.Bools.{of-true, not-false}
 use Rattle.model.proofs.ChecksPossible.{Fits, Resting, possible-of, possible-fits, possible-rests, time-rests, checked-possible, checkedLater-count}
 
 -- time's answer is no part's

@@ -10,14 +10,15 @@ use native.Mathlib.Omega.{arith}
 use lib.Dec.{T, leb, ltb, eqb, eqb-refl, le→leb, lt→ltb, leb→le, ltb→lt, nltb→le, eqb→eq}
 use lib.ListN.{length, getD, set, length-set, length-map}
 use lib.Seq.{getD-set-same, getD-set-other}
-use Rattle.records.specs.Lists.{all, any, mapFrom, mem, upto}
+use Rattle.prelude.specs.Lists.{all, any, mapFrom, mem, upto}
 use Rattle.records.specs.Refusal.{Refusal, bad-table, Out, val, fault, _>>=_}
 use Rattle.records.specs.Bytes.{two, ofKind}
 use Rattle.records.specs.Framing.{howMany}
 use Rattle.records.proofs.Framed.{length-ofKind}
 use Rattle.expressions.specs.Nodes.{nodeOf}
 use Rattle.expressions.specs.Sorts.{nodesNamed}
-use Rattle.model.specs.Owned.{of, home}
+use Rattle.prelude.specs.Owned.{of}
+use Rattle.model.specs.Owned.{home}
 use Rattle.model.specs.Runs.{World, Run, Answer, taken, idle, Machine, parts, possible, timePassed, deeds, cycle}
 use Rattle.model.specs.ChartSet.{ChartSet, readCharts, transition}
 use Rattle.model.specs.Charts.{row, transitionHolds, firstThat, acted, follow, charts}
@@ -26,8 +27,8 @@ use Rattle.model.specs.AutomataTable.{Automata, readAutomata, readClock,
 use Rattle.model.specs.Automata.{top, grown, literalHolds, reads, opens, theOne, reset, leaving, openEdges, automata}
 use Rattle.model.specs.AutomataFile.{automataLimits, tableTests, automataRefusal, literalTriggerNamed, tableNamed, clocksTick, insideAutomata}
 use Rattle.model.specs.Translation.{transitionCount}
-use Rattle.model.proofs.BoolLaws.{and-left, and-right, not-not, to-left, is-true, of-true, eqb-ne}
-use Rattle.model.proofs.ListLaws.{mem-cons, keep-mem, from-mem, getD-mapFrom, length-mapFrom, all-getD, any-off}
+use Rattle.prelude.proofs.Bools.{and-left, and-right, not-not, to-left, is-true, of-true, eqb-ne}
+use Rattle.prelude.proofs.Lists.{mem-cons, keep-mem, from-mem, getD-mapFrom, length-mapFrom, all-getD, any-off}
 use Rattle.model.proofs.ChartsRow.{row-mem}
 use Rattle.model.proofs.AutomataOpen.{firstThat-mem}
 use Rattle.model.proofs.CorrespondenceTime.{grown-top}

@@ -8,7 +8,7 @@ use lib.Dec.{T, leb, ltb, eqb, le→leb, lt→ltb, leb→le, nltb→le, ltb→lt
 use lib.IntN.{ℤ, pos, negsuc}
 use lib.ListN.{length, getD, drop, replicate, length-append, length-replicate, length-map, List·getD-append, List·getD-eq-default, List·getD-map}
 use lib.Seq.{getD-append-add}
-use Rattle.records.specs.Lists.{all}
+use Rattle.prelude.specs.Lists.{all}
 use Rattle.records.specs.Refusal.{impossible-run, misplaced-events, cycles-done, Out, val, _>>=_, fault-if}
 use Rattle.expressions.specs.Values.{isZero}
 use Rattle.model.specs.Owned.{home}
@@ -19,8 +19,8 @@ use Rattle.model.specs.AutomataTable.{clockAt}
 use Rattle.model.specs.Automata.{top, automata}
 use Rattle.model.specs.Translation.{stateCount, clockOf, twin}
 use Rattle.model.specs.Correspondence.{clockFor}
-use Rattle.model.proofs.BoolLaws.{and-left, and-right, to-right, is-true, of-true, not-false, both-of, eq→eqb, ne→eqb, eqb-ne}
-use Rattle.model.proofs.ListLaws.{all-upto, upto-all, all-rest}
+use Rattle.prelude.proofs.Bools.{and-left, and-right, to-right, is-true, of-true, not-false, both-of, eq→eqb, ne→eqb, eqb-ne}
+use Rattle.prelude.proofs.Lists.{all-upto, upto-all, all-rest}
 use Rattle.model.proofs.CorrespondenceTime.{clockFor-fresh}
 use Rattle.model.proofs.ChartFile.{three-of, five-of}
 use Rattle.model.proofs.WorldDeeds.{Valued}

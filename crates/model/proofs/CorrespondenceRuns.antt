@@ -5,10 +5,11 @@ use mathlib.Core.Bool.{Bool, true, false, _&&_, _||_}
 use mathlib.Core.List.{List, [], _∷_, _++_, map, append-nil}
 use Prim.Native.Nat.{ℕ, _+_, _-_, _≤_, _<_}
 use native.Mathlib.Omega.{arith}
-use lib.Dec.{T, ltb, eqb, eqb→eq, eqb-refl, ltb→lt, nltb→le}
+use lib.Dec.{T, eqb, eqb→eq, eqb-refl}
 use lib.ListN.{length, getD}
-use Rattle.records.specs.Lists.{gather, from, upto, mem}
-use Rattle.model.specs.Owned.{of}
+use Rattle.prelude.specs.Lists.{gather, from, upto, mem}
+use Rattle.model.specs.Limits.{mostPriorities}
+use Rattle.prelude.specs.Owned.{of}
 use Rattle.model.specs.Runs.{Run}
 use Rattle.model.specs.ChartSet as C
 use Rattle.model.specs.ChartSet.{ChartSet, transition}
@@ -16,12 +17,12 @@ use Rattle.model.specs.Charts.{ticks}
 use Rattle.model.specs.AutomataTable as A
 use Rattle.model.specs.AutomataTable.{Clock, Literal, edge, clockAt}
 use Rattle.model.specs.Automata.{leaving}
-use Rattle.model.specs.Translation.{stateCount, transitionCount, clocksOf, clockOf, literalTriggerOf, literal, triedBefore, literalsOf, idleLiterals, twin}
+use Rattle.model.specs.Translation.{Origin, from-transition, from-idling, transitionCount, origins, edgeNumber, clocksOf, clockOf, literalTriggerOf, literal, triedBefore, literalsOf, twin}
 use Rattle.model.specs.Correspondence.{clockFor, clockRead, clocksRead, Corresponds}
-use Rattle.model.proofs.BoolLaws.{and-right, to-left, to-right, of-true, not-false}
-use Rattle.model.proofs.ListLaws.{mem-append, gather-mem, keep-mem, from-mem}
+use Rattle.prelude.proofs.Bools.{and-right, to-left, to-right}
+use Rattle.prelude.proofs.Lists.{mem-append, gather-mem, keep-mem, from-mem}
 use Rattle.model.proofs.ChartsRow.{ofPriority, ofPriority-mem}
-use Rattle.model.proofs.TranslationEdges.{edge-transition, edge-idle, edges-count, of-transition, of-idle}
+use Rattle.model.proofs.TranslationOrigins.{IsOrigin, edges-count, by-origin, edge-of, of-origin}
 use Rattle.model.proofs.TranslationClocks.{Timing, clockOf-at}
 use Rattle.model.proofs.CorrespondenceStep.{Alike}
 
@@ -73,8 +74,9 @@ module _ (cs : ChartSet) where
       let (e, i, j) = gather-mem (λ e. clocksIn (of e (twin cs .literals))) k (leaving (twin cs) a l) h in
       let y : T (leaves e) × T (mem e (upto (length (twin cs .edges)))) = keep-mem leaves e (upto (length (twin cs .edges))) i in
       let b : (0 ≤ e) × (e < 0 + length (twin cs .edges)) = from-mem e 0 (length (twin cs .edges)) (y .1) in
-      let n : length (twin cs .edges) ≡ transitionCount cs + stateCount cs = edges-count cs in
-      go e (ltb e (transitionCount cs)) refl (omega arith) (eqb→eq (edge (twin cs) e .source) l (and-right (eqb (edge (twin cs) e .automaton) a) (eqb (edge (twin cs) e .source) l) (y .0))) j
+      let n : length (twin cs .edges) ≡ length (origins cs) = edges-count cs in
+      by-origin cs (λ e. edge (twin cs) e .source ≡ l → T (mem k (clocksIn (of e (twin cs .literals)))) → Timing cs l k) go e (omega arith)
+      (eqb→eq (edge (twin cs) e .source) l (and-right (eqb (edge (twin cs) e .automaton) a) (eqb (edge (twin cs) e .source) l) (y .0))) j
     where
       leaves : ℕ → Bool
       leaves e = eqb (edge (twin cs) e .automaton) a && eqb (edge (twin cs) e .source) l
@@ -86,21 +88,18 @@ module _ (cs : ChartSet) where
           pick (inl z) = read-of k l e true i s z
           pick (inr z) = absurd z
 
-      go : (e : ℕ) (p : Bool) → ltb e (transitionCount cs) ≡ p → e < transitionCount cs + stateCount cs → edge (twin cs) e .source ≡ l → T (mem k (clocksIn (of e (twin cs .literals)))) → Timing cs l k
-      go e true q b z j =
-          let t-in : e < transitionCount cs = ltb→lt e (transitionCount cs) (of-true q) in
-          let s-is : transition cs e .source ≡ l = sym (ap (λ x. x .source) (edge-transition cs e t-in)) ∙ z in
-          let lits : of e (twin cs .literals) ≡ map (literal cs false) (triedBefore cs l (transition cs e .priority)) ++ (literal cs true e ∷ []) =
-          of-transition cs (literalsOf cs) (idleLiterals cs) e t-in ∙ ap (λ w. map (literal cs false) (triedBefore cs w (transition cs e .priority)) ++ (literal cs true e ∷ [])) s-is in
-          read-nots k l (triedBefore cs l (transition cs e .priority)) (literal cs true e ∷ []) (above-from l (transition cs e .priority)) (own-one e t-in s-is) (subst (λ w. T (mem k (clocksIn w))) lits j)
-      go e false q b z j =
-          let low : transitionCount cs ≤ e = nltb→le e (transitionCount cs) (not-false q) in
-          let e-is : transitionCount cs + (e - transitionCount cs) ≡ e = omega arith in
-          let i-in : e - transitionCount cs < stateCount cs = omega arith in
-          let l-is : e - transitionCount cs ≡ l = sym (ap (λ x. x .source) (ap (edge (twin cs)) (sym e-is) ∙ edge-idle cs (e - transitionCount cs) i-in)) ∙ z in
-          let lits : of e (twin cs .literals) ≡ map (literal cs false) (triedBefore cs l 17) ++ [] =
-          ap (λ n. of n (twin cs .literals)) (sym e-is) ∙ of-idle cs (literalsOf cs) (idleLiterals cs) (e - transitionCount cs) i-in ∙ ap (λ w. map (literal cs false) (triedBefore cs w 17)) l-is ∙ sym (append-nil (map (literal cs false) (triedBefore cs l 17))) in
-          read-nots k l (triedBefore cs l 17) [] (above-from l 17) (λ m. absurd m) (subst (λ w. T (mem k (clocksIn w))) lits j)
+      go : (o : Origin) → IsOrigin cs o → edge (twin cs) (edgeNumber cs o) .source ≡ l → T (mem k (clocksIn (of (edgeNumber cs o) (twin cs .literals)))) → Timing cs l k
+      go (from-transition t) t-in z j =
+          let s-is : transition cs t .source ≡ l = sym (ap (λ x. x .source) (edge-of cs (from-transition t) t-in)) ∙ z in
+          let lits : of t (twin cs .literals) ≡ map (literal cs false) (triedBefore cs l (transition cs t .priority)) ++ (literal cs true t ∷ []) =
+          of-origin cs (literalsOf cs) (from-transition t) t-in ∙ ap (λ w. map (literal cs false) (triedBefore cs w (transition cs t .priority)) ++ (literal cs true t ∷ [])) s-is in
+          read-nots k l (triedBefore cs l (transition cs t .priority)) (literal cs true t ∷ []) (above-from l (transition cs t .priority)) (own-one t t-in s-is) (subst (λ w. T (mem k (clocksIn w))) lits j)
+      go (from-idling s) s-in z j =
+          let nots : ℕ → List Literal = λ w. map (literal cs false) (triedBefore cs w (mostPriorities + 1)) in
+          let l-is : s ≡ l = sym (ap (λ x. x .source) (edge-of cs (from-idling s) s-in)) ∙ z in
+          let lits : of (edgeNumber cs (from-idling s)) (twin cs .literals) ≡ map (literal cs false) (triedBefore cs l (mostPriorities + 1)) ++ [] =
+          of-origin cs (literalsOf cs) (from-idling s) s-in ∙ ap nots l-is ∙ sym (append-nil (nots l)) in
+          read-nots k l (triedBefore cs l (mostPriorities + 1)) [] (above-from l (mostPriorities + 1)) (λ m. absurd m) (subst (λ w. T (mem k (clocksIn w))) lits j)
 
   pub corresponds-alike : (r q : Run) → Alike cs r q → Corresponds cs (twin cs) r q
   corresponds-alike r q al = record {

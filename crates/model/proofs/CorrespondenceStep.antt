@@ -9,9 +9,11 @@ use native.Mathlib.Omega.{arith}
 use lib.Dec.{T, eqb, eqb→eq}
 use lib.ListN.{length, getD, set, length-set}
 use lib.Seq.{getD-set-same, getD-set-other, set-getD}
-use Rattle.records.specs.Lists.{mem}
+use Rattle.prelude.specs.Lists.{mem}
 use Rattle.records.specs.Refusal.{Out, val, fault, _>>=_, choose}
-use Rattle.model.specs.Owned.{of, home}
+use Rattle.model.specs.Limits.{mostCharts, mostStates, mostTransitions, mostVariables, mostClocks, mostPriorities}
+use Rattle.prelude.specs.Owned.{of}
+use Rattle.model.specs.Owned.{home}
 use Rattle.model.specs.Runs.{World, Run, Answer, taken, idle, time, Deed, deeds, present, guardHolds, noVariable, inBounds}
 use Rattle.model.specs.ChartSet as C
 use Rattle.model.specs.ChartSet.{ChartSet, Trigger, transition}
@@ -20,34 +22,35 @@ use Rattle.model.specs.ChartFile.{prioritiesDiffer}
 use Rattle.model.specs.AutomataTable as A
 use Rattle.model.specs.AutomataTable.{Clock, edge, clockAt}
 use Rattle.model.specs.Automata.{top, reset, literalTriggerHolds, conditionHolds, openEdges, theOne, edgeStep}
-use Rattle.model.specs.Translation.{stateCount, transitionCount, idleOf, clocksOf, clockOf, literalTriggerOf, literal, updatesOf, clocksLeaving, resetsOf, twin}
+use Rattle.model.specs.Translation.{from-transition, from-idling, stateCount, transitionCount, edgeNumber, edgeOf, clocksOf, clockOf, literalTriggerOf, literal, updatesOf, clocksLeaving, resetsOf, twin}
 use Rattle.model.specs.Correspondence.{clockFor, AnswersMatch}
-use Rattle.model.proofs.BoolLaws.{is-false, of-true, not-of, eqb-ne}
+use Rattle.prelude.proofs.Bools.{is-false, of-true, not-of, eqb-ne}
 use Rattle.model.proofs.CorrespondenceTime.{timingHolds, clockFor-holds, clockFor-fresh}
 use Rattle.model.proofs.ChartsRow.{row-mem}
 use Rattle.model.proofs.AutomataOpen.{edgeFor, firstThat-mem}
-use Rattle.model.proofs.TranslationEdges.{edge-transition, edge-idle, of-transition, of-idle, openEdges-first}
+use Rattle.model.proofs.TranslationOrigins.{edge-of, of-origin}
+use Rattle.model.proofs.TranslationEdges.{openEdges-first}
 use Rattle.model.proofs.TranslationClocks.{Timing, clockOf-at, clockOf-in, clockOf-injective, clocksLeaving-mem, mem-clocksLeaving, length-reset, reset-out, reset-le, reset-in}
 use Rattle.model.proofs.WorldDeeds.{Valued, Kept, deeds-kept, acted-updates}
 
 -- what an accepted set has
 pub record Sound (cs : ChartSet) : Type 0 where
-  pub charts-fit : length (cs .initial) ≤ 8
-  pub states-fit : stateCount cs ≤ 128
-  pub transitions-fit : transitionCount cs ≤ 256
-  pub variables-fit : length (cs .variables) ≤ 64
-  pub clocks-fit : length (twin cs .clocks) ≤ 256
+  pub charts-fit : length (cs .initial) ≤ mostCharts
+  pub states-fit : stateCount cs ≤ mostStates
+  pub transitions-fit : transitionCount cs ≤ mostTransitions
+  pub variables-fit : length (cs .variables) ≤ mostVariables
+  pub clocks-fit : length (twin cs .clocks) ≤ mostClocks
   pub ticking : (k : ℕ) → k < length (twin cs .clocks) → 0 < clockAt (twin cs) k .ticks
   pub same-chart : (t : ℕ) → t < transitionCount cs → home (cs .homes) (transition cs t .source) ≡ home (cs .homes) (transition cs t .target)
   pub targets : (t : ℕ) → t < transitionCount cs → transition cs t .target < stateCount cs
-  pub ranks : (t : ℕ) → t < transitionCount cs → (1 ≤ transition cs t .priority) × (transition cs t .priority ≤ 16)
+  pub ranks : (t : ℕ) → t < transitionCount cs → (1 ≤ transition cs t .priority) × (transition cs t .priority ≤ mostPriorities)
   pub differ : (s : ℕ) → s < stateCount cs → T (prioritiesDiffer cs s)
   pub initials : (c : ℕ) → c < length (cs .initial) → (getD (cs .initial) c 0 < stateCount cs) × (home (cs .homes) (getD (cs .initial) c 0) ≡ c)
   pub starts : (v : ℕ) → T (inBounds (getD (cs .variables) v noVariable) (getD (cs .variables) v noVariable .start))
 
 -- each chart in a state of its own
 pub record Placed (cs : ChartSet) (at : List ℕ) : Type 0 where
-  pub room : length at ≡ 8
+  pub room : length at ≡ mostCharts
   pub home : (c : ℕ) → c < length (cs .initial) → (getD at c 0 < stateCount cs) × (home (cs .homes) (getD at c 0) ≡ c)
   pub rest : (k : ℕ) → length (cs .initial) ≤ k → getD at k 0 ≡ 0
 
@@ -55,10 +58,10 @@ pub record Placed (cs : ChartSet) (at : List ℕ) : Type 0 where
 pub record Timed (cs : ChartSet) (at ages clocks : List ℕ) (cycles : ℕ) : Type 0 where
   pub same : (c t : ℕ) (x : Clock) → c < length (cs .initial) → t < transitionCount cs → transition cs t .source ≡ getD at c 0 → clocksOf (transition cs t .trigger) ≡ x ∷ [] →
       getD clocks (clockOf cs t) 0 ≡ clockFor (x .timing) (x .ticks) (getD ages c 0)
-  pub age-room : length ages ≡ 8
+  pub age-room : length ages ≡ mostCharts
   pub age-low : (c : ℕ) → c < length (cs .initial) → getD ages c 0 ≤ cycles
   pub age-rest : (k : ℕ) → length (cs .initial) ≤ k → getD ages k 0 ≡ 0
-  pub clock-room : length clocks ≡ 256
+  pub clock-room : length clocks ≡ mostClocks
   pub clock-low : (k : ℕ) → k < length (twin cs .clocks) → getD clocks k 0 ≤ top (clockAt (twin cs) k .timing) (clockAt (twin cs) k .ticks)
   pub clock-rest : (k : ℕ) → length (twin cs .clocks) ≤ k → getD clocks k 0 ≡ 0
 
@@ -74,7 +77,7 @@ abbrev pub StepTaken : ChartSet → Run → Answer → Answer → Run → Type 0
 StepTaken cs r (taken t) (taken e) r₁ =
     let c = r .world .position - 1 in
     (e ≡ t) × (t < transitionCount cs) × (transition cs t .source ≡ getD (r .at) c 0) × (r₁ .at ≡ set (r .at) c (transition cs t .target))
-StepTaken cs r idle (taken e) r₁ = (e ≡ transitionCount cs + getD (r .at) (r .world .position - 1) 0) × (r₁ .at ≡ r .at)
+StepTaken cs r idle (taken e) r₁ = (e ≡ edgeNumber cs (from-idling (getD (r .at) (r .world .position - 1) 0))) × (r₁ .at ≡ r .at)
 StepTaken cs r (taken t) idle r₁ = ⊥
 StepTaken cs r (taken t) time r₁ = ⊥
 StepTaken cs r idle idle r₁ = ⊥
@@ -131,10 +134,10 @@ module _ (cs : ChartSet) (ok : Sound cs) (r q : Run) (al : Alike cs r q) (c : �
     in-states = al .placed .home c c-in .0
 
     c-place : c < length (r .at)
-    c-place = let k : length (cs .initial) ≤ 8 = ok .charts-fit in let j : length (r .at) ≡ 8 = al .placed .room in omega arith
+    c-place = let k : length (cs .initial) ≤ mostCharts = ok .charts-fit in let j : length (r .at) ≡ mostCharts = al .placed .room in omega arith
 
     c-age : c < length (r .timers)
-    c-age = let k : length (cs .initial) ≤ 8 = ok .charts-fit in let j : length (r .timers) ≡ 8 = al .timed .age-room in omega arith
+    c-age = let k : length (cs .initial) ≤ mostCharts = ok .charts-fit in let j : length (r .timers) ≡ mostCharts = al .timed .age-room in omega arith
 
     -- ---- a transition taken
 
@@ -190,8 +193,8 @@ module _ (cs : ChartSet) (ok : Sound cs) (r q : Run) (al : Alike cs r q) (c : �
               let dc : d ≡ c = eqb→eq d c (of-true p) in
               let e′ : transition cs u .source ≡ g = e ∙ ap (λ n. getD (set (r .at) c g) n 0) dc ∙ getD-set-same (r .at) c g 0 c-place in
               let k : clockOf cs u < length (twin cs .clocks) = clockOf-in cs u x u-in f in
-              let fit : length (twin cs .clocks) ≤ 256 = ok .clocks-fit in
-              let room : length (q .timers) ≡ 256 = al .timed .clock-room in
+              let fit : length (twin cs .clocks) ≤ mostClocks = ok .clocks-fit in
+              let room : length (q .timers) ≡ mostClocks = al .timed .clock-room in
               reset-in (clocksLeaving cs g) (q .timers) (clockOf cs u) (mem-clocksLeaving cs g u x u-in e′ f) (omega arith)
               ∙ sym (ap (clockFor (x .timing) (x .ticks)) (ap (λ n. getD (set (r .timers) c 0) n 0) dc ∙ getD-set-same (r .timers) c 0 0 c-age) ∙ clockFor-fresh (x .timing) (x .ticks))
           clock-part d u x d-in u-in e f false p =
@@ -246,48 +249,48 @@ module _ (cs : ChartSet) (ok : Sound cs) (r q : Run) (al : Alike cs r q) (c : �
     unfolding along-edge along
     took t m op =
         subst (λ z. StepsMatch cs r q (follow cs c r (some t)) z) (sym same)
-        (subst (λ o. StepsMatch cs r q (o >>= λ w. val (taken t, record { at = set (r .at) c (transition cs t .target); timers = set (r .timers) c 0; world = w })) (along t (updatesOf cs t) (resetsOf cs t) (transition cs t .target) (r .world)))
+        (subst (λ o. StepsMatch cs r q (o >>= λ w. val (taken t, record { at = set (r .at) c (transition cs t .target); timers = set (r .timers) c 0; world = w })) (along t (updatesOf cs (from-transition t)) (resetsOf cs (from-transition t)) (transition cs t .target) (r .world)))
         (sym (acted-updates cs t (r .world)))
-        (done (deeds (cs .nodes) (cs .variables) (updatesOf cs t) (r .world)) refl))
+        (done (deeds (cs .nodes) (cs .variables) (updatesOf cs (from-transition t)) (r .world)) refl))
       where
         t-in : t < transitionCount cs
         t-in = row-mem cs (getD (r .at) c 0) t m .0
 
-        same : along-edge t ≡ along t (updatesOf cs t) (resetsOf cs t) (transition cs t .target) (r .world)
+        same : along-edge t ≡ along t (updatesOf cs (from-transition t)) (resetsOf cs (from-transition t)) (transition cs t .target) (r .world)
         same = λ i. along t
-            (of-transition cs (updatesOf cs) (λ s. []) t t-in i)
-            (of-transition cs (resetsOf cs) (λ s. []) t t-in i)
-            (edge-transition cs t t-in i .target)
+            (of-origin cs (updatesOf cs) (from-transition t) t-in i)
+            (of-origin cs (resetsOf cs) (from-transition t) t-in i)
+            (edge-of cs (from-transition t) t-in i .target)
             (sym (al .worlds) i)
 
         taken-from : transition cs t .source ≡ getD (r .at) (r .world .position - 1) 0
         taken-from = row-mem cs (getD (r .at) c 0) t m .1 ∙ ap (λ n. getD (r .at) n 0) (sym here)
 
-        done : (o : Out World) → deeds (cs .nodes) (cs .variables) (updatesOf cs t) (r .world) ≡ o →
+        done : (o : Out World) → deeds (cs .nodes) (cs .variables) (updatesOf cs (from-transition t)) (r .world) ≡ o →
             StepsMatch cs r q
             (o >>= λ w. val (taken t, record { at = set (r .at) c (transition cs t .target); timers = set (r .timers) c 0; world = w }))
             (o >>= λ w. val (taken t, record { at = set (q .at) c (transition cs t .target); timers = reset (clocksLeaving cs (transition cs t .target)) (q .timers); world = w }))
         done (fault w) e = refl
         done (val w) e =
-            let k : Kept (cs .variables) (r .world) w = deeds-kept (cs .nodes) (cs .variables) (updatesOf cs t) (r .world) w e in
+            let k : Kept (cs .variables) (r .world) w = deeds-kept (cs .nodes) (cs .variables) (updatesOf cs (from-transition t)) (r .world) w e in
             ((refl, opened t op), (refl, t-in, taken-from, ap (λ n. set (r .at) n (transition cs t .target)) (sym here)), k .0, k .1, entered t m w k)
 
-    stayed : openEdges (twin cs) c q ≡ val ((transitionCount cs + getD (r .at) c 0) ∷ []) → StepsMatch cs r q (follow cs c r none) (along-edge (transitionCount cs + getD (r .at) c 0))
+    stayed : openEdges (twin cs) c q ≡ val ((edgeNumber cs (from-idling (getD (r .at) c 0))) ∷ []) → StepsMatch cs r q (follow cs c r none) (along-edge (edgeNumber cs (from-idling (getD (r .at) c 0))))
     unfolding along-edge along deeds reset
     stayed op =
         subst (λ z. StepsMatch cs r q (follow cs c r none) z) (sym same)
-        ((ap (λ x. x .idles) ed, source-there, target-there, opened k op), (ap (λ n. transitionCount cs + getD (r .at) n 0) (sym here), refl), refl, refl, idled)
+        ((ap (λ x. x .idles) ed, source-there, target-there, opened k op), (ap (λ n. edgeNumber cs (from-idling (getD (r .at) n 0))) (sym here), refl), refl, refl, idled)
       where
         k : ℕ
-        k = transitionCount cs + getD (r .at) c 0
+        k = edgeNumber cs (from-idling (getD (r .at) c 0))
 
-        ed : edge (twin cs) k ≡ idleOf cs (getD (r .at) c 0)
-        ed = edge-idle cs (getD (r .at) c 0) in-states
+        ed : edge (twin cs) k ≡ edgeOf cs (from-idling (getD (r .at) c 0))
+        ed = edge-of cs (from-idling (getD (r .at) c 0)) in-states
 
         same : along-edge k ≡ along k [] [] (getD (r .at) c 0) (q .world)
         same = λ i. along k
-            (of-idle cs (updatesOf cs) (λ s. []) (getD (r .at) c 0) in-states i)
-            (of-idle cs (resetsOf cs) (λ s. []) (getD (r .at) c 0) in-states i)
+            (of-origin cs (updatesOf cs) (from-idling (getD (r .at) c 0)) in-states i)
+            (of-origin cs (resetsOf cs) (from-idling (getD (r .at) c 0)) in-states i)
             (ed i .target)
             (q .world)
 
@@ -305,7 +308,7 @@ module _ (cs : ChartSet) (ok : Sound cs) (r q : Run) (al : Alike cs r q) (c : �
         (transitionHolds cs (r .world) (getD (r .timers) c 0)) literal-holds (ap (λ l. getD l c 0) (sym (al .ats))))
       where
         go : (o : Out (Option ℕ)) → firstThat (transitionHolds cs (r .world) (getD (r .timers) c 0)) (row cs (getD (r .at) c 0)) ≡ o →
-            openEdges (twin cs) c q ≡ (o >>= λ a. val (edgeFor (transitionCount cs + getD (r .at) c 0) a ∷ [])) →
+            openEdges (twin cs) c q ≡ (o >>= λ a. val (edgeFor (edgeNumber cs (from-idling (getD (r .at) c 0))) a ∷ [])) →
             StepsMatch cs r q (o >>= follow cs c r) (openEdges (twin cs) c q >>= λ os. theOne os >>= along-edge)
         go (fault w) e op = subst (λ z. StepsMatch cs r q (fault w) (z >>= λ os. theOne os >>= along-edge)) (sym op) refl
         go (val (some t)) e op =

@@ -9,7 +9,7 @@ use Rattle.model.specs.Charts.{afterHolds, everyHolds}
 use Rattle.model.specs.AutomataTable.{Timing, after, every}
 use Rattle.model.specs.Automata.{top, grown}
 use Rattle.model.specs.Correspondence.{clockFor}
-use Rattle.model.proofs.BoolLaws.{is-true, of-true, ne→eqb, eqb-ne, eqb-iff}
+use Rattle.prelude.proofs.Bools.{is-true, of-true, ne→eqb, eqb-ne, eqb-iff}
 
 -- what stands for a timing trigger in a chart
 abbrev pub timingHolds : Timing → ℕ → ℕ → Bool

@@ -7,7 +7,7 @@ use native.Mathlib.Nat.{zero-add}
 use native.Mathlib.Omega.{arith}
 use lib.Dec.{eqb, leb, ltb, lt→ltb, ltb→lt, leb→le, nleb→lt, nltb→le}
 use lib.ListN.{length, getD, List·getD-eq-default}
-use Rattle.records.specs.Lists.{mapFrom}
+use Rattle.prelude.specs.Lists.{mapFrom}
 use Rattle.records.specs.Refusal.{Out, val, fault, _>>=_}
 use Rattle.model.specs.Runs.{Run, Answer, taken, idle, time, setEvents, give, moved, timePassed, stepped}
 use Rattle.model.specs.ChartSet.{ChartSet}
@@ -16,8 +16,8 @@ use Rattle.model.specs.AutomataTable.{clockAt}
 use Rattle.model.specs.Automata.{grown, edgeStep, automata}
 use Rattle.model.specs.Translation.{clockOf, twin}
 use Rattle.model.specs.Correspondence.{clockFor, AnswersMatch}
-use Rattle.model.proofs.BoolLaws.{is-true, is-false, of-true, clash, not-of, not-false}
-use Rattle.model.proofs.ListLaws.{getD-mapFrom, length-mapFrom}
+use Rattle.prelude.proofs.Bools.{is-true, is-false, of-true, clash, not-of, not-false}
+use Rattle.prelude.proofs.Lists.{getD-mapFrom, length-mapFrom}
 use Rattle.model.proofs.CorrespondenceTime.{clockFor-grown, grown-top}
 use Rattle.model.proofs.TranslationClocks.{clockOf-at, clockOf-in}
 use Rattle.model.proofs.CorrespondenceStep.{Sound, Timed, Alike, StepTaken, StepsMatch, chartStep-edgeStep}

@@ -1,9 +1,7 @@
-pub mod BoolLaws
-pub mod ListLaws
-pub mod Sorting
 pub mod ChartsRow
 pub mod AutomataOpen
 pub mod CorrespondenceTime
+pub mod TranslationOrigins
 pub mod TranslationEdges
 pub mod TranslationClocks
 pub mod WorldDeeds
@@ -16,7 +14,6 @@ pub mod CorrespondenceTrace
 pub mod ChecksKept
 pub mod CorrespondenceCalls
 pub mod ChartFile
-pub mod Sums
 pub mod TranslationCounts
 pub mod TranslationNames
 pub mod ChartFileSound
@@ -31,15 +28,3 @@ pub mod TranslationAccepted
 pub mod TakenPath
 pub mod CorrespondenceDemand3
 pub mod TakenPathTwin
-pub mod ExampleSets
-pub mod ExampleFiles
-mod MarkedExamples
-mod ChartExamples
-mod CheckExamples
-mod PathExamples
-mod FileExamples
-mod TwinExamples
-mod BoundaryLimitExamples
-mod BoundaryFileExamples
-mod BoundaryTableExamples
-mod BoundaryRunExamples

@@ -5,10 +5,11 @@ use mathlib.Core.Bool.{Bool, true, false, not, cond, _&&_}
 use mathlib.Core.List.{List, [], _∷_, _++_, append-assoc}
 use Prim.Native.Nat.{ℕ, _+_, _-_, _≤_, _<_}
 use native.Mathlib.Omega.{arith}
-use lib.Dec.{T, ltb, eqb, eqb→eq, lt→ltb, ltb→lt}
+use lib.Dec.{T, ltb, eqb, eqb→eq, lt→ltb}
 use lib.ListN.{length, getD, set, replicate, length-set, List·getD-append}
 use lib.Seq.{getD-set-same, getD-set-other, set-getD}
 use Rattle.records.specs.Refusal.{broken-path, Out, val, fault, _>>=_, fault-if, unless-refused}
+use Rattle.model.specs.Limits.{mostCharts, mostCycles}
 use Rattle.model.specs.Owned.{home}
 use Rattle.model.specs.Outcome.{settled}
 use Rattle.model.specs.Runs.{Run, Answer, taken, idle, time, start, give, Call, inputEvents, Trace, done, stopped, turned, trace, ended}
@@ -18,12 +19,12 @@ use Rattle.model.specs.ChartFile.{chartsRefusal}
 use Rattle.model.specs.AutomataTable.{Edge, edge, readAutomata}
 use Rattle.model.specs.Automata.{automata}
 use Rattle.model.specs.AutomataFile.{automataRefusal}
-use Rattle.model.specs.Translation.{stateCount, transitionCount, edgeOf, idleOf, twin}
-use Rattle.model.specs.PathBack.{Walk, Row, timeMark, walkStart, timeFits, edgeFits, stepFits, walked, stepRows, ledBack, rowsWritten, pathBack}
+use Rattle.model.specs.Translation.{Origin, from-transition, from-idling, stateCount, transitionCount, origins, edgeNumber, edgeOf, twin}
+use Rattle.model.specs.PathBack.{Walk, Row, timeMark, walkStart, timeFits, edgeFits, stepFits, walked, rowsFrom, stepRows, ledBack, rowsWritten, pathBack}
 use Rattle.model.specs.Calls.{chartSets}
 use Rattle.model.specs.TakenPath.{markOf, rowOf, whenDone, ofTurns, ofTrace, ofCalls, takenPath, takenRows}
-use Rattle.model.proofs.BoolLaws.{is-true, is-false, of-true, not-of, both-of, eq→eqb, ne→eqb, eqb-ne}
-use Rattle.model.proofs.TranslationEdges.{edge-transition, edge-idle, edges-count}
+use Rattle.prelude.proofs.Bools.{is-true, of-true, both-of, eq→eqb, ne→eqb, eqb-ne}
+use Rattle.model.proofs.TranslationOrigins.{origins-count, edges-count, edgeNumber-in, originOf-edgeNumber, originOf-past, edge-of}
 use Rattle.model.proofs.CallsTrace.{runLeft}
 use Rattle.model.proofs.CorrespondenceStep.{Sound, Placed}
 use Rattle.model.proofs.ChartFileSound.{sound}
@@ -71,19 +72,17 @@ led-then cs p₁ p₂ rows₁ rows₂ w r₁ r₂ l m = record {
 
 -- ---- one turn
 
-module _ (cs : ChartSet) (ok : Sound cs) (w : Walk) (r r₁ : Run) (b : Beside cs w r) (placed : Placed cs (r .at)) (low : 1 ≤ r .world .position) (few : r .world .cycles ≤ 999_999) where
-  in-time : T (ltb (w .cycles) 1_000_000)
-  in-time = let e : w .cycles ≡ r .world .cycles = b .cycles in lt→ltb (w .cycles) 1_000_000 (omega arith)
+module _ (cs : ChartSet) (ok : Sound cs) (w : Walk) (r r₁ : Run) (b : Beside cs w r) (placed : Placed cs (r .at)) (low : 1 ≤ r .world .position) (few : r .world .cycles ≤ mostCycles - 1) where
+  in-time : T (ltb (w .cycles) mostCycles)
+  in-time = let e : w .cycles ≡ r .world .cycles = b .cycles in lt→ltb (w .cycles) mostCycles (omega arith)
 
   -- an edge of the automaton whose turn it is, which leaves where that stands
-  module _ (e : ℕ) (x : Edge) (is : edge (twin cs) e ≡ x) (e-in : e < transitionCount cs + stateCount cs)
+  module _ (e : ℕ) (x : Edge) (is : edge (twin cs) e ≡ x) (e-in : e < length (origins cs))
       (turn : r .world .position ≤ length (cs .initial)) (own : x .automaton ≡ r .world .position - 1) (there : x .source ≡ getD (r .at) (r .world .position - 1) 0)
       (goes : r₁ .at ≡ set (r .at) (r .world .position - 1) (x .target)) (next-position : r₁ .world .position ≡ r .world .position + 1) (same-cycle : r₁ .world .cycles ≡ r .world .cycles) where
     no-time : eqb e timeMark ≡ false
     no-time =
-        let k : transitionCount cs ≤ 256 = ok .transitions-fit in
-        let j : stateCount cs ≤ 128 = ok .states-fit in
-        ne→eqb {a = e} {b = timeMark} (λ d. omega arith)
+        ne→eqb {a = e} {b = timeMark} (λ d. omega (arith, origins-count cs, ok .transitions-fit, ok .states-fit))
 
     edge-fits : T (edgeFits cs e w)
     edge-fits =
@@ -99,7 +98,7 @@ module _ (cs : ChartSet) (ok : Sound cs) (w : Walk) (r r₁ : Run) (b : Beside c
     step-fits : stepFits cs e w ≡ true
     step-fits =
         is-true {b = stepFits cs e w}
-        (both-of (ltb (w .cycles) 1_000_000) (cond (eqb e timeMark) (timeFits cs w) (edgeFits cs e w)) in-time
+        (both-of (ltb (w .cycles) mostCycles) (cond (eqb e timeMark) (timeFits cs w) (edgeFits cs e w)) in-time
         (subst (λ p. T (cond p (timeFits cs w) (edgeFits cs e w))) (sym no-time) edge-fits))
 
     after : Walk
@@ -125,7 +124,7 @@ module _ (cs : ChartSet) (ok : Sound cs) (w : Walk) (r r₁ : Run) (b : Beside c
         go c c-in true p =
             let d : c ≡ r .world .position - 1 = eqb→eq c (r .world .position - 1) (of-true p) in
             let i : r .world .position - 1 < length (w .locations) = omega (arith, b .room) in
-            let k : length (cs .initial) ≤ 8 = ok .charts-fit in
+            let k : length (cs .initial) ≤ mostCharts = ok .charts-fit in
             let j : r .world .position - 1 < length (r .at) = omega (arith, placed .room) in
             ap (λ n. getD (set (w .locations) (r .world .position - 1) (x .target)) n 0) d
             ∙ getD-set-same (w .locations) (r .world .position - 1) (x .target) 0 i
@@ -150,19 +149,18 @@ module _ (cs : ChartSet) (ok : Sound cs) (w : Walk) (r r₁ : Run) (b : Beside c
       let t-in : t < transitionCount cs = g .0 .1 in
       let own : home (cs .homes) (transition cs t .source) ≡ r .world .position - 1 = ap (home (cs .homes)) (g .0 .2) ∙ placed .home (r .world .position - 1) (omega (arith, g .1)) .1 in
       subst (λ n. Led cs (n ∷ []) (rowOf r (taken t)) w r₁) (sym (g .0 .0))
-      (edge-led t (edgeOf cs t) (edge-transition cs t t-in) (omega arith) (g .1) own (g .0 .2) (g .0 .3) (g .2) (g .3) (rowOf r (taken t))
-      (λ i. cond (is-true {b = ltb t (transitionCount cs)} (lt→ltb t (transitionCount cs) t-in) i) (record { cycle = b .cycles i; chart = b .position i - 1; transition = t } ∷ []) []))
+      (edge-led t (edgeOf cs (from-transition t)) (edge-of cs (from-transition t) t-in) (edgeNumber-in cs (from-transition t) t-in) (g .1) own (g .0 .2) (g .0 .3) (g .2) (g .3) (rowOf r (taken t))
+      (ap (λ o. rowsFrom cs o w) (originOf-edgeNumber cs (from-transition t) t-in) ∙ (λ i. record { cycle = b .cycles i; chart = b .position i - 1; transition = t } ∷ [])))
   turn-led high idle (taken e) g q₀ =
       let c-in : r .world .position - 1 < length (cs .initial) = omega (arith, g .1) in
       let home : (getD (r .at) (r .world .position - 1) 0 < stateCount cs) × (home (cs .homes) (getD (r .at) (r .world .position - 1) 0) ≡ r .world .position - 1) = placed .home (r .world .position - 1) c-in in
       let s-in : getD (r .at) (r .world .position - 1) 0 < stateCount cs = home .0 in
       subst (λ n. Led cs (n ∷ []) [] w r₁) (sym (g .0 .0))
-      (edge-led (transitionCount cs + getD (r .at) (r .world .position - 1) 0) (idleOf cs (getD (r .at) (r .world .position - 1) 0)) (edge-idle cs (getD (r .at) (r .world .position - 1) 0) s-in) (omega arith) (g .1) (home .1) refl
-      (g .0 .1 ∙ sym (set-getD (r .at) (r .world .position - 1) 0)) (g .2) (g .3) []
-      (ap (λ p. cond p (record { cycle = w .cycles; chart = w .position - 1; transition = transitionCount cs + getD (r .at) (r .world .position - 1) 0 } ∷ []) []) (not-below (getD (r .at) (r .world .position - 1) 0))))
+      (edge-led (edgeNumber cs o) (edgeOf cs o) (edge-of cs o s-in) (edgeNumber-in cs o s-in) (g .1) (home .1) refl
+      (g .0 .1 ∙ sym (set-getD (r .at) (r .world .position - 1) 0)) (g .2) (g .3) [] (ap (λ o. rowsFrom cs o w) (originOf-edgeNumber cs o s-in)))
     where
-      not-below : (s : ℕ) → ltb (transitionCount cs + s) (transitionCount cs) ≡ false
-      not-below s = is-false {b = ltb (transitionCount cs + s) (transitionCount cs)} (not-of (ltb (transitionCount cs + s) (transitionCount cs)) (λ t. let z : transitionCount cs + s < transitionCount cs = ltb→lt (transitionCount cs + s) (transitionCount cs) t in omega arith))
+      o : Origin
+      o = from-idling (getD (r .at) (r .world .position - 1) 0)
   turn-led high time time g q₀ = record {
     end = record { locations = w .locations; position = 1; cycles = w .cycles + 1 };
     beside = record {
@@ -178,13 +176,10 @@ module _ (cs : ChartSet) (ok : Sound cs) (w : Walk) (r r₁ : Run) (b : Beside c
       fits =
           let past : length (cs .initial) < r .world .position = g .0 in
           let p : w .position ≡ r .world .position = b .position in
-          is-true {b = stepFits cs timeMark w} (both-of (ltb (w .cycles) 1_000_000) (timeFits cs w) in-time (of-true (eq→eqb {a = w .position} {b = length (cs .initial) + 1} (omega arith))))
+          is-true {b = stepFits cs timeMark w} (both-of (ltb (w .cycles) mostCycles) (timeFits cs w) in-time (of-true (eq→eqb {a = w .position} {b = length (cs .initial) + 1} (omega arith))))
 
       no-row : stepRows cs timeMark w ≡ []
-      no-row =
-          let k : transitionCount cs ≤ 256 = ok .transitions-fit in
-          ap (λ p. cond p (record { cycle = w .cycles; chart = w .position - 1; transition = timeMark } ∷ []) [])
-          (is-false {b = ltb timeMark (transitionCount cs)} (not-of (ltb timeMark (transitionCount cs)) (λ t. let z : timeMark < transitionCount cs = ltb→lt timeMark (transitionCount cs) t in omega arith)))
+      no-row = ap (λ o. rowsFrom cs o w) (originOf-past cs timeMark (omega (arith, origins-count cs, ok .transitions-fit, ok .states-fit)))
 
       time-led : (rest : List ℕ) → ledBack cs (timeMark ∷ rest) w ≡ (ledBack cs rest (record { locations = w .locations; position = 1; cycles = w .cycles + 1 }) >>= λ more. val more)
       time-led rest = λ i. fault-if (not (fits i)) broken-path >>= λ _. (ledBack cs rest (record { locations = w .locations; position = 1; cycles = w .cycles + 1 }) >>= λ more. val (no-row i ++ more))

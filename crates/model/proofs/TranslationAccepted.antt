@@ -7,7 +7,7 @@ use Prim.Native.Nat.{ℕ, _*_, _≤_}
 use native.Mathlib.Omega.{arith}
 use lib.Dec.{T, ltb}
 use lib.ListN.{length}
-use Rattle.records.specs.Lists.{all}
+use Rattle.prelude.specs.Lists.{all}
 use Rattle.records.specs.Refusal.{Refusal, bad-table, lowest}
 use Rattle.records.specs.Bytes.{records}
 use Rattle.records.specs.Framing.{oddLength, unorderedKinds, wrongAmounts}
@@ -17,8 +17,8 @@ use Rattle.model.specs.ChartFile.{chartsRefusal, unusedAreZero}
 use Rattle.model.specs.AutomataTable.{Automata, readAutomata, writeAutomata}
 use Rattle.model.specs.AutomataFile.{automataLimits, unusedInTable, tableInCode, tableNamed, clocksTick, insideAutomata, idleEdgesStay, tableNodesFit, tableTests, automataRefusal}
 use Rattle.model.specs.Translation.{literalTriggerOf, twin, twinBytes}
-use Rattle.model.proofs.BoolLaws.{and-right, not-false}
-use Rattle.model.proofs.ListLaws.{all-imp, all-both, all-cons, all-nil}
+use Rattle.prelude.proofs.Bools.{and-right, not-false}
+use Rattle.prelude.proofs.Lists.{all-imp, all-both, all-cons, all-nil}
 use Rattle.model.proofs.AutomataTableRecords.{things, written-length}
 use Rattle.model.proofs.AutomataTableRead.{fitsVariable}
 use Rattle.model.proofs.AutomataFileFraming.{WithinLimits, written-even, written-ordered, written-within}

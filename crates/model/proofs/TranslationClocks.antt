@@ -9,7 +9,7 @@ use native.Mathlib.Omega.{arith}
 use lib.Dec.{T, ltb, eqb, eqb→eq, eqb-refl, ltb→lt, nltb→le}
 use lib.ListN.{length, getD, set, length-set}
 use lib.Seq.{set-out, getD-set-same, getD-set-other}
-use Rattle.records.specs.Lists.{upto, mem}
+use Rattle.prelude.specs.Lists.{upto, mem}
 use Rattle.model.specs.ChartSet as C
 use Rattle.model.specs.ChartSet.{ChartSet, Trigger, noTransition, transition}
 use Rattle.model.specs.Charts.{ticks}
@@ -17,8 +17,8 @@ use Rattle.model.specs.AutomataTable as A
 use Rattle.model.specs.AutomataTable.{Clock, noClock, clockAt}
 use Rattle.model.specs.Automata.{reset}
 use Rattle.model.specs.Translation.{transitionCount, clocksOf, clockOf, clocksLeaving, twin}
-use Rattle.model.proofs.BoolLaws.{to-left, to-right, or-right, of-true, clash, eq→eqb, eqb-ne}
-use Rattle.model.proofs.ListLaws.{gather-mem, mem-gather, from-mem, mem-from, gathered, gathered-in, gathered-less}
+use Rattle.prelude.proofs.Bools.{to-left, to-right, or-right, of-true, clash, eq→eqb, eqb-ne}
+use Rattle.prelude.proofs.Lists.{gather-mem, mem-gather, from-mem, mem-from, gathered, gathered-in, gathered-less}
 
 -- ---- resets
 

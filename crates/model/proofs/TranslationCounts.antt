@@ -4,23 +4,24 @@ use mathlib.Core.Option.{none}
 use mathlib.Core.Bool.{Bool, true, false, cond, _&&_}
 use mathlib.Core.List.{List, [], _∷_, _++_, map}
 use Prim.Native.Nat.{ℕ, _+_, _-_, _*_, _≤_, _<_, zero-le}
-use native.Mathlib.Nat.{le-trans, zero-add}
+use native.Mathlib.Nat.{le-trans}
 use native.Mathlib.Omega.{arith}
-use borrow.Author.Tests.{le-ltb, ltb-true}
+use borrow.Author.Tests.{ltb-true}
 use lib.Dec.{leb, ltb, eqb, eqb→eq}
 use lib.ListN.{length, take, length-append, length-map, length-take}
-use Rattle.records.specs.Lists.{keep, count, upto}
-use Rattle.records.proofs.FramingLaws.{length-keep}
-use Rattle.model.specs.Owned.{of, byOwner}
+use Rattle.prelude.specs.Lists.{keep, count, upto}
+use Rattle.prelude.proofs.Counts.{length-keep}
+use Rattle.model.specs.Limits.{mostEdges, mostLiterals, mostClocks, mostUpdates, mostResets, mostPriorities, mostOwned}
+use Rattle.prelude.specs.Owned.{of}
 use Rattle.model.specs.ChartSet as C
 use Rattle.model.specs.ChartSet.{ChartSet, Trigger, readCharts, transition, noTransition}
 use Rattle.model.specs.ChartFile.{chartsRefusal, leavingState, between}
-use Rattle.model.specs.AutomataTable.{bit}
-use Rattle.model.specs.Translation.{clocksOf, stateCount, transitionCount, onEdge, clockOf, literal, triedBefore, literalsOf, idleLiterals, updatesOf, clocksLeaving, resetsOf, twin}
-use Rattle.model.proofs.BoolLaws.{and-left, of-true, eqb-comm, eqb-ne}
-use Rattle.model.proofs.ListLaws.{length-gather, all-mapped, all-keep}
-use Rattle.model.proofs.TranslationEdges.{onEdge-transition, edges-count}
-use Rattle.model.proofs.Sums.{sumFrom, sum-le, sum-alike, sum-add, sum-most, sum-least, sum-append, sum-moved, sum-swap, sum-zero, count-from, once-most, once-least, count-keep, count-append, count-places, count-below, distinct-few, length-gathered, length-owned, length-of}
+use Rattle.prelude.specs.Lists.{bit}
+use Rattle.model.specs.Translation.{Origin, from-transition, from-idling, clocksOf, stateCount, transitionCount, byEdge, clockOf, literal, triedBefore, literalsOf, updatesOf, clocksLeaving, resetsOf, twin}
+use Rattle.prelude.proofs.Bools.{and-left, of-true, eqb-comm, eqb-ne}
+use Rattle.prelude.proofs.Lists.{length-gather, all-mapped, all-keep}
+use Rattle.model.proofs.TranslationOrigins.{origins-count, edges-count, byEdge-sum}
+use Rattle.prelude.proofs.Sums.{sumFrom, sum-le, sum-alike, sum-add, sum-most, sum-least, sum-append, sum-moved, sum-swap, sum-zero, count-from, once-most, once-least, count-keep, count-append, count-places, count-below, distinct-few, length-gathered, length-owned, length-of}
 use Rattle.model.proofs.ChartFile.{codedTransition, codedTrigger, states-few, transitions-few, transitions-coded, source-in, target-in, priority-low, priorities-differ, state-actions-few, transition-actions-few}
 
 pub clocksOf-few : (g : Trigger) → length (clocksOf g) ≤ 1
@@ -136,28 +137,17 @@ module _ (cs : ChartSet) where
 
   -- ---- of edges
 
-  -- all together: what the transitions' edges have, and what the idle ones have
-  pub onEdge-sum : {A : Type 0} (f g : ℕ → List A) →
-      length (byOwner (transitionCount cs + stateCount cs) (onEdge cs f g)) ≡ sumFrom (λ t. length (f t)) 0 (transitionCount cs) + sumFrom (λ z. length (g z)) 0 (stateCount cs)
-  onEdge-sum f g =
-      length-owned (transitionCount cs + stateCount cs) (onEdge cs f g)
-      ∙ sum-append (λ e. length (onEdge cs f g e)) 0 (transitionCount cs) (stateCount cs)
-      ∙ (λ i. sum-alike (λ e. length (onEdge cs f g e)) (λ t. length (f t)) 0 (transitionCount cs) (λ e a b. ap length (onEdge-transition cs f g e (omega arith))) i + idles i)
-    where
-      idle : (e : ℕ) → transitionCount cs ≤ e → e < transitionCount cs + stateCount cs → length (onEdge cs f g e) ≡ length (g (e - transitionCount cs))
-      idle e a b = rw (le-ltb e (transitionCount cs) a)
-
-      idles : sumFrom (λ e. length (onEdge cs f g e)) (0 + transitionCount cs) (stateCount cs) ≡ sumFrom (λ z. length (g z)) 0 (stateCount cs)
-      idles =
-          ap (λ k. sumFrom (λ e. length (onEdge cs f g e)) k (stateCount cs)) (zero-add (transitionCount cs))
-          ∙ sum-alike (λ e. length (onEdge cs f g e)) (λ e. length (g (e - transitionCount cs))) (transitionCount cs) (stateCount cs) idle
-          ∙ ap (λ k. sumFrom (λ e. length (g (e - transitionCount cs))) k (stateCount cs)) (let d : transitionCount cs ≡ transitionCount cs + 0 = omega arith in d)
-          ∙ sum-moved (λ z. length (g z)) (transitionCount cs) 0 (stateCount cs)
-
   -- each transition's edge has at most m, idle edges none
-  pub onEdge-most : {A : Type 0} (f : ℕ → List A) (m : ℕ) → ((t : ℕ) → t < transitionCount cs → length (f t) ≤ m) →
-      length (byOwner (transitionCount cs + stateCount cs) (onEdge cs f (λ z. []))) ≤ transitionCount cs * m
-  onEdge-most f m h = omega (arith, onEdge-sum f (λ z. []), sum-most (λ t. length (f t)) m 0 (transitionCount cs) (λ t l. h t (omega arith)), sum-zero 0 (stateCount cs))
+  pub byEdge-most : {A : Type 0} (f : Origin → List A) (m : ℕ) → ((t : ℕ) → t < transitionCount cs → length (f (from-transition t)) ≤ m) → ((z : ℕ) → length (f (from-idling z)) ≡ 0) →
+      length (byEdge cs f) ≤ transitionCount cs * m
+  byEdge-most f m h idle =
+      omega (
+        arith,
+        byEdge-sum cs f,
+        sum-most (λ t. length (f (from-transition t))) m 0 (transitionCount cs) (λ t l. h t (omega arith)),
+        sum-alike (λ z. length (f (from-idling z))) (λ z. 0) 0 (stateCount cs) (λ z a b. idle z),
+        sum-zero 0 (stateCount cs),
+      )
 
   -- ---- clocks
 
@@ -183,25 +173,25 @@ module _ (s : List ℕ) (ok : chartsRefusal s ≡ none) where
   cs = readCharts s
 
   -- priorities from 1 to 16, no two equal
-  pub leavers-few : (z : ℕ) → z < stateCount cs → leavers cs z ≤ 16
+  pub leavers-few : (z : ℕ) → z < stateCount cs → leavers cs z ≤ mostPriorities
   leavers-few z h =
       omega (
         arith,
         leavers-are cs z,
         length-map (leavingState cs z) (λ t. t .priority),
-        distinct-few 16 (map (λ t. t .priority) (leavingState cs z)) (priorities-differ s ok z h)
-            (all-mapped codedTransition (λ p. leb 1 p && leb p 16) (λ t. t .priority) (λ t u. and-left (between 1 16 (t .priority)) (codedTrigger (t .trigger)) u) (leavingState cs z)
+        distinct-few mostPriorities (map (λ t. t .priority) (leavingState cs z)) (priorities-differ s ok z h)
+            (all-mapped codedTransition (λ p. leb 1 p && leb p mostPriorities) (λ t. t .priority) (λ t u. and-left (between 1 mostPriorities (t .priority)) (codedTrigger (t .trigger)) u) (leavingState cs z)
             (all-keep codedTransition (λ t. eqb (t .source) z) (cs .transitions) (transitions-coded s ok))),
       )
 
-  pub edges-few : length (twin cs .edges) ≤ 384
-  edges-few = omega (arith, edges-count cs, transitions-few s ok, states-few s ok)
+  pub edges-few : length (twin cs .edges) ≤ mostEdges
+  edges-few = omega (arith, edges-count cs, origins-count cs, transitions-few s ok, states-few s ok)
 
-  pub clocks-few : length (twin cs .clocks) ≤ 256
+  pub clocks-few : length (twin cs .clocks) ≤ mostClocks
   clocks-few = le-trans (clocks-length cs) (transitions-few s ok)
 
   -- of one edge
-  pub updatesOf-few : (t : ℕ) → t < transitionCount cs → length (updatesOf cs t) ≤ 24
+  pub updatesOf-few : (t : ℕ) → t < transitionCount cs → length (updatesOf cs (from-transition t)) ≤ 3 * mostOwned
   updatesOf-few t h =
       omega (
         arith,
@@ -223,11 +213,11 @@ module _ (s : List ℕ) (ok : chartsRefusal s ≡ none) where
       target : ℕ
       target = transition cs t .target
 
-  pub resetsOf-few : (t : ℕ) → t < transitionCount cs → length (resetsOf cs t) ≤ 16
+  pub resetsOf-few : (t : ℕ) → t < transitionCount cs → length (resetsOf cs (from-transition t)) ≤ mostPriorities
   resetsOf-few t h = le-trans (clocksLeaving-length cs (transition cs t .target)) (leavers-few (transition cs t .target) (target-in s ok t h))
 
   -- its must-nots, and its own
-  pub literalsOf-few : (t : ℕ) → t < transitionCount cs → length (literalsOf cs t) ≤ nots cs t + 1
+  pub literalsOf-few : (t : ℕ) → t < transitionCount cs → length (literalsOf cs (from-transition t)) ≤ nots cs t + 1
   literalsOf-few t h =
       omega (
         arith,
@@ -237,28 +227,28 @@ module _ (s : List ℕ) (ok : chartsRefusal s ≡ none) where
         count-from (before cs (transition cs t .source) (transition cs t .priority)) 0 (transitionCount cs),
       )
 
-  pub idleLiterals-few : (z : ℕ) → length (idleLiterals cs z) ≤ leavers cs z
-  idleLiterals-few z = rw (length-map (triedBefore cs z 17) (literal cs false)) (triedBefore-leavers cs z 17 (omega arith))
+  pub idleLiterals-few : (z : ℕ) → length (literalsOf cs (from-idling z)) ≤ leavers cs z
+  idleLiterals-few z = rw (length-map (triedBefore cs z (mostPriorities + 1)) (literal cs false)) (triedBefore-leavers cs z (mostPriorities + 1) (omega arith))
 
   -- all together
-  pub updates-few : length (twin cs .updates) ≤ 6144
-  updates-few = omega (arith, onEdge-most cs (updatesOf cs) 24 updatesOf-few, transitions-few s ok)
+  pub updates-few : length (twin cs .updates) ≤ mostUpdates
+  updates-few = omega (arith, byEdge-most cs (updatesOf cs) (3 * mostOwned) updatesOf-few (λ z. refl), transitions-few s ok)
 
-  pub resets-few : length (twin cs .resets) ≤ 4096
-  resets-few = omega (arith, onEdge-most cs (resetsOf cs) 16 resetsOf-few, transitions-few s ok)
+  pub resets-few : length (twin cs .resets) ≤ mostResets
+  resets-few = omega (arith, byEdge-most cs (resetsOf cs) mostPriorities resetsOf-few (λ z. refl), transitions-few s ok)
 
   -- Two transitions have at most 15 must-nots and 2 literals of their own, and idle edges have 2 for them: 19 for two, 2,432 for 256.
-  pub literals-few : length (twin cs .literals) ≤ 2432
+  pub literals-few : length (twin cs .literals) ≤ mostLiterals
   literals-few =
       omega (
         arith,
-        onEdge-sum cs (literalsOf cs) (idleLiterals cs),
-        sum-le (λ t. length (literalsOf cs t)) (λ t. nots cs t + 1) 0 (transitionCount cs) (λ t l. literalsOf-few t (omega arith)),
+        byEdge-sum cs (literalsOf cs),
+        sum-le (λ t. length (literalsOf cs (from-transition t))) (λ t. nots cs t + 1) 0 (transitionCount cs) (λ t l. literalsOf-few t (omega arith)),
         sum-add (nots cs) (λ t. 1) 0 (transitionCount cs),
         sum-most (λ t. 1) 1 0 (transitionCount cs) (λ t l. omega arith),
-        sum-le (λ z. length (idleLiterals cs z)) (leavers cs) 0 (stateCount cs) (λ z l. idleLiterals-few z),
+        sum-le (λ z. length (literalsOf cs (from-idling z))) (leavers cs) 0 (stateCount cs) (λ z l. idleLiterals-few z),
         leavers-sum cs (stateCount cs),
         leavers-pairs cs,
-        sum-most (λ t. leavers cs (transition cs t .source)) 16 0 (transitionCount cs) (λ t l. leavers-few (transition cs t .source) (source-in s ok t (omega arith))),
+        sum-most (λ t. leavers cs (transition cs t .source)) mostPriorities 0 (transitionCount cs) (λ t l. leavers-few (transition cs t .source) (source-in s ok t (omega arith))),
         transitions-few s ok,
       )

@@ -5,13 +5,14 @@ use mathlib.Core.Bool.{Bool, true, false, not, cond, _&&_, _||_}
 use mathlib.Core.List.{List, [], _∷_, _++_, map}
 use Prim.Native.Nat.{ℕ, _+_, _-_, _≤_, _<_}
 use native.Mathlib.Omega.{arith}
-use borrow.Author.Tests.{ltb-true, ltb-false}
 use lib.Dec.{T, leb, ltb, eqb, ltb→lt, lt→ltb, leb→le, le→leb, eqb-refl}
 use lib.ListN.{length, getD}
-use Rattle.records.specs.Lists.{keep, all, gather, upto}
+use Rattle.prelude.specs.Lists.{keep, all, gather, upto}
 use Rattle.expressions.specs.Nodes.{nodeOf}
 use Rattle.expressions.specs.Sorts.{sortOf, isNumber, isTruth, nodesNamed, operandsFit, operandUses}
-use Rattle.model.specs.Owned.{of, byOwner, home}
+use Rattle.model.specs.Limits.{mostPriorities}
+use Rattle.prelude.specs.Owned.{of}
+use Rattle.model.specs.Owned.{home}
 use Rattle.model.specs.Runs.{Deed}
 use Rattle.model.specs.ChartSet as C
 use Rattle.model.specs.ChartSet.{ChartSet, Trigger, readCharts, transition, noTransition}
@@ -20,11 +21,11 @@ use Rattle.model.specs.ChartFile.{chartsRefusal, between, isDuration, gu
 use Rattle.model.specs.AutomataTable as A
 use Rattle.model.specs.AutomataTable.{Automata, Edge, Literal, Clock}
 use Rattle.model.specs.AutomataFile.{literalTriggerNamed, tableNamed, clocksTick, insideAutomata, idleEdgesStay, tableNodesFit}
-use Rattle.model.specs.Translation.{clocksOf, stateCount, transitionCount, edgeOf, idleOf, onEdge, clockOf, literalTriggerOf, literal, triedBefore, literalsOf, idleLiterals, updatesOf, clocksLeaving, resetsOf, twin}
-use Rattle.model.proofs.BoolLaws.{and-left, and-right, both-of, of-true, eq→eqb}
-use Rattle.model.proofs.ListLaws.{all-getD, all-getD-or, all-append, all-cons, all-nil, all-mapped, all-imp, all-keep, all-both, all-gather, all-upto, all-numbers, all-owned, gather-all}
+use Rattle.model.specs.Translation.{Origin, from-transition, from-idling, clocksOf, stateCount, transitionCount, edgeOf, clockOf, literalTriggerOf, literal, triedBefore, literalsOf, updatesOf, clocksLeaving, resetsOf, twin}
+use Rattle.prelude.proofs.Bools.{and-left, and-right, both-of, of-true, eq→eqb}
+use Rattle.prelude.proofs.Lists.{all-getD, all-getD-or, all-append, all-cons, all-nil, all-mapped, all-imp, all-keep, all-both, all-gather, all-upto, gather-all}
 use Rattle.model.proofs.ChartFile.{codedTrigger, codedTransition, initial-named, homes-named, nodes-named, entries-named, exits-named, transition-actions-named, source-in, target-in, guard-in, transitions-coded, transition-same-chart, initial-home, operands-fit, guards-truths, assigned-numbers, used-once, triggers-tick}
-use Rattle.model.proofs.TranslationEdges.{edges-count}
+use Rattle.model.proofs.TranslationOrigins.{IsOrigin, all-edges, byEdge-all}
 use Rattle.model.proofs.TranslationClocks.{clockOf-in}
 
 module _ {A : Type 0} where
@@ -74,25 +75,8 @@ module _ (au : Automata) where
 
 -- ---- any set
 
--- the edges' owners and what they own
+-- what edges own
 module _ (cs : ChartSet) where
-  pub all-edges : (p : Edge → Bool) → ((t : ℕ) → t < transitionCount cs → T (p (edgeOf cs t))) → ((z : ℕ) → z < stateCount cs → T (p (idleOf cs z))) → T (all p (twin cs .edges))
-  all-edges p f g =
-      all-append p (map (edgeOf cs) (upto (transitionCount cs))) (map (idleOf cs) (upto (stateCount cs)))
-      (all-numbers p (edgeOf cs) 0 (transitionCount cs) (λ t l. f t (omega arith)))
-      (all-numbers p (idleOf cs) 0 (stateCount cs) (λ z l. g z (omega arith)))
-
-  -- of what belongs to edges: the owner is an edge, and each thing of a transition's edge and of an idle edge passes
-  pub onEdge-all : {A : Type 0} (p : A → Bool) (f g : ℕ → List A) → ((t : ℕ) → t < transitionCount cs → T (all p (f t))) → ((z : ℕ) → z < stateCount cs → T (all p (g z))) →
-      T (all (λ x. ltb (x .0) (length (twin cs .edges)) && p (x .1)) (byOwner (transitionCount cs + stateCount cs) (onEdge cs f g)))
-  onEdge-all p f g h i =
-      all-owned (λ x. ltb (x .0) (length (twin cs .edges)) && p (x .1)) (onEdge cs f g) (transitionCount cs + stateCount cs)
-      (λ e l. all-imp p (λ x. ltb e (length (twin cs .edges)) && p x) (λ x t. both-of (ltb e (length (twin cs .edges))) (p x) (lt→ltb e (length (twin cs .edges)) (omega (arith, edges-count cs))) t) (onEdge cs f g e) (go e l (ltb e (transitionCount cs)) refl))
-    where
-      go : (e : ℕ) → e < transitionCount cs + stateCount cs → (b : Bool) → ltb e (transitionCount cs) ≡ b → T (all p (cond b (f e) (g (e - transitionCount cs))))
-      go e l true q = h e (ltb-true e (transitionCount cs) q)
-      go e l false q = let k : transitionCount cs ≤ e = ltb-false e (transitionCount cs) q in i (e - transitionCount cs) (omega arith)
-
   -- the must-nots are transitions
   pub triedBefore-in : (z p : ℕ) → T (all (λ u. ltb u (transitionCount cs)) (triedBefore cs z p))
   triedBefore-in z p =
@@ -103,13 +87,14 @@ module _ (cs : ChartSet) where
   -- a test of literals that every transition's passes
   pub all-literals : (p : Literal → Bool) → ((must : Bool) (t : ℕ) → t < transitionCount cs → T (p (literal cs must t))) →
       T (all (λ x. ltb (x .0) (length (twin cs .edges)) && p (x .1)) (twin cs .literals))
-  all-literals p h = onEdge-all p (literalsOf cs) (idleLiterals cs) own (λ z l. nots z 17)
+  all-literals p h = byEdge-all cs p (literalsOf cs) own
     where
       nots : (z q : ℕ) → T (all p (map (literal cs false) (triedBefore cs z q)))
       nots z q = all-mapped (λ u. ltb u (transitionCount cs)) p (literal cs false) (λ u l. h false u (ltb→lt u (transitionCount cs) l)) (triedBefore cs z q) (triedBefore-in z q)
 
-      own : (t : ℕ) → t < transitionCount cs → T (all p (literalsOf cs t))
-      own t l =
+      own : (o : Origin) → IsOrigin cs o → T (all p (literalsOf cs o))
+      own (from-idling z) l = nots z (mostPriorities + 1)
+      own (from-transition t) l =
           all-append p (map (literal cs false) (triedBefore cs (transition cs t .source) (transition cs t .priority))) (literal cs true t ∷ [])
           (nots (transition cs t .source) (transition cs t .priority))
           (all-cons p (literal cs true t) [] (h true t l) (all-nil p))
@@ -117,20 +102,21 @@ module _ (cs : ChartSet) where
   -- a test of deeds that every action's passes
   pub all-updates : (p : Deed → Bool) → T (all (λ x. p (x .1)) (cs .exits)) → T (all (λ x. p (x .1)) (cs .transition-actions)) → T (all (λ x. p (x .1)) (cs .entries)) →
       T (all (λ x. ltb (x .0) (length (twin cs .edges)) && p (x .1)) (twin cs .updates))
-  all-updates p a b c = onEdge-all p (updatesOf cs) (λ z. []) each (λ z l. all-nil p)
+  all-updates p a b c = byEdge-all cs p (updatesOf cs) each
     where
       of-all : (n : ℕ) (xs : List (ℕ × Deed)) → T (all (λ x. p (x .1)) xs) → T (all p (of n xs))
       of-all n xs t = all-mapped (λ x. p (x .1)) p (λ x. x .1) (λ x u. u) (keep (λ x. eqb (x .0) n) xs) (all-keep (λ x. p (x .1)) (λ x. eqb (x .0) n) xs t)
 
-      each : (t : ℕ) → t < transitionCount cs → T (all p (updatesOf cs t))
-      each t l =
+      each : (o : Origin) → IsOrigin cs o → T (all p (updatesOf cs o))
+      each (from-idling z) l = all-nil p
+      each (from-transition t) l =
           all-append p (of (transition cs t .source) (cs .exits) ++ of t (cs .transition-actions)) (of (transition cs t .target) (cs .entries))
           (all-append p (of (transition cs t .source) (cs .exits)) (of t (cs .transition-actions)) (of-all (transition cs t .source) (cs .exits) a) (of-all t (cs .transition-actions) b))
           (of-all (transition cs t .target) (cs .entries) c)
 
   -- resets are of clocks
   pub resets-named : T (all (resetNamed (twin cs)) (twin cs .resets))
-  resets-named = onEdge-all isClock (resetsOf cs) (λ z. []) (λ t l. leaving (transition cs t .target)) (λ z l. all-nil isClock)
+  resets-named = byEdge-all cs isClock (resetsOf cs) each
     where
       isClock : ℕ → Bool
       isClock k = ltb k (length (twin cs .clocks))
@@ -149,6 +135,10 @@ module _ (cs : ChartSet) where
       leaving z =
           gather-all isClock (λ t. cond (eqb (transition cs t .source) z) (map (λ _. clockOf cs t) (clocksOf (transition cs t .trigger))) []) 0 (transitionCount cs)
           (λ t l. either t (omega arith) (eqb (transition cs t .source) z))
+
+      each : (o : Origin) → IsOrigin cs o → T (all isClock (resetsOf cs o))
+      each (from-transition t) l = leaving (transition cs t .target)
+      each (from-idling z) l = all-nil isClock
 
   pub literal-trigger-named : (t : ℕ) → t < transitionCount cs → T (literalTriggerNamed (length (twin cs .clocks)) (literalTriggerOf cs t (transition cs t .trigger)))
   literal-trigger-named t h = go (transition cs t .trigger) refl
@@ -169,15 +159,17 @@ module _ (s : List ℕ) (ok : chartsRefusal s ≡ none) where
   chart-in z h = all-getD (λ c. ltb c (length (cs .initial))) (cs .homes) 0 z (homes-named s ok) h
 
   pub edges-named : T (all (edgeNamed (twin cs)) (twin cs .edges))
-  edges-named =
-      all-edges cs (edgeNamed (twin cs))
-      (λ t h. all-three (home (cs .homes) (transition cs t .source)) (transition cs t .source) (transition cs t .target) (chart-in (transition cs t .source) (source-in s ok t h)) (source-in s ok t h) (target-in s ok t h))
-      (λ z h. all-three (home (cs .homes) z) z z (chart-in z h) h h)
+  edges-named = all-edges cs (edgeNamed (twin cs)) each
     where
       all-three : (a b c : ℕ) → T (ltb a (length (cs .initial))) → b < stateCount cs → c < stateCount cs → T (ltb a (length (cs .initial)) && ltb b (stateCount cs) && ltb c (stateCount cs))
       all-three a b c x y z =
           both-of (ltb a (length (cs .initial)) && ltb b (stateCount cs)) (ltb c (stateCount cs))
           (both-of (ltb a (length (cs .initial))) (ltb b (stateCount cs)) x (lt→ltb b (stateCount cs) y)) (lt→ltb c (stateCount cs) z)
+
+      each : (o : Origin) → IsOrigin cs o → T (edgeNamed (twin cs) (edgeOf cs o))
+      each (from-transition t) h =
+          all-three (home (cs .homes) (transition cs t .source)) (transition cs t .source) (transition cs t .target) (chart-in (transition cs t .source) (source-in s ok t h)) (source-in s ok t h) (target-in s ok t h)
+      each (from-idling z) h = all-three (home (cs .homes) z) z z (chart-in z h) h h
 
   pub literals-named : T (all (literalNamed (twin cs)) (twin cs .literals))
   literals-named =
@@ -243,21 +235,29 @@ module _ (s : List ℕ) (ok : chartsRefusal s ≡ none) where
   pub twin-inside : T (insideAutomata (twin cs))
   twin-inside =
       both-of (all inside (twin cs .edges)) (all starts (upto (length (cs .initial))))
-      (all-edges cs inside
-      (λ t h. both-of (eqb (home (cs .homes) (transition cs t .source)) (home (cs .homes) (transition cs t .source))) (eqb (home (cs .homes) (transition cs t .target)) (home (cs .homes) (transition cs t .source)))
-      (eqb-refl (home (cs .homes) (transition cs t .source))) (of-true (eq→eqb (sym (transition-same-chart s ok t h)))))
-      (λ z h. both-of (eqb (home (cs .homes) z) (home (cs .homes) z)) (eqb (home (cs .homes) z) (home (cs .homes) z)) (eqb-refl (home (cs .homes) z)) (eqb-refl (home (cs .homes) z))))
+      (all-edges cs inside each)
       (all-upto starts (length (cs .initial)) (λ a h. initial-home s ok a h))
     where
       inside : Edge → Bool
       inside e = eqb (home (cs .homes) (e .source)) (e .automaton) && eqb (home (cs .homes) (e .target)) (e .automaton)
+
+      each : (o : Origin) → IsOrigin cs o → T (inside (edgeOf cs o))
+      each (from-transition t) h =
+          both-of (eqb (home (cs .homes) (transition cs t .source)) (home (cs .homes) (transition cs t .source))) (eqb (home (cs .homes) (transition cs t .target)) (home (cs .homes) (transition cs t .source)))
+          (eqb-refl (home (cs .homes) (transition cs t .source))) (of-true (eq→eqb (sym (transition-same-chart s ok t h))))
+      each (from-idling z) h =
+          both-of (eqb (home (cs .homes) z) (home (cs .homes) z)) (eqb (home (cs .homes) z) (home (cs .homes) z)) (eqb-refl (home (cs .homes) z)) (eqb-refl (home (cs .homes) z))
 
       starts : ℕ → Bool
       starts a = eqb (home (cs .homes) (getD (cs .initial) a 0)) a
 
   -- not "an idle edge with two different ends"
   pub twin-stays : T (idleEdgesStay (twin cs))
-  twin-stays = all-edges cs (λ e. not (e .idles) || eqb (e .source) (e .target)) (λ t h. tt) (λ z h. eqb-refl z)
+  twin-stays = all-edges cs (λ e. not (e .idles) || eqb (e .source) (e .target)) each
+    where
+      each : (o : Origin) → IsOrigin cs o → T (not (edgeOf cs o .idles) || eqb (edgeOf cs o .source) (edgeOf cs o .target))
+      each (from-transition t) h = tt
+      each (from-idling z) h = eqb-refl z
 
   -- ---- nodes
 

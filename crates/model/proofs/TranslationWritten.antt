@@ -8,7 +8,7 @@ use native.Mathlib.Omega.{arith}
 use lib.Dec.{T, leb, ltb, eqb, ltb→lt, lt→ltb, leb→le}
 use lib.ListN.{length, take, drop}
 use lib.Signed.{mag}
-use Rattle.records.specs.Lists.{all}
+use Rattle.prelude.specs.Lists.{all}
 use Rattle.records.specs.Bytes.{byte, two, two±, four±, cut, records, kind, ofKind}
 use Rattle.records.proofs.RoundTrips.{of-bytes, two-low, two±-low, four±-low}
 use Rattle.expressions.specs.Nodes as N
@@ -20,8 +20,8 @@ use Rattle.model.specs.AutomataTable as A
 use Rattle.model.specs.AutomataTable.{Edge, Literal, LiteralTrigger, Clock, readAutomata}
 use Rattle.model.specs.AutomataFile.{literalTriggerNamed}
 use Rattle.model.specs.Translation.{stateCount, twin, twinBytes}
-use Rattle.model.proofs.BoolLaws.{and-left, and-right, both-of, is-true}
-use Rattle.model.proofs.ListLaws.{all-take, all-drop, all-keep, all-imp, all-mapped, all-cons, all-nil, case-all}
+use Rattle.prelude.proofs.Bools.{and-left, and-right, both-of, is-true}
+use Rattle.prelude.proofs.Lists.{all-take, all-drop, all-keep, all-imp, all-mapped, all-cons, all-nil, case-all}
 use Rattle.model.proofs.AutomataTableRead.{short, fitsLiteralTrigger, fitsGuard, fitsEdge, fitsLiteral, fitsVariable, fitsNode, fitsDeed, Fits, readAutomata-written}
 use Rattle.model.proofs.ChartFile.{states-few, nodes-few, initial-named, three-of}
 use Rattle.model.proofs.TranslationCounts.{edges-few, clocks-few}

@@ -15,7 +15,7 @@ use Rattle.model.specs.ChartFile.{chartsRefusal}
 use Rattle.model.specs.AutomataTable.{readAutomata}
 use Rattle.model.specs.Automata.{automata}
 use Rattle.model.specs.AutomataFile.{automataRefusal}
-use Rattle.model.proofs.BoolLaws.{of-true, not-false, ne→eqb}
+use Rattle.prelude.proofs.Bools.{of-true, not-false, ne→eqb}
 use Rattle.model.proofs.ChartFileSound.{sound}
 use Rattle.model.proofs.ChecksPossible.{possible-of, possible-fits, possible-rests, part-rests, checkedLater, checked-possible, checkedLater-count}
 use Rattle.model.proofs.ChecksKept.{NotTime, fits-same, Keeps, Steady}

@@ -11,12 +11,12 @@ use lib.Seq.{set-out, getD-set-same, getD-set-other}
 use Rattle.records.specs.Refusal.{out-of-bounds, Out, val, fault, _>>=_, _>>_, fault-if}
 use Rattle.expressions.specs.Nodes.{Node, nodeOf}
 use Rattle.expressions.specs.Values.{number}
-use Rattle.model.specs.Owned.{of}
+use Rattle.prelude.specs.Owned.{of}
 use Rattle.model.specs.Runs.{Variable, noVariable, inBounds, World, setVar, setEvents, raised, Deed, assign, raise, deed, deeds}
 use Rattle.model.specs.ChartSet.{ChartSet, transition}
 use Rattle.model.specs.Charts.{acted}
-use Rattle.model.specs.Translation.{updatesOf}
-use Rattle.model.proofs.BoolLaws.{of-true, not-not, not-false, eqb-ne}
+use Rattle.model.specs.Translation.{from-transition, updatesOf}
+use Rattle.prelude.proofs.Bools.{of-true, not-not, not-false, eqb-ne}
 
 -- The variables of a possible run: 64 places, each within its bounds. A place past the variables in use has the bounds 0 and 0.
 pub record Valued (variables : List Variable) (vars : List ℤ) : Type 0 where
@@ -70,7 +70,7 @@ module _ (nodes : List Node) (variables : List Variable) where
       go (val w₁) ih = ih w₁
 
 -- what a chart does in three steps is what the twin's edge does in one list
-pub acted-updates : (cs : ChartSet) (t : ℕ) (w : World) → acted cs t w ≡ deeds (cs .nodes) (cs .variables) (updatesOf cs t) w
+pub acted-updates : (cs : ChartSet) (t : ℕ) (w : World) → acted cs t w ≡ deeds (cs .nodes) (cs .variables) (updatesOf cs (from-transition t)) w
 acted-updates cs t w =
     sym (deeds-append (cs .nodes) (cs .variables) (a ++ b) c w
     ∙ ap (λ o. o >>= λ z. deeds (cs .nodes) (cs .variables) c z) (deeds-append (cs .nodes) (cs .variables) a b w)

@@ -5,9 +5,10 @@ use mathlib.Core.List.{List, [], _∷_}
 use Prim.Native.Nat.{ℕ, _+_, min}
 use lib.Dec.{leb, ltb, eqb}
 use lib.ListN.{length, getD, set}
-use Rattle.records.specs.Lists.{keep, mapFrom, upto}
+use Rattle.prelude.specs.Lists.{keep, mapFrom, upto}
 use Rattle.records.specs.Refusal.{none-open, many-open, Out, val, fault, _>>=_, choose}
-use Rattle.model.specs.Owned.{of}
+use Rattle.model.specs.Limits.{mostClocks}
+use Rattle.prelude.specs.Owned.{of}
 use Rattle.model.specs.Runs.{World, Run, present, deeds, guardHolds, Answer, taken, Machine, Runs}
 use Rattle.model.specs.AutomataTable.{LiteralTrigger, always, event, clock, Edge, Literal, Timing, after, every, Clock, Automata, edge, clockAt, AutomataTable}
 
@@ -20,8 +21,8 @@ top every d = d
 
 -- "an after-clock grows by 1 up to ticks + 1; an every-clock at ticks goes to 1, else grows by 1"
 abbrev pub grown : Timing → ℕ → ℕ → ℕ
-grown after d x = min (x + 1) (d + 1)
-grown every d x = cond (eqb x d) 1 (x + 1)
+grown after d x = min (x + 1) (top after d)
+grown every d x = cond (eqb x (top every d)) 1 (x + 1)
 
 -- ---- open edges
 
@@ -87,7 +88,7 @@ module _ (au : Automata) where
     homes = au .homes;
     variables = au .variables;
     timers-used = length (au .clocks);
-    timers-room = 256;
+    timers-room = mostClocks;
     timer-possible = λ cycles k x. leb x (top (clockAt au k .timing) (clockAt au k .ticks));
     step = edgeStep;
     passed = clocksGrown;

@@ -5,12 +5,13 @@ use mathlib.Core.List.{List, [], _∷_, _++_, map}
 use Prim.Native.Nat.{ℕ}
 use lib.Dec.{leb, ltb, eqb}
 use lib.ListN.{length, getD}
-use Rattle.records.specs.Lists.{all, any, caseOf, gather, upto}
+use Rattle.prelude.specs.Lists.{all, any, caseOf, gather, upto}
 use Rattle.records.specs.Refusal.{Refusal, bad-table, lowest}
 use Rattle.records.specs.Bytes.{byte, records, kind}
 use Rattle.records.specs.Framing.{framingTests, Framing}
 use Rattle.expressions.specs.Nodes.{nodeOf}
 use Rattle.expressions.specs.Sorts.{sortOf, isNumber, isTruth, nodesNamed, operandsFit, operandUses, Sorts}
+use Rattle.model.specs.Limits.{mostCharts, mostStates, mostVariables, mostNodes, mostEdges, mostLiterals, mostClocks, mostUpdates, mostResets, mostTicks}
 use Rattle.model.specs.Owned.{home}
 use Rattle.model.specs.AutomataTable.{LiteralTrigger, always, event, clock, Edge, Literal, Clock, Automata, readAutomata, AutomataTable}
 use Rattle.model.specs.ChartFile.{unusedAreZero, unusedVariable, unusedNode, between, isEvent, variableInCode, nodeInCode, deedInCode, guardNamed, deedNamed, guardNodes, assignedNodes}
@@ -19,7 +20,7 @@ use Rattle.model.specs.ChartFile.{unusedAreZero, unusedVariable, unusedN
 
 -- the most of each kind, from 33 on
 abbrev pub automataLimits : List ℕ
-automataLimits = 8 ∷ 128 ∷ 384 ∷ 2432 ∷ 256 ∷ 64 ∷ 1024 ∷ 6144 ∷ 4096 ∷ []
+automataLimits = mostCharts ∷ mostStates ∷ mostEdges ∷ mostLiterals ∷ mostClocks ∷ mostVariables ∷ mostNodes ∷ mostUpdates ∷ mostResets ∷ []
 
 -- 4
 abbrev pub unusedLiteral : List ℕ → List (ℕ × ℕ)
@@ -86,7 +87,7 @@ tableNamed au =
 module _ (au : Automata) where
   -- not "ticks outside 1 to 36,000"
   abbrev pub clocksTick : Bool
-  clocksTick = all (λ c. between 1 36_000 (c .ticks)) (au .clocks)
+  clocksTick = all (λ c. between 1 mostTicks (c .ticks)) (au .clocks)
 
   -- not "ends or initial location in another automaton"
   abbrev pub insideAutomata : Bool

@@ -5,7 +5,7 @@ use mathlib.Core.List.{List, [], _∷_, _++_, map}
 use Prim.Native.Nat.{ℕ}
 use lib.Dec.{eqb}
 use lib.ListN.{getD}
-use Rattle.records.specs.Lists.{gather, caseOf, padded, Lists}
+use Rattle.prelude.specs.Lists.{gather, caseOf, padded, Lists, bit}
 use Rattle.records.specs.Bytes.{byte, two, bytes2, bytes2±, ofKind, Bytes}
 use Rattle.expressions.specs.Nodes.{Node, readNode, writeNode}
 use Rattle.model.specs.Runs.{Variable, Deed, assign, raise}
@@ -94,10 +94,6 @@ readAutomata s = record {
 }
 
 -- ---- writing: bytes 1 and on of each kind's records
-
-abbrev pub bit : Bool → ℕ
-bit true = 1
-bit false = 0
 
 abbrev pub writeEdge : Edge → List ℕ
 writeEdge e = e .automaton ∷ bytes2 (e .source) ++ bytes2 (e .target) ++ (bit (e .idles) ∷ [])

@@ -6,13 +6,15 @@ use Prim.Native.Nat.{ℕ, _+_, _-_}
 use lib.Dec.{leb, ltb, eqb}
 use lib.ListN.{length, getD, take, drop}
 use lib.Signed.{leZ}
-use Rattle.records.specs.Lists.{keep, all, any, count, caseOf, gather, upto, distinct, Lists}
+use Rattle.prelude.specs.Lists.{keep, all, any, count, caseOf, gather, upto, distinct, Lists}
 use Rattle.records.specs.Refusal.{Refusal, stray-byte, broken-code, dangling-number, broken-structure, broken-node, zero-ticks, lowest}
 use Rattle.records.specs.Bytes.{byte, two, four, two±, records, kind, Bytes}
 use Rattle.records.specs.Framing.{framingTests, Framing}
 use Rattle.expressions.specs.Nodes.{Node, nodeOf}
 use Rattle.expressions.specs.Sorts.{sortOf, isNumber, isTruth, nodesNamed, operandsFit, operandUses, Sorts}
-use Rattle.model.specs.Owned.{of, home}
+use Rattle.model.specs.Limits.{mostCharts, mostStates, mostTransitions, mostVariables, mostNodes, mostActions, lastEvent, mostPriorities, mostOwned, mostMilliseconds}
+use Rattle.prelude.specs.Owned.{of}
+use Rattle.model.specs.Owned.{home}
 use Rattle.model.specs.Runs.{Deed, assign, raise}
 use Rattle.model.specs.ChartSet.{Trigger, always, event, after, every, Transition, ChartSet, readCharts, transition, ChartSet·}
 use Rattle.model.specs.Charts.{ticks}
@@ -20,7 +22,7 @@ use Rattle.model.specs.Charts.{ticks}
 -- ---- 1 to 3: "Chart set, with the most of each kind", from kind 1 on
 
 abbrev pub chartLimits : List ℕ
-chartLimits = 8 ∷ 128 ∷ 256 ∷ 64 ∷ 1024 ∷ 512 ∷ []
+chartLimits = mostCharts ∷ mostStates ∷ mostTransitions ∷ mostVariables ∷ mostNodes ∷ mostActions ∷ []
 
 -- ---- 4: "an unnamed or unused byte not zero (under an unknown code, an unnamed one)"
 
@@ -69,15 +71,15 @@ between a b n = leb a n && leb n b
 
 -- the range "event 0 to 31"
 abbrev pub isEvent : ℕ → Bool
-isEvent e = leb e 31
+isEvent e = leb e lastEvent
 
 -- the range "milliseconds 1 to 3,600,000"
 abbrev pub isDuration : ℕ → Bool
-isDuration ms = between 1 3_600_000 ms
+isDuration ms = between 1 mostMilliseconds ms
 
 abbrev pub transitionInCode : List ℕ → Bool
 transitionInCode r =
-    between 1 16 (byte r 1) && leb (byte r 6) 3
+    between 1 mostPriorities (byte r 1) && leb (byte r 6) 3
     && caseOf (byte r 6) ((1, isEvent (byte r 7)) ∷ (2, isDuration (four r 8)) ∷ (3, isDuration (four r 8)) ∷ []) true
 
 -- the range "lowest ≤ start ≤ highest"
@@ -137,7 +139,7 @@ unconditional (every ms) g = false
 
 -- not "a ninth action" ("at most 8 an owner"; a state's entry and exit actions count together)
 abbrev pub atMostEight : List (ℕ × Deed) → ℕ → Bool
-atMostEight actions owner = leb (count (λ x. eqb (x .0) owner) actions) 8
+atMostEight actions owner = leb (count (λ x. eqb (x .0) owner) actions) mostOwned
 
 module _ (cs : ChartSet) where
   -- not "transition across charts"

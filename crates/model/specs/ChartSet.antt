@@ -5,7 +5,7 @@ use mathlib.Core.List.{List, [], _∷_, map}
 use Prim.Native.Nat.{ℕ}
 use lib.Dec.{eqb}
 use lib.ListN.{getD}
-use Rattle.records.specs.Lists.{keep, caseOf, Lists}
+use Rattle.prelude.specs.Lists.{keep, caseOf, Lists}
 use Rattle.records.specs.Bytes.{byte, two, four, two±, ofKind, Bytes}
 use Rattle.expressions.specs.Nodes.{Node, readNode}
 use Rattle.model.specs.Runs.{Variable, Deed, assign, raise}

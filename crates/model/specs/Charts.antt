@@ -5,9 +5,10 @@ use mathlib.Core.List.{List, [], _∷_}
 use Prim.Native.Nat.{ℕ, _+_, _/_, _%_}
 use lib.Dec.{leb, ltb, eqb}
 use lib.ListN.{length, getD, set}
-use Rattle.records.specs.Lists.{keep, sorted, mapFrom, upto}
+use Rattle.prelude.specs.Lists.{keep, sorted, mapFrom, upto}
 use Rattle.records.specs.Refusal.{Out, val, _>>=_, choose}
-use Rattle.model.specs.Owned.{of}
+use Rattle.model.specs.Limits.{mostCharts}
+use Rattle.prelude.specs.Owned.{of}
 use Rattle.model.specs.Runs.{World, Run, present, deeds, guardHolds, Answer, taken, idle, Machine, Runs}
 use Rattle.model.specs.ChartSet.{Trigger, always, event, after, every, Transition, ChartSet, transition, ChartSet·}
 
@@ -74,7 +75,7 @@ module _ (cs : ChartSet) where
     homes = cs .homes;
     variables = cs .variables;
     timers-used = length (cs .initial);
-    timers-room = 8;
+    timers-room = mostCharts;
     timer-possible = λ cycles c age. leb age cycles;
     step = chartStep;
     passed = ages;

@@ -1,22 +1,23 @@
 -- Before a turn: 12, 13 and 14. Each clause of 12 is named by what holds where the run passes. Assumes nothing: these are definitions.
 use mathlib.Core.Bool.{Bool, not, cond, _&&_, _||_}
 use mathlib.Core.List.{List}
-use Prim.Native.Nat.{ℕ, _+_}
+use Prim.Native.Nat.{ℕ, _+_, _-_}
 use lib.Dec.{leb, ltb, eqb}
 use lib.ListN.{length, getD, drop}
 use lib.IntN.{ℤ, pos}
-use Rattle.records.specs.Lists.{all, upto}
+use Rattle.prelude.specs.Lists.{all, upto}
 use Rattle.records.specs.Refusal.{impossible-run, misplaced-events, cycles-done, Out, _>>_, fault-if}
 use Rattle.expressions.specs.Values.{isZero}
+use Rattle.model.specs.Limits.{mostCharts, mostVariables, mostCycles}
 use Rattle.model.specs.Owned.{home}
 use Rattle.model.specs.World.{Variable, World, Run, noVariable, inBounds}
 use Rattle.model.specs.Machine.{Machine, parts}
 
 -- ---- 12, clause by clause
 
--- A lent run has fixed places: 8 for states, 8 for ages or 256 for clocks, 64 for variables.
+-- A lent run has fixed places: one for each chart that a set may have, one for each age or clock, one for each variable.
 abbrev pub allPlaces : Machine → Run → Bool
-allPlaces m r = eqb (length (r .at)) 8 && eqb (length (r .timers)) (m .timers-room) && eqb (length (r .world .vars)) 64
+allPlaces m r = eqb (length (r .at)) mostCharts && eqb (length (r .timers)) (m .timers-room) && eqb (length (r .world .vars)) mostVariables
 
 -- not "a location not of its chart", of so many charts, by the chart of each state
 abbrev pub placesPossible : ℕ → List ℕ → List ℕ → Bool
@@ -36,7 +37,7 @@ positionPossible parts w = leb 1 (w .position) && leb (w .position) (parts + 1)
 
 -- not "count over 1,000,000 or, past position 1, over 999,999"
 abbrev pub countPossible : World → Bool
-countPossible w = leb (w .cycles) (cond (eqb (w .position) 1) 1_000_000 999_999)
+countPossible w = leb (w .cycles) (cond (eqb (w .position) 1) mostCycles (mostCycles - 1))
 
 -- not "events present at position 1"
 abbrev pub eventsPossible : World → Bool
@@ -71,7 +72,7 @@ abbrev pub checkedBy : Bool → (given position cycles : ℕ) → Out (Unit {0})
 checkedBy passes given position cycles = do
   fault-if (not passes) impossible-run
   fault-if (not (eqb position 1) && not (eqb given 0)) misplaced-events
-  fault-if (eqb position 1 && eqb cycles 1_000_000) cycles-done
+  fault-if (eqb position 1 && eqb cycles mostCycles) cycles-done
 
 abbrev pub checked : Machine → ℕ → Run → Out (Unit {0})
 checked m given r = checkedBy (possible m r) given (r .world .position) (r .world .cycles)

@@ -5,9 +5,9 @@ use mathlib.Core.List.{List, [], _∷_}
 use Prim.Native.Nat.{ℕ, _+_, _-_, _%_, _<_, min}
 use lib.Dec.{T, ltb, eqb}
 use lib.ListN.{length, getD, take}
-use Rattle.records.specs.Lists.{all, gather, mem}
+use Rattle.prelude.specs.Lists.{all, gather, mem}
 use Rattle.records.specs.Refusal.{Out, val, fault, refusalNumber}
-use Rattle.model.specs.Owned.{of}
+use Rattle.prelude.specs.Owned.{of}
 use Rattle.model.specs.Outcome.{Outcome}
 use Rattle.model.specs.Runs.{World, Run, give, Answer, taken, idle, time, Call, one-turn, whole-cycle, Trace, done, stopped, turned}
 use Rattle.model.specs.ChartSet.{ChartSet, readCharts}

@@ -5,8 +5,9 @@ use Prim.Native.Nat.{ℕ, _+_}
 use lib.Dec.{eqb}
 use lib.ListN.{length, replicate}
 use lib.IntN.{pos}
-use Rattle.records.specs.Lists.{padded}
+use Rattle.prelude.specs.Lists.{padded}
 use Rattle.records.specs.Refusal.{Out}
+use Rattle.model.specs.Limits.{mostCharts, mostVariables}
 use Rattle.model.specs.World.{Variable, Run, setEvents}
 
 -- ---- machines
@@ -55,7 +56,7 @@ module _ (m : Machine) where
   -- "A run starts in the initial states, variables at start, no events, ages and count 0, position 1."
   abbrev pub start : Run
   start = record {
-    at = padded 8 0 (m .initial);
+    at = padded mostCharts 0 (m .initial);
     timers = replicate (m .timers-room) 0;
-    world = record { vars = padded 64 (pos 0) (map (λ v. v .start) (m .variables)); events = 0; position = 1; cycles = 0 };
+    world = record { vars = padded mostVariables (pos 0) (map (λ v. v .start) (m .variables)); events = 0; position = 1; cycles = 0 };
   }

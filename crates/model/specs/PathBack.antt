@@ -4,13 +4,14 @@ use mathlib.Core.List.{List, [], _∷_, _++_}
 use Prim.Native.Nat.{ℕ, _+_, _*_, _-_, _/_}
 use lib.Dec.{leb, ltb, eqb}
 use lib.ListN.{length, getD, set, drop}
-use Rattle.records.specs.Lists.{gather}
+use Rattle.prelude.specs.Lists.{gather}
 use Rattle.records.specs.Refusal.{broken-path, short-rows, Out, val, _>>=_, _>>_, fault-if, unless-refused}
+use Rattle.model.specs.Limits.{mostCycles}
 use Rattle.model.specs.Outcome.{Outcome, settled}
 use Rattle.model.specs.ChartSet.{ChartSet, readCharts}
 use Rattle.model.specs.ChartFile.{chartsRefusal}
 use Rattle.model.specs.AutomataTable.{Automata, Edge, edge}
-use Rattle.model.specs.Translation.{twin, transitionCount, Translation}
+use Rattle.model.specs.Translation.{Origin, from-transition, from-idling, originOf, twin, Translation}
 
 -- "65,535 for time"
 abbrev pub timeMark : ℕ
@@ -46,7 +47,7 @@ module _ (cs : ChartSet) where
 
   -- 20 "the path names no edge, breaks turn order, goes on after 1,000,000 cycles, or an edge does not leave where its automaton stands"
   abbrev pub stepFits : ℕ → Walk → Bool
-  stepFits e w = ltb (w .cycles) 1_000_000 && cond (eqb e timeMark) (timeFits w) (edgeFits e w)
+  stepFits e w = ltb (w .cycles) mostCycles && cond (eqb e timeMark) (timeFits w) (edgeFits e w)
 
   abbrev pub walked : ℕ → Walk → Walk
   walked e w =
@@ -55,8 +56,12 @@ module _ (cs : ChartSet) where
       (record { locations = set (w .locations) (edge (twin cs) e .automaton) (edge (twin cs) e .target); position = w .position + 1; cycles = w .cycles })
 
   -- "Each edge that came of a transition gives one row. Idle edges and time give none."
+  abbrev pub rowsFrom : Origin → Walk → List Row
+  rowsFrom (from-transition t) w = record { cycle = w .cycles; chart = w .position - 1; transition = t } ∷ []
+  rowsFrom (from-idling s) w = []
+
   abbrev pub stepRows : ℕ → Walk → List Row
-  stepRows e w = cond (ltb e (transitionCount cs)) (record { cycle = w .cycles; chart = w .position - 1; transition = e } ∷ []) []
+  stepRows e w = rowsFrom (originOf cs e) w
 
   -- "follows the turns; it may stop anywhere"
   unfoldable pub ledBack : List ℕ → Walk → Out (List Row)

@@ -6,7 +6,7 @@ use Prim.Native.Nat.{ℕ, zero, suc, _+_, _-_, _/_, _%_}
 use lib.Dec.{ltb}
 use lib.ListN.{length, getD, take, drop}
 use lib.IntN.{ℤ, pos, negsuc}
-use Rattle.records.specs.Lists.{gather}
+use Rattle.prelude.specs.Lists.{gather}
 use Rattle.records.specs.Refusal.{Refusal, Out, val, fault}
 use Rattle.records.specs.Bytes.{four}
 use Rattle.model.specs.Runs.{Run, Machine, start, Answer, taken, idle, time, whole-cycle, Trace, done, stopped, turned, trace, ended}

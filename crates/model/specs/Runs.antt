@@ -6,7 +6,7 @@ pub use Rattle.model.specs.Machine.{give, moved, parts, start, Answer, M
 pub use Rattle.model.specs.Checks.{allPlaces, placesPossible, variablesPossible, timersPossible, positionPossible, countPossible, eventsPossible, restZero, restZeroValues, unusedZero, possible, checkedBy, checked}
 unfoldable pub use Rattle.model.specs.Turns.{turns, ended}
 pub use Rattle.model.specs.Turns.{timePassed, stepped, turn, inputEvents, onto, unless-stopped, turnsOf, trace, cycle, Call, Trace, one-turn, whole-cycle, done, stopped, turned}
-use Rattle.records.specs.Lists.{Lists}
+use Rattle.prelude.specs.Lists.{Lists}
 use Rattle.expressions.specs.Values.{Values}
 
 -- what a proof that computes with these opens

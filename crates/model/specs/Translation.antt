@@ -4,9 +4,11 @@ use mathlib.Core.List.{List, [], _∷_, _++_, map}
 use Prim.Native.Nat.{ℕ, _+_, _-_}
 use lib.Dec.{ltb, eqb}
 use lib.ListN.{length, getD, take, drop}
-use Rattle.records.specs.Lists.{keep, gather, from, upto}
+use Rattle.prelude.specs.Lists.{keep, gather, from, upto}
 use Rattle.records.specs.Refusal.{short-buffer, Out, val, _>>=_, _>>_, fault-if, unless-refused}
-use Rattle.model.specs.Owned.{of, byOwner, home}
+use Rattle.model.specs.Limits.{mostPriorities}
+use Rattle.prelude.specs.Owned.{of, byOwner}
+use Rattle.model.specs.Owned.{home}
 use Rattle.model.specs.Outcome.{Outcome, settled}
 use Rattle.model.specs.Runs.{Deed}
 use Rattle.model.specs.ChartSet as C
@@ -24,6 +26,11 @@ clocksOf (C.event e) = []
 clocksOf (C.after ms) = record { timing = A.after; ticks = ticks ms } ∷ []
 clocksOf (C.every ms) = record { timing = A.every; ticks = ticks ms } ∷ []
 
+-- what an edge came of: a transition, or the idling in a state
+pub data Origin : Type 0 where
+  from-transition : ℕ → Origin
+  from-idling : ℕ → Origin
+
 module _ (cs : ChartSet) where
   abbrev pub stateCount : ℕ
   stateCount = length (cs .homes)
@@ -33,15 +40,24 @@ module _ (cs : ChartSet) where
 
   -- ---- "Edges: one per transition, in order, then one idle edge per state, in state order."
 
-  abbrev pub edgeOf : ℕ → Edge
-  edgeOf t = record { automaton = home (cs .homes) (transition cs t .source); source = transition cs t .source; target = transition cs t .target; idles = false }
+  abbrev pub origins : List Origin
+  origins = map from-transition (upto transitionCount) ++ map from-idling (upto stateCount)
 
-  abbrev pub idleOf : ℕ → Edge
-  idleOf s = record { automaton = home (cs .homes) s; source = s; target = s; idles = true }
+  -- the number of an origin's edge, and the origin of edge e (past the last one none that gives a row)
+  abbrev pub edgeNumber : Origin → ℕ
+  edgeNumber (from-transition t) = t
+  edgeNumber (from-idling s) = transitionCount + s
 
-  -- what belongs to edge e: transition e's part, or, past the transitions, that of a state's idle edge
-  abbrev pub onEdge : {A : Type 0} → (ℕ → A) → (ℕ → A) → ℕ → A
-  onEdge ofTransition ofState e = cond (ltb e transitionCount) (ofTransition e) (ofState (e - transitionCount))
+  abbrev pub originOf : ℕ → Origin
+  originOf e = getD origins e (from-idling 0)
+
+  abbrev pub edgeOf : Origin → Edge
+  edgeOf (from-transition t) = record { automaton = home (cs .homes) (transition cs t .source); source = transition cs t .source; target = transition cs t .target; idles = false }
+  edgeOf (from-idling s) = record { automaton = home (cs .homes) s; source = s; target = s; idles = true }
+
+  -- what origins have, by edge
+  abbrev pub byEdge : {A : Type 0} → (Origin → List A) → List (ℕ × A)
+  byEdge f = byOwner (length origins) (λ e. f (originOf e))
 
   -- ---- "Clocks: one per timing trigger, in transition order."
 
@@ -65,17 +81,15 @@ module _ (cs : ChartSet) where
   abbrev pub triedBefore : ℕ → ℕ → List ℕ
   triedBefore s p = gather (λ q. keep (λ u. eqb (transition cs u .source) s && eqb (transition cs u .priority) q) (upto transitionCount)) (from 1 (p - 1))
 
-  abbrev pub literalsOf : ℕ → List Literal
-  literalsOf t = map (literal false) (triedBefore (transition cs t .source) (transition cs t .priority)) ++ (literal true t ∷ [])
-
-  -- priorities are 1 to 16
-  abbrev pub idleLiterals : ℕ → List Literal
-  idleLiterals s = map (literal false) (triedBefore s 17)
+  abbrev pub literalsOf : Origin → List Literal
+  literalsOf (from-transition t) = map (literal false) (triedBefore (transition cs t .source) (transition cs t .priority)) ++ (literal true t ∷ [])
+  literalsOf (from-idling s) = map (literal false) (triedBefore s (mostPriorities + 1))
 
   -- ---- "Updates by edge: exit, transition, entry."
 
-  abbrev pub updatesOf : ℕ → List Deed
-  updatesOf t = of (transition cs t .source) (cs .exits) ++ of t (cs .transition-actions) ++ of (transition cs t .target) (cs .entries)
+  abbrev pub updatesOf : Origin → List Deed
+  updatesOf (from-transition t) = of (transition cs t .source) (cs .exits) ++ of t (cs .transition-actions) ++ of (transition cs t .target) (cs .entries)
+  updatesOf (from-idling s) = []
 
   -- ---- "Resets by edge, then clock: all clocks of transitions leaving the target; idle edges have none."
 
@@ -83,8 +97,9 @@ module _ (cs : ChartSet) where
   clocksLeaving s =
       gather (λ t. cond (eqb (transition cs t .source) s) (map (λ _. clockOf t) (clocksOf (transition cs t .trigger))) []) (upto transitionCount)
 
-  abbrev pub resetsOf : ℕ → List ℕ
-  resetsOf t = clocksLeaving (transition cs t .target)
+  abbrev pub resetsOf : Origin → List ℕ
+  resetsOf (from-transition t) = clocksLeaving (transition cs t .target)
+  resetsOf (from-idling s) = []
 
   -- ---- "Each chart gives the automaton, each state the location of its own number; variables and nodes are copied."
 
@@ -92,13 +107,13 @@ module _ (cs : ChartSet) where
   twin = record {
     initial = cs .initial;
     homes = cs .homes;
-    edges = map edgeOf (upto transitionCount) ++ map idleOf (upto stateCount);
-    literals = byOwner (transitionCount + stateCount) (onEdge literalsOf idleLiterals);
+    edges = map edgeOf origins;
+    literals = byEdge literalsOf;
     clocks = gather (λ x. clocksOf (x .trigger)) (cs .transitions);
     variables = cs .variables;
     nodes = cs .nodes;
-    updates = byOwner (transitionCount + stateCount) (onEdge updatesOf (λ s. []));
-    resets = byOwner (transitionCount + stateCount) (onEdge resetsOf (λ s. []));
+    updates = byEdge updatesOf;
+    resets = byEdge resetsOf;
   }
 
 -- the twin's file

@@ -6,7 +6,7 @@ use mathlib.Core.List.{List, _∷_}
 use Prim.Native.Nat.{ℕ, _<_}
 use lib.Dec.{T, ltb}
 use lib.ListN.{length, take}
-use Rattle.records.specs.Lists.{all}
+use Rattle.prelude.specs.Lists.{all}
 use Rattle.records.specs.Refusal.{Refusal, val, fault, _>>=_, unless-refused}
 use Rattle.model.specs.Outcome.{Outcome, settled}
 use Rattle.model.specs.Runs.{Run, Call, start, turn, cycle}

@@ -10,13 +10,13 @@ use lib.Dec.{ltb, eqb}
 use lib.ListN.{length, getD, set, drop, length-append}
 use Rattle.records.specs.Framing.{howMany, framing, framingTests}
 use Rattle.records.specs.Refusal.{Refusal, broken-path, short-rows, Out, val, fault, _>>=_, _>>_, fault-if, unless-refused, lowest}
-use Rattle.records.proofs.FramingLaws.{and-true}
+use Rattle.prelude.proofs.Counts.{and-true}
 use Rattle.model.specs.Outcome.{settled}
 use Rattle.model.specs.ChartSet.{ChartSet, readCharts}
 use Rattle.model.specs.AutomataTable.{edge}
 use Rattle.model.specs.ChartFile.{chartLimits, chartTests, chartsRefusal}
-use Rattle.model.specs.Translation.{twin, transitionCount}
-use Rattle.model.specs.PathBack.{timeMark, Walk, Row, walkStart, timeFits, edgeFits, stepFits, walked, stepRows, ledBack, rowWords, rowsWritten, pathBack}
+use Rattle.model.specs.Translation.{Origin, from-transition, from-idling, originOf, twin}
+use Rattle.model.specs.PathBack.{timeMark, Walk, Row, walkStart, timeFits, edgeFits, stepFits, walked, rowsFrom, stepRows, ledBack, rowWords, rowsWritten, pathBack}
 use Rattle.chart_files.specs.declared.Shape.{Shape}
 use Rattle.chart_files.specs.Places.{homeAt, transitionAt}
 use Rattle.chart_files.proofs.PlacesRead.{length-initial, most-charts}
@@ -98,11 +98,11 @@ module _ (s : List ℕ) (sh : Shape) (ok : Accepted s sh) where
           subst Leads (sym (ap (λ b. cond b later onward) q)) (omega (arith, young, p), omega (arith, young, p))
 
   few-rows : (e : ℕ) (w : Walk) → length (stepRows cs e w) ≤ 1
-  few-rows e w = go (ltb e (transitionCount cs))
+  few-rows e w = go (originOf cs e)
     where
-      go : (b : Bool) → length {A = Row} (cond b (record { cycle = w .cycles; chart = w .position - 1; transition = e } ∷ []) []) ≤ 1
-      go true = omega arith
-      go false = omega arith
+      go : (o : Origin) → length (rowsFrom cs o w) ≤ 1
+      go (from-transition t) = omega arith
+      go (from-idling s) = omega arith
 
   few-along : (path : List ℕ) (w : Walk) → turns w ≤ 9_000_001 → allFit cs path w ≡ true → length (rowsAlong cs path w) + turns w ≤ 9_000_001
   unfolding allFit rowsAlong

@@ -5,17 +5,18 @@ use mathlib.Core.List.{List, [], _∷_, _++_, append-nil, append-assoc}
 use Prim.Native.Nat.{ℕ, suc, _+_, _*_, _-_, _/_, _≤_, _<_}
 use native.Mathlib.Numerals.{add-one}
 use native.Mathlib.Omega.{arith}
-use borrow.Author.Tests.{lt-ltb, le-ltb}
+use borrow.Author.Tests.{lt-ltb, le-ltb, ltb-true, ltb-false}
 use lib.Dec.{ltb}
 use lib.ListN.{length, getD, take, drop, length-append, take-append-drop}
 use lib.Seq.{sets, take-suc, take-all, drop-cons}
-use Rattle.records.specs.Lists.{gather}
+use Rattle.prelude.specs.Lists.{gather}
 use Rattle.records.specs.Refusal.{broken-path, short-rows, Out, val, fault, _>>=_, _>>_, fault-if}
-use Rattle.records.proofs.FramingLaws.{and-true}
+use Rattle.prelude.proofs.Counts.{and-true}
 use Rattle.records.proofs.Wrote.{sets-append}
 use Rattle.model.specs.ChartSet.{ChartSet}
-use Rattle.model.specs.Translation.{transitionCount}
-use Rattle.model.specs.PathBack.{Walk, Row, walkStart, stepFits, walked, stepRows, ledBack, rowWords, rowsWritten}
+use Rattle.model.specs.Translation.{Origin, from-transition, from-idling, transitionCount, originOf}
+use Rattle.model.specs.PathBack.{Walk, Row, walkStart, stepFits, walked, rowsFrom, stepRows, ledBack, rowWords, rowsWritten}
+use Rattle.model.proofs.TranslationOrigins.{originOf-edgeNumber, originOf-idling}
 use Rattle.paths.specs.Along.{allFit, walkAlong, rowsAlong}
 use Rattle.paths.specs.LedOf.{counted}
 use Rattle.paths.proofs.Along.{fit-append, walk-append, rows-append, led-is}
@@ -62,11 +63,11 @@ module _ (cs : ChartSet) (path : List ℕ) where
   walk-next i h = ap (λ p. walkAlong cs p (walkStart cs)) (next-step i h) ∙ walk-append cs (take i path) (getD path i 0 ∷ []) (walkStart cs)
 
   few-rows : (e : ℕ) (w : Walk) → length (stepRows cs e w) ≤ 1
-  few-rows e w = go (ltb e (transitionCount cs))
+  few-rows e w = go (originOf cs e)
     where
-      go : (b : Bool) → length {A = Row} (cond b (record { cycle = w .cycles; chart = w .position - 1; transition = e } ∷ []) []) ≤ 1
-      go true = omega arith
-      go false = omega arith
+      go : (o : Origin) → length (rowsFrom cs o w) ≤ 1
+      go (from-transition t) = omega arith
+      go (from-idling s) = omega arith
 
   -- the rows of one step more
   pub rows-next : (i : ℕ) (w : Walk) (rows : ℕ) → Followed i w rows → i < length path →
@@ -142,25 +143,24 @@ module _ (cs : ChartSet) (path : List ℕ) where
       ∙ ap (λ k. sets (written lent i) k (rowWords (stepRows cs (getD path i 0) w)))
       (let e : 0 + length (rowWords (rowsAlong cs (take i path) (walkStart cs))) ≡ 3 * rows = omega (arith, length-words (rowsAlong cs (take i path) (walkStart cs)), f .many) in e)
 
-  abbrev row : ℕ → Walk → Row
-  row e w = record { cycle = w .cycles; chart = w .position - 1; transition = e }
-
   -- the rows of a step: how many, and their words, of so many transitions
   module _ (e : ℕ) (w : Walk) (transitions : ℕ) (are : transitionCount cs ≡ transitions) where
-    pub rows-many : length (stepRows cs e w) ≡ cond (ltb e transitions) 1 0
-    rows-many = ap (λ n. length (cond (ltb e n) (row e w ∷ []) [])) are ∙ go (ltb e transitions)
+    -- an edge of a transition has the transition's number; behind them, and past all edges, are idlings
+    from-edge : {A : Type 0} (f : Origin → A) (none : A) → ((s : ℕ) → f (from-idling s) ≡ none) → f (originOf cs e) ≡ cond (ltb e transitions) (f (from-transition e)) none
+    from-edge f none idle = go (ltb e transitions) refl
       where
-        go : (b : Bool) → length (cond b (row e w ∷ []) []) ≡ cond b 1 0
-        go true = refl
-        go false = refl
+        go : (b : Bool) → ltb e transitions ≡ b → f (originOf cs e) ≡ cond b (f (from-transition e)) none
+        go true q = ap f (originOf-edgeNumber cs (from-transition e) (let l : e < transitions = ltb-true e transitions q in omega (arith, are)))
+        go false q =
+            let (s, is) = originOf-idling cs e (let l : transitions ≤ e = ltb-false e transitions q in omega (arith, are)) in
+            ap f is ∙ idle s
+
+    pub rows-many : length (stepRows cs e w) ≡ cond (ltb e transitions) 1 0
+    rows-many = from-edge (λ o. length (rowsFrom cs o w)) 0 (λ s. refl)
 
     pub words-are : rowWords (stepRows cs e w) ≡ cond (ltb e transitions) (w .cycles ∷ (w .position - 1) ∷ e ∷ []) []
     unfolding gather
-    words-are = ap (λ n. rowWords (cond (ltb e n) (row e w ∷ []) [])) are ∙ go (ltb e transitions)
-      where
-        go : (b : Bool) → rowWords (cond b (row e w ∷ []) []) ≡ cond b (w .cycles ∷ (w .position - 1) ∷ e ∷ []) []
-        go true = refl
-        go false = refl
+    words-are = from-edge (λ o. rowWords (rowsFrom cs o w)) [] (λ s. refl)
 
   -- a row more has room where all have
   pub room-next : (i : ℕ) (w : Walk) (rows n : ℕ) → Followed i w rows → i < length path → length (stepRows cs (getD path i 0) w) ≡ 1 → 3 * length (rowsAlong cs path (walkStart cs)) ≤ n → 3 * rows + 3 ≤ n

@@ -10,19 +10,19 @@ use lib.ListN.{length, getD}
 use Rattle.model.specs.Owned.{home}
 use Rattle.model.specs.ChartSet.{transition, readCharts}
 use Rattle.model.specs.AutomataTable.{Edge, edge}
-use Rattle.model.specs.Translation.{transitionCount, stateCount, edgeOf, idleOf, twin}
+use Rattle.model.specs.Translation.{from-transition, from-idling, edgeOf, twin}
 use Rattle.chart_files.specs.declared.Shape.{Shape}
 use Rattle.chart_files.specs.Places.{homeAt, transitionAt}
 use Rattle.chart_files.proofs.PlacesRead.{length-initial, length-homes, length-transitions, home-is, transition-is}
 use Rattle.charts.specs.Accepted.{Accepted}
 use Rattle.charts.proofs.Accepted.{source-known}
-use Rattle.model.proofs.TranslationEdges.{edge-transition, edge-idle, edges-count}
-use Rattle.model.proofs.ListLaws.{all-getD}
+use Rattle.model.proofs.TranslationOrigins.{origins-count, edges-count, edge-of}
+use Rattle.prelude.proofs.Lists.{all-getD}
 use Rattle.model.proofs.ChartFile.{homes-named}
 
 module _ (s : List ℕ) (sh : Shape) (ok : Accepted s sh) where
   pub count-is : length (twin (readCharts s) .edges) ≡ sh .transitions + sh .states
-  count-is = edges-count (readCharts s) ∙ (λ i. length-transitions s sh (ok .shape) i + length-homes s sh (ok .shape) i)
+  count-is = edges-count (readCharts s) ∙ origins-count (readCharts s) ∙ (λ i. length-transitions s sh (ok .shape) i + length-homes s sh (ok .shape) i)
 
   -- the chart of a state
   pub home-known : (n : ℕ) → n < sh .states → homeAt s sh n < sh .charts
@@ -34,8 +34,8 @@ module _ (s : List ℕ) (sh : Shape) (ok : Accepted s sh) where
 
   -- a transition's edge
   module _ (t : ℕ) (h : t < sh .transitions) where
-    low-is : edge (twin (readCharts s)) t ≡ edgeOf (readCharts s) t
-    low-is = edge-transition (readCharts s) t (rw (length-transitions s sh (ok .shape)) h)
+    low-is : edge (twin (readCharts s)) t ≡ edgeOf (readCharts s) (from-transition t)
+    low-is = edge-of (readCharts s) (from-transition t) (rw (length-transitions s sh (ok .shape)) h)
 
     pub low-source : edge (twin (readCharts s)) t .source ≡ transitionAt s sh t .source
     low-source = ap (λ x. x .source) low-is ∙ ap (λ x. x .source) (transition-is s sh (ok .shape) t h)
@@ -51,8 +51,8 @@ module _ (s : List ℕ) (sh : Shape) (ok : Accepted s sh) where
 
   -- a state's idle edge
   module _ (n : ℕ) (h : n < sh .states) where
-    high-is : edge (twin (readCharts s)) (sh .transitions + n) ≡ idleOf (readCharts s) n
-    high-is = ap (λ k. edge (twin (readCharts s)) (k + n)) (sym (length-transitions s sh (ok .shape))) ∙ edge-idle (readCharts s) n (rw (length-homes s sh (ok .shape)) h)
+    high-is : edge (twin (readCharts s)) (sh .transitions + n) ≡ edgeOf (readCharts s) (from-idling n)
+    high-is = ap (λ k. edge (twin (readCharts s)) (k + n)) (sym (length-transitions s sh (ok .shape))) ∙ edge-of (readCharts s) (from-idling n) (rw (length-homes s sh (ok .shape)) h)
 
     pub high-source : edge (twin (readCharts s)) (sh .transitions + n) .source ≡ n
     high-source = ap (λ x. x .source) high-is

@@ -8,7 +8,7 @@ use borrow.Author.Tests.{lt-ltb, le-ltb, eq-eqb, ne-eqb, ltb-true, eqb-true, eqb
 use lib.Dec.{ltb, eqb}
 use lib.ListN.{length, getD, set, take}
 use lib.Seq.{getD-take, take-set-lt}
-use Rattle.records.proofs.FramingLaws.{and-true}
+use Rattle.prelude.proofs.Counts.{and-true}
 use Rattle.model.specs.ChartSet.{ChartSet, readCharts}
 use Rattle.model.specs.AutomataTable.{edge}
 use Rattle.model.specs.Translation.{twin}

@@ -16,6 +16,9 @@ use chart_files::fields::home_of;
 use chart_files::fields::source_of;
 use chart_files::fields::target_of;
 use records::refusals::Refusal;
+use records::sizes::EDGES;
+use records::sizes::MOST_CYCLES;
+use records::sizes::Places;
 
 // An edge of the twin: one of a transition, or a state's idle edge.
 pub struct Edge {
@@ -26,9 +29,9 @@ pub struct Edge {
 
 // Of each edge its automaton and its ends, made once for a path.
 pub struct EdgeTable {
-    pub automata: [u8; 384],
-    pub sources: [u16; 384],
-    pub targets: [u16; 384],
+    pub automata: [u8; EDGES],
+    pub sources: [u16; EDGES],
+    pub targets: [u16; EDGES],
 }
 
 // How many rows a path has, if its steps fit.
@@ -73,9 +76,9 @@ fn edges_of(s: &[u8], shape: Shape) -> EdgeTable
     requires { ⌜ Accepted (now s) shape ⌝ }
     ensures { λ r. ⌜ HasEdges (now (s .entry)) shape (r .automata) (r .sources) (r .targets) ⌝ }
 {
-    let mut automata = [0u8; 384];
-    let mut sources = [0u16; 384];
-    let mut targets = [0u16; 384];
+    let mut automata = [0u8; EDGES];
+    let mut sources = [0u16; EDGES];
+    let mut targets = [0u16; EDGES];
     let mut e: u16 = 0;
     while e < shape.transitions + shape.states {
         let edge = edge_of(s, shape, e);
@@ -93,7 +96,7 @@ fn edges_of(s: &[u8], shape: Shape) -> EdgeTable
 }
 
 // A path starts where a run does, at position 1 of cycle 0.
-fn start_locations(s: &[u8], shape: Shape) -> [u16; 8]
+fn start_locations(s: &[u8], shape: Shape) -> Places
     requires { ⌜ Accepted (now s) shape ⌝ }
     ensures { λ r. ⌜ walkIn (shape .charts) r 1 0 ≡ walkStart (readCharts (now (s .entry))) ⌝ }
 {
@@ -104,11 +107,11 @@ fn start_locations(s: &[u8], shape: Shape) -> [u16; 8]
 fn edge_fits(
     s: &[u8],
     shape: Shape,
-    automata: &[u8; 384],
-    sources: &[u16; 384],
-    targets: &[u16; 384],
+    automata: &[u8; EDGES],
+    sources: &[u16; EDGES],
+    targets: &[u16; EDGES],
     e: u16,
-    locations: &[u16; 8],
+    locations: &Places,
     position: u32,
 ) -> bool
     requires { ⌜ Accepted (now s) shape × HasEdges (now s) shape (now automata) (now sources) (now targets) ⌝ }
@@ -131,18 +134,18 @@ fn edge_fits(
 fn step_fits(
     s: &[u8],
     shape: Shape,
-    automata: &[u8; 384],
-    sources: &[u16; 384],
-    targets: &[u16; 384],
+    automata: &[u8; EDGES],
+    sources: &[u16; EDGES],
+    targets: &[u16; EDGES],
     e: u16,
-    locations: &[u16; 8],
+    locations: &Places,
     position: u32,
     cycles: u32,
 ) -> bool
     requires { ⌜ Accepted (now s) shape × HasEdges (now s) shape (now automata) (now sources) (now targets) ⌝ }
     ensures { λ r. ⌜ r ≡ stepFits (readCharts (now (s .entry))) e (walkIn (shape .charts) (now (locations .entry)) position cycles) ⌝ }
 {
-    if 1000000 <= cycles {
+    if MOST_CYCLES <= cycles {
         return false;
     }
     if e == 65535 {
@@ -170,11 +173,11 @@ fn next_cycles(e: u16, cycles: u32) -> u32
 fn follow_step(
     s: &[u8],
     shape: Shape,
-    automata: &[u8; 384],
-    sources: &[u16; 384],
-    targets: &[u16; 384],
+    automata: &[u8; EDGES],
+    sources: &[u16; EDGES],
+    targets: &[u16; EDGES],
     e: u16,
-    locations: &mut [u16; 8],
+    locations: &mut Places,
     position: u32,
     cycles: u32,
 )
@@ -200,9 +203,9 @@ fn rows_of_step(shape: Shape, e: u16) -> usize
 fn count_rows(
     s: &[u8],
     shape: Shape,
-    automata: &[u8; 384],
-    sources: &[u16; 384],
-    targets: &[u16; 384],
+    automata: &[u8; EDGES],
+    sources: &[u16; EDGES],
+    targets: &[u16; EDGES],
     path: &[u16],
 ) -> Count
     requires { ⌜ Accepted (now s) shape × HasEdges (now s) shape (now automata) (now sources) (now targets) ⌝ }

@@ -10,7 +10,7 @@ use borrow.Author.Tests.{le-ltb, ne-eqb, leb-true, ltb-true, ltb-false, eqb-true
 use lib.Dec.{leb, ltb, eqb}
 use lib.ListN.{length, getD, take, length-take}
 use lib.Seq.{getD-take}
-use Rattle.records.specs.Lists.{all, any, count, keep, mapFrom, ascending}
+use Rattle.prelude.specs.Lists.{all, any, count, keep, mapFrom, ascending}
 use Rattle.records.specs.Refusal.{odd-length, unordered-kinds, wrong-amounts, lowest}
 use Rattle.records.specs.Bytes.{records, kind, ofKind}
 use Rattle.records.specs.Framing.{known, howMany, firstOf, kinds, oddLength, unorderedKinds, wrongAmounts, framing, counts, firsts}
@@ -18,7 +18,8 @@ use Rattle.records.specs.Frame.{framingOf, unlessRefused, IsFrame}
 use Rattle.records.specs.declared.Frame.{Frame}
 use Rattle.records.specs.declared.Framing.the-variants.{Framed}
 use Rattle.records.proofs.Records.{recordAt, getD-records, length-records}
-use Rattle.records.proofs.FramingLaws.{impossible, and-true, count-le, length-keep, below-next, getD-upto, all-ascending, all-known}
+use Rattle.prelude.proofs.Counts.{impossible, and-true, count-le, length-keep, below-next, getD-upto}
+use Rattle.records.proofs.FramingLaws.{all-ascending, all-known}
 
 -- how many of a kind there are, of any file
 pub length-ofKind : (k : ℕ) (s : List ℕ) → length (ofKind k s) ≡ howMany k s

@@ -11,7 +11,7 @@ use lib.ListN.{length, set, length-set}
 use lib.Seq.{sets, getD-set-same, getD-set-other}
 use lib.IntN.{ℤ, pos, negsuc}
 use lib.Signed.{mag}
-use Rattle.records.specs.Lists.{all}
+use Rattle.prelude.specs.Lists.{all}
 use Rattle.records.specs.Bytes.{byte, two, four, signed, unsigned, two±, four±, bytes2, bytes4, bytes2±, bytes4±}
 use Rattle.records.proofs.Records.{recordAt, byte-record}
 

@@ -10,12 +10,13 @@ use borrow.Author.Tests.{ltb-true, ltb-false, le-leb, lt-leb, leb-true, leb-fals
 use lib.Dec.{leb, ltb, eqb}
 use lib.ListN.{length, getD, take, set, replicate, length-set, length-take, getD-replicate}
 use lib.Seq.{getD-set-same, getD-set-other}
-use Rattle.records.specs.Lists.{all, count, ascending}
+use Rattle.prelude.specs.Lists.{all, count, ascending}
 use Rattle.records.specs.Bytes.{byte, kind}
 use Rattle.records.specs.Framing.{known, howMany, unorderedKinds, counts}
 use Rattle.records.specs.Frame.{IsRun}
 use Rattle.records.proofs.Records.{rest, rest-all, rest-none, rest-one}
-use Rattle.records.proofs.FramingLaws.{disorder, disorder-first, is-table, kind-record, kinds-one, known-not-above, known-within, at-unknown, at-descent, at-next, at-end}
+use Rattle.prelude.proofs.Counts.{is-table}
+use Rattle.records.proofs.FramingLaws.{disorder, disorder-first, kind-record, kinds-one, known-not-above, known-within, at-unknown, at-descent, at-next, at-end}
 
 -- from one number on to another
 walk : (Q : ℕ → Type 0) (i e : ℕ) → i ≤ e → Q i → ((m : ℕ) → i ≤ m → m < e → Q m → Q (m + 1)) → Q e

@@ -5,7 +5,7 @@ use Prim.Native.Nat.{ℕ, zero, suc, _+_, _*_, _-_, _/_, _%_, _^_}
 use lib.Dec.{ltb, eqb}
 use lib.ListN.{length, getD, take, drop}
 use lib.IntN.{ℤ, pos, negsuc}
-use Rattle.records.specs.Lists.{keep, Lists}
+use Rattle.prelude.specs.Lists.{keep, Lists}
 
 -- Byte k of a list, bytes k and k + 1, bytes k to k + 3. A byte past the end is 0.
 abbrev pub byte : List ℕ → ℕ → ℕ

@@ -6,7 +6,7 @@ use mathlib.Core.List.{List}
 use Prim.Native.Nat.{ℕ, zero, suc, _+_, _*_, _/_, _≤_, _<_}
 use lib.Dec.{ltb, eqb}
 use lib.ListN.{length, getD, take, replicate}
-use Rattle.records.specs.Lists.{any, mapFrom}
+use Rattle.prelude.specs.Lists.{any, mapFrom}
 use Rattle.records.specs.Refusal.{Refusal, odd-length, unordered-kinds, wrong-amounts}
 use Rattle.records.specs.Bytes.{byte}
 use Rattle.records.specs.Framing as F

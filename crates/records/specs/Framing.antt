@@ -5,7 +5,7 @@ use mathlib.Core.List.{List, [], _∷_, _++_, map}
 use Prim.Native.Nat.{ℕ, zero, suc, _+_, _%_}
 use lib.Dec.{leb, ltb, eqb}
 use lib.ListN.{length, take, replicate}
-use Rattle.records.specs.Lists.{all, any, count, mapFrom, upto, ascending, Lists}
+use Rattle.prelude.specs.Lists.{all, any, count, mapFrom, upto, ascending, Lists}
 use Rattle.records.specs.Refusal.{Refusal, odd-length, unordered-kinds, wrong-amounts, lowest}
 use Rattle.records.specs.Bytes.{records, kind, ofKind, Bytes}
 

@@ -4,11 +4,12 @@ ghost use mathlib.Core.List.{map};
 ghost use Prim.Native.Nat.{_+_, _-_, _*_, _/_, _≤_, _<_, _^_};
 ghost use lib.ListN.{length, take, set, replicate};
 ghost use lib.Seq.{sets};
-ghost use Rattle.records.specs.Lists.{upto};
+ghost use Rattle.prelude.specs.Lists.{upto};
 ghost use Rattle.records.specs.Bytes.{byte, two, four, signed, two±, four±, bytes2, bytes4, unsigned, bytes2±, bytes4±};
 ghost use Rattle.records.specs.Frame.{IsFrame, IsRun, IsTally, exceeds, sumTo};
 
 pub mod refusals;
+pub mod sizes;
 
 // The byte at a place, 0 past the end.
 pub fn byte_at(s: &[u8], at: usize) -> u8

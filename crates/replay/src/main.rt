@@ -19,6 +19,15 @@ use messages::input::read_file;
 use messages::words::print;
 use messages::words::tell_fault;
 use messages::words::tell_refusal;
+use records::sizes::ACTION_KEYS;
+use records::sizes::ACTIONS;
+use records::sizes::ActionHeads;
+use records::sizes::ActionLinks;
+use records::sizes::Ends;
+use records::sizes::FILE_ROOM;
+use records::sizes::PRIORITIES;
+use records::sizes::Rows;
+use records::sizes::STATES;
 use replays::sets::cycle_into;
 
 // Whether to go on, and from which run.
@@ -46,10 +55,10 @@ fn tell_ending(answer: Ending) -> bool {
 fn play_mask(
     s: &[u8],
     shape: Shape,
-    rows: &[[u16; 16]; 128],
-    ends: &[u8; 128],
-    first: &[u16; 512],
-    next: &[u16; 512],
+    rows: &Rows,
+    ends: &Ends,
+    first: &ActionHeads,
+    next: &ActionLinks,
     run: Run,
     mask: u32,
 ) -> Played
@@ -73,10 +82,10 @@ fn play_mask(
 fn play_next(
     s: &[u8],
     shape: Shape,
-    rows: &[[u16; 16]; 128],
-    ends: &[u8; 128],
-    first: &[u16; 512],
-    next: &[u16; 512],
+    rows: &Rows,
+    ends: &Ends,
+    first: &ActionHeads,
+    next: &ActionLinks,
     run: Run,
 ) -> Played
     requires { ⌜ Prepared (now s) shape (now rows) (now ends) (now first) (now next) ⌝ }
@@ -94,14 +103,7 @@ fn play_next(
 }
 
 // Refusal 14 ends any replay long before the count of turns does.
-fn play(
-    s: &[u8],
-    shape: Shape,
-    rows: &[[u16; 16]; 128],
-    ends: &[u8; 128],
-    first: &[u16; 512],
-    next: &[u16; 512],
-)
+fn play(s: &[u8], shape: Shape, rows: &Rows, ends: &Ends, first: &ActionHeads, next: &ActionLinks)
     requires { ⌜ Prepared (now s) shape (now rows) (now ends) (now first) (now next) ⌝ }
 {
     let mut run = start(s, shape);
@@ -122,11 +124,11 @@ fn play_file(s: &[u8]) {
     match check(s) {
         Checked::Refused(w) => tell_refusal(w),
         Checked::Accepted(shape) => {
-            let empty = [256u16; 16];
-            let mut rows = [empty; 128];
-            let mut ends = [0u8; 128];
-            let mut first = [65535u16; 512];
-            let mut next = [65535u16; 512];
+            let empty = [256u16; PRIORITIES];
+            let mut rows = [empty; STATES];
+            let mut ends = [0u8; STATES];
+            let mut first = [65535u16; ACTION_KEYS];
+            let mut next = [65535u16; ACTIONS];
             fill_rows(s, shape, &mut rows, &mut ends);
             fill_actions(s, shape, &mut first, &mut next);
             play(s, shape, &rows, &ends, &first, &next);
@@ -135,7 +137,7 @@ fn play_file(s: &[u8]) {
 }
 
 fn play_named(name: &[u8]) {
-    let mut file = [0u8; 262144];
+    let mut file = [0u8; FILE_ROOM];
     let got = read_file(name, &mut file, Form::Set);
     if got.failed {
         return;

@@ -18,6 +18,10 @@ use messages::input::read_file;
 use messages::words::print;
 use messages::words::tell_fault;
 use messages::words::tell_refusal;
+use records::sizes::FILE_ROOM;
+use records::sizes::TABLE_KEYS;
+use records::sizes::TABLE_RECORDS;
+use records::sizes::TableHeads;
 use replays::twins::cycle_into;
 
 // Whether to go on, and from which run.
@@ -45,7 +49,7 @@ fn tell_ending(answer: Ending) -> bool {
 fn play_mask(
     s: &[u8],
     shape: Shape,
-    first: &[u16; 896],
+    first: &TableHeads,
     next: &[u16],
     run: Run,
     mask: u32,
@@ -67,7 +71,7 @@ fn play_mask(
     Played { going, run: after }
 }
 
-fn play_next(s: &[u8], shape: Shape, first: &[u16; 896], next: &[u16], run: Run) -> Played
+fn play_next(s: &[u8], shape: Shape, first: &TableHeads, next: &[u16], run: Run) -> Played
     requires { ⌜ Prepared (now s) shape (now first) (now next) ⌝ }
 {
     let mut four = [0u8; 4];
@@ -83,7 +87,7 @@ fn play_next(s: &[u8], shape: Shape, first: &[u16; 896], next: &[u16], run: Run)
 }
 
 // Refusal 14 ends any replay long before the count of turns does.
-fn play(s: &[u8], shape: Shape, first: &[u16; 896], next: &[u16])
+fn play(s: &[u8], shape: Shape, first: &TableHeads, next: &[u16])
     requires { ⌜ Prepared (now s) shape (now first) (now next) ⌝ }
 {
     let mut run = start(s, shape);
@@ -104,8 +108,8 @@ fn play_file(s: &[u8]) {
     match check(s) {
         Checked::Refused(w) => tell_refusal(w),
         Checked::Accepted(shape) => {
-            let mut first = [65535u16; 896];
-            let mut next = [65535u16; 14536];
+            let mut first = [65535u16; TABLE_KEYS];
+            let mut next = [65535u16; TABLE_RECORDS];
             index_of(s, shape, &mut first, &mut next);
             play(s, shape, &first, &next);
         }
@@ -113,7 +117,7 @@ fn play_file(s: &[u8]) {
 }
 
 fn play_named(name: &[u8]) {
-    let mut file = [0u8; 262144];
+    let mut file = [0u8; FILE_ROOM];
     let got = read_file(name, &mut file, Form::Table);
     if got.failed {
         return;

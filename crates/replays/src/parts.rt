@@ -7,6 +7,8 @@ ghost use Rattle.replays.specs.Played.{answerText};
 use lines::Chosen;
 use lines::put_bounded_line;
 use machines::answers::Answer;
+use records::sizes::Places;
+use records::sizes::Variables;
 
 // Its line from `at` on, in 482 bytes at most. Time has none, nor has a turn that is not taken.
 pub fn tell(
@@ -15,8 +17,8 @@ pub fn tell(
     cycle: u32,
     part: u32,
     answer: Answer,
-    places: &[u16; 8],
-    variables: &[i16; 64],
+    places: &Places,
+    variables: &Variables,
     count: u16,
 ) -> usize
     requires { ⌜ (at < 2 ^ 59) × (part < 8) × (count ≤ 64) ⌝ }

@@ -16,6 +16,10 @@ use charts::runs::Run;
 use charts::turns::turn;
 use machines::answers::Answer;
 use machines::answers::Ending;
+use records::sizes::ActionHeads;
+use records::sizes::ActionLinks;
+use records::sizes::Ends;
+use records::sizes::Rows;
 
 // The length of the lines written, how the cycle ended, and the run after it.
 pub struct ReplayedCycle {
@@ -29,10 +33,10 @@ pub struct ReplayedCycle {
 pub fn cycle_into(
     s: &[u8],
     shape: Shape,
-    rows: &[[u16; 16]; 128],
-    ends: &[u8; 128],
-    first: &[u16; 512],
-    next: &[u16; 512],
+    rows: &Rows,
+    ends: &Ends,
+    first: &ActionHeads,
+    next: &ActionLinks,
     run: Run,
     events: u32,
     out: &mut [u8],

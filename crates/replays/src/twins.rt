@@ -16,6 +16,7 @@ use automata::turns::turn;
 use automata_files::Shape;
 use machines::answers::Answer;
 use machines::answers::Ending;
+use records::sizes::TableHeads;
 
 // The length of the lines written, how the cycle ended, and the run after it.
 pub struct ReplayedCycle {
@@ -28,7 +29,7 @@ pub struct ReplayedCycle {
 pub fn cycle_into(
     s: &[u8],
     shape: Shape,
-    first: &[u16; 896],
+    first: &TableHeads,
     next: &[u16],
     run: Run,
     events: u32,

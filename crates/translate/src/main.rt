@@ -12,6 +12,8 @@ use messages::input::read_file;
 use messages::texts::written_into;
 use messages::words::print;
 use messages::words::tell_refusal;
+use records::sizes::FILE_ROOM;
+use records::sizes::LONGEST_TABLE;
 use translation::Translated;
 
 fn print_written(size: u32, shape: Shape) {
@@ -61,12 +63,12 @@ fn translate_into(s: &[u8], name: &[u8], twin: &mut [u8])
 }
 
 fn translate_file(s: &[u8], name: &[u8]) {
-    let mut twin = [0u8; 232576];
+    let mut twin = [0u8; LONGEST_TABLE];
     translate_into(s, name, &mut twin);
 }
 
 fn translate_named(set: &[u8], twin: &[u8]) {
-    let mut file = [0u8; 262144];
+    let mut file = [0u8; FILE_ROOM];
     let got = read_file(set, &mut file, Form::Set);
     if got.failed {
         return;

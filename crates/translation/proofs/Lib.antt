@@ -1,5 +1,4 @@
 -- Laws that the proofs of several functions use, and that crates above cite.
-pub mod Gathered
 pub mod TextsWritten
 pub mod TextsSections
 pub mod TablesClocks

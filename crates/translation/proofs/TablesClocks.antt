@@ -6,15 +6,15 @@ use native.Mathlib.Omega.{arith}
 use native.Mathlib.Numerals.{add-one}
 use lib.ListN.{length, getD, take, length-append, List·getD-append}
 use lib.Seq.{take-suc}
-use Rattle.records.specs.Lists.{gather, upto}
-use Rattle.records.proofs.FramingLaws.{getD-upto}
+use Rattle.prelude.specs.Lists.{gather, upto}
+use Rattle.prelude.proofs.Counts.{getD-upto}
 use Rattle.model.specs.ChartSet.{ChartSet, Transition, noTransition, transition}
 use Rattle.model.specs.AutomataTable.{Clock}
 use Rattle.model.specs.Translation.{transitionCount, clocksOf, clockOf}
-use Rattle.model.proofs.ListLaws.{gather-append}
-use Rattle.machines.proofs.Filled.{length-from}
+use Rattle.prelude.proofs.Lists.{gather-append}
+use Rattle.prelude.proofs.Filled.{length-from}
 use Rattle.translation.specs.Tables.{HasClocks}
-use Rattle.translation.proofs.Gathered.{gather-none, gather-one}
+use Rattle.prelude.proofs.Gathered.{gather-none, gather-one}
 
 module _ (cs : ChartSet) where
   abbrev clocksIn : Transition → List Clock

@@ -10,15 +10,15 @@ use borrow.Author.Tests.{lt-ltb, le-ltb, ltb-true, ltb-false, eqb-true, eqb-fals
 use lib.Dec.{ltb, eqb}
 use lib.ListN.{length, getD, set, replicate, length-append, length-map, length-set, length-replicate, getD-replicate}
 use lib.Seq.{getD-set-same, getD-set-other}
-use Rattle.records.specs.Lists.{keep, count, upto}
-use Rattle.records.proofs.FramingLaws.{length-keep}
+use Rattle.prelude.specs.Lists.{keep, count, upto}
+use Rattle.prelude.proofs.Counts.{length-keep}
 use Rattle.model.specs.ChartSet.{ChartSet, readCharts, transition, noTransition}
 use Rattle.model.specs.ChartFile.{chartsRefusal}
-use Rattle.model.specs.AutomataTable.{bit}
-use Rattle.model.specs.Translation.{stateCount, transitionCount, clocksOf, clockOf, literal, triedBefore, literalsOf, idleLiterals, updatesOf, clocksLeaving, resetsOf, twin}
-use Rattle.model.proofs.BoolLaws.{of-true, eqb-comm}
-use Rattle.model.proofs.ListLaws.{kept-apart}
-use Rattle.model.proofs.Sums.{sumFrom, sum-alike, sum-add, sum-most, sum-least, sum-append, sum-swap, sum-zero, count-from, once-most, once-least, count-keep, count-below, length-gathered}
+use Rattle.prelude.specs.Lists.{bit}
+use Rattle.model.specs.Translation.{from-transition, from-idling, stateCount, transitionCount, clocksOf, clockOf, literal, triedBefore, literalsOf, updatesOf, clocksLeaving, resetsOf, twin}
+use Rattle.prelude.proofs.Bools.{of-true, eqb-comm}
+use Rattle.prelude.proofs.Lists.{kept-apart}
+use Rattle.prelude.proofs.Sums.{sumFrom, sum-alike, sum-add, sum-most, sum-least, sum-append, sum-swap, sum-zero, count-from, once-most, once-least, count-keep, count-below, length-gathered}
 use Rattle.model.proofs.ChartFile.{source-in, priority-low, priority-high, priorities-differ}
 use Rattle.model.proofs.TranslationCounts.{onEdge-sum}
 use Rattle.translation.specs.Tables.{sourceOf}
@@ -183,15 +183,15 @@ module _ (cs : ChartSet) where
       go t false = refl
 
   abbrev pub effectsOf : ℕ → ℕ
-  effectsOf t = length (updatesOf cs t) + length (resetsOf cs t)
+  effectsOf t = length (updatesOf cs (from-transition t)) + length (resetsOf cs (from-transition t))
 
   pub effects-are : sumFrom effectsOf 0 (transitionCount cs) ≡ length (twin cs .updates) + length (twin cs .resets)
   effects-are =
       omega (
         arith,
-        sum-add (λ t. length (updatesOf cs t)) (λ t. length (resetsOf cs t)) 0 (transitionCount cs),
-        onEdge-sum cs (updatesOf cs) (λ z. []),
-        onEdge-sum cs (resetsOf cs) (λ z. []),
+        sum-add (λ t. length (updatesOf cs (from-transition t))) (λ t. length (resetsOf cs (from-transition t))) 0 (transitionCount cs),
+        byEdge-sum cs (updatesOf cs),
+        byEdge-sum cs (resetsOf cs),
         sum-zero 0 (stateCount cs),
       )
 
@@ -250,12 +250,12 @@ module _ (s : List ℕ) (ok : chartsRefusal s ≡ none) where
           ∙ sum-alike (λ u. bit (leaves z u && ltb (rank u) 1)) (λ u. 0) 0 (transitionCount cs) (λ u a b. and-off (leaves z u) (ltb (rank u) 1) (le-ltb (rank u) 1 (priority-low s ok u (omega arith))))
           ∙ sum-zero 0 (transitionCount cs)
 
-  literals-of : (t : ℕ) → t < transitionCount cs → length (literalsOf cs t) ≡ sumFrom (lower source rank t) 0 (transitionCount cs) + 1
+  literals-of : (t : ℕ) → t < transitionCount cs → length (literalsOf cs (from-transition t)) ≡ sumFrom (lower source rank t) 0 (transitionCount cs) + 1
   literals-of t h =
       length-append (map (literal cs false) (triedBefore cs (source t) (rank t))) (literal cs true t ∷ [])
       ∙ ap (λ n. n + 1) (length-map (triedBefore cs (source t) (rank t)) (literal cs false) ∙ above-count (source t) (rank t) (priority-low s ok t h))
 
-  idles-of : (z : ℕ) → length (idleLiterals cs z) ≡ sumFrom (λ u. bit (leaves z u)) 0 (transitionCount cs)
+  idles-of : (z : ℕ) → length (literalsOf cs (from-idling z)) ≡ sumFrom (λ u. bit (leaves z u)) 0 (transitionCount cs)
   idles-of z =
       length-map (triedBefore cs z 17) (literal cs false)
       ∙ above-count z 17 (omega arith)
@@ -267,14 +267,14 @@ module _ (s : List ℕ) (ok : chartsRefusal s ≡ none) where
   literals-are =
       omega (
         arith,
-        onEdge-sum cs (literalsOf cs) (idleLiterals cs),
-        sum-alike (λ t. length (literalsOf cs t)) (λ t. sumFrom (lower source rank t) 0 (transitionCount cs) + 1) 0 (transitionCount cs) (λ t a b. literals-of t (omega arith)),
+        byEdge-sum cs (literalsOf cs),
+        sum-alike (λ t. length (literalsOf cs (from-transition t))) (λ t. sumFrom (lower source rank t) 0 (transitionCount cs) + 1) 0 (transitionCount cs) (λ t a b. literals-of t (omega arith)),
         sum-add (λ t. sumFrom (lower source rank t) 0 (transitionCount cs)) (λ t. 1) 0 (transitionCount cs),
         ones (λ t. 1) (transitionCount cs) (λ t h. refl),
         pairs-are source rank (transitionCount cs) apart,
         pairs-are source (λ u. u) (transitionCount cs) (λ t u a b e q. q),
         sum-alike (λ t. sumFrom (lower source (λ u. u) t) 0 (transitionCount cs)) (earlier source) 0 (transitionCount cs) (λ t a b. earlier-is source t (transitionCount cs) (omega arith)),
-        sum-alike (λ z. length (idleLiterals cs z)) (λ z. sumFrom (λ u. bit (leaves z u)) 0 (transitionCount cs)) 0 (stateCount cs) (λ z a b. idles-of z),
+        sum-alike (λ z. length (literalsOf cs (from-idling z))) (λ z. sumFrom (λ u. bit (leaves z u)) 0 (transitionCount cs)) 0 (stateCount cs) (λ z a b. idles-of z),
         sum-swap (λ z u. bit (leaves z u)) 0 (stateCount cs) 0 (transitionCount cs),
         ones (λ u. sumFrom (λ z. bit (leaves z u)) 0 (stateCount cs)) (transitionCount cs) (λ u h. once (source u) (stateCount cs) (source-in s ok u h)),
       )

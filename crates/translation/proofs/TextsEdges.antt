@@ -8,14 +8,14 @@ use native.Mathlib.Omega.{arith}
 use lib.Dec.{eqb}
 use lib.ListN.{length, getD, length-append, length-map}
 use borrow.Author.Tests.{eq-eqb}
-use Rattle.records.specs.Lists.{gather, keep, count, from, upto, caseOf}
-use Rattle.records.proofs.FramingLaws.{length-keep}
+use Rattle.prelude.specs.Lists.{gather, keep, count, from, upto, caseOf}
+use Rattle.prelude.proofs.Counts.{length-keep}
 use Rattle.model.specs.ChartSet.{ChartSet, transition}
 use Rattle.model.specs.AutomataTable.{Literal, writeReset, writeLiteral}
-use Rattle.model.specs.Translation.{transitionCount, clocksOf, clockOf, literal, triedBefore, clocksLeaving}
-use Rattle.chart_files.proofs.ListLaws.{gather-map, gather-keep}
+use Rattle.model.specs.Translation.{from-transition, transitionCount, clocksOf, clockOf, literal, triedBefore, clocksLeaving}
+use Rattle.prelude.proofs.Maps.{gather-map, gather-keep}
 use Rattle.model.specs.ChartSet.{readCharts}
-use Rattle.model.specs.Owned.{of}
+use Rattle.prelude.specs.Owned.{of}
 use Rattle.model.specs.Runs.{Deed}
 use Rattle.model.specs.AutomataTable.{writeUpdate}
 use Rattle.model.specs.Translation.{updatesOf}
@@ -32,8 +32,8 @@ use Rattle.charts.proofs.TablesActions.{of-key}
 use Rattle.charts.proofs.Accepted.{source-known, target-known}
 use Rattle.translation.specs.Texts.{recordText, literalTexts, updateTexts, resetTexts}
 use Rattle.translation.specs.Tables.{sourceOf, HasLeaving}
-use Rattle.model.proofs.ListLaws.{gather-append}
-use Rattle.translation.proofs.Gathered.{gather-gather, gather-empty, gather-shift, gather-alike, gather-below, from-append}
+use Rattle.prelude.proofs.Lists.{gather-append}
+use Rattle.prelude.proofs.Gathered.{gather-gather, gather-empty, gather-shift, gather-alike, gather-below, from-append}
 
 module _ (cs : ChartSet) (e st : ℕ) where
   -- the must-nots of one priority
@@ -121,7 +121,7 @@ module _ (s : List ℕ) (sh : Shape) (ok : Accepted s sh) where
   deeds-count key = length-map (keep (keyed s sh key) (upto (sh .actions))) (λ a. actionAt s sh a .1) ∙ length-keep (keyed s sh key) (upto (sh .actions))
 
   module _ (t source target : ℕ) (h : t < sh .transitions) (e : source ≡ transitionAt s sh t .source) (d : target ≡ transitionAt s sh t .target) where
-    pub updates-are : deedsOf (128 + source) ++ deedsOf (256 + t) ++ deedsOf target ≡ updatesOf (readCharts s) t
+    pub updates-are : deedsOf (128 + source) ++ deedsOf (256 + t) ++ deedsOf target ≡ updatesOf (readCharts s) (from-transition t)
     unfolding caseOf
     updates-are =
         let same = transition-is s sh (ok .shape) t h in
@@ -135,7 +135,7 @@ module _ (s : List ℕ) (sh : Shape) (ok : Accepted s sh) where
         sym (of-key s sh ok 1 target (inl (refl, target-small))) ∙ ap (λ o. of o (readCharts s .entries)) (d ∙ ap (λ x. x .target) (sym same)) in
         λ i. exits i ++ own i ++ entries i
 
-    pub updates-text : updateTexts t (deedsOf (128 + source)) ++ updateTexts t (deedsOf (256 + t)) ++ updateTexts t (deedsOf target) ≡ updateTexts t (updatesOf (readCharts s) t)
+    pub updates-text : updateTexts t (deedsOf (128 + source)) ++ updateTexts t (deedsOf (256 + t)) ++ updateTexts t (deedsOf target) ≡ updateTexts t (updatesOf (readCharts s) (from-transition t))
     updates-text =
         sym
         (gather-append text (deedsOf (128 + source) ++ deedsOf (256 + t)) (deedsOf target)
@@ -145,7 +145,7 @@ module _ (s : List ℕ) (sh : Shape) (ok : Accepted s sh) where
         text : Deed → List ℕ
         text x = recordText 40 (writeUpdate (t, x))
 
-    pub updates-count : length (updatesOf (readCharts s) t) ≡ keyedCount (128 + source) + keyedCount (256 + t) + keyedCount target
+    pub updates-count : length (updatesOf (readCharts s) (from-transition t)) ≡ keyedCount (128 + source) + keyedCount (256 + t) + keyedCount target
     updates-count =
         ap length (sym updates-are)
         ∙ length-append (deedsOf (128 + source) ++ deedsOf (256 + t)) (deedsOf target)

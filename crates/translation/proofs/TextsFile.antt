@@ -1,6 +1,5 @@
 -- The twin's file, from its parts: sections one after the other, and those that belong to edges by the transitions and then the states. Assumes nothing.
 use mathlib.Core.Path.{_≡_, sym, ap, _∙_}
-use mathlib.Core.Bool.{cond}
 use mathlib.Core.List.{List, [], _∷_, _++_, map, append-assoc, append-nil}
 use Prim.Native.Nat.{ℕ, _+_, _-_, _≤_, _<_}
 use native.Mathlib.Nat.{zero-add}
@@ -8,19 +7,20 @@ use native.Mathlib.Omega.{arith}
 use borrow.Author.Tests.{lt-ltb, le-ltb}
 use lib.ListN.{length, drop}
 use lib.Seq.{sets, sets-eq}
-use Rattle.records.specs.Lists.{gather, from, upto}
+use Rattle.prelude.specs.Lists.{gather, from, upto}
 use Rattle.records.specs.Bytes.{bytes2}
 use Rattle.expressions.specs.Nodes.{writeNode}
 use Rattle.records.specs.Refusal.{val, fault, short-buffer, fault-if, _>>_}
 use Rattle.model.specs.ChartSet.{ChartSet}
-use Rattle.model.specs.Owned.{byOwner}
+use Rattle.prelude.specs.Owned.{byOwner}
 use Rattle.model.specs.AutomataTable.{Automata, writeEdge, writeLiteral, writeClock, writeVariable, writeUpdate, writeReset, sections, writeAutomata}
-use Rattle.model.specs.Translation.{transitionCount, stateCount, onEdge, written}
-use Rattle.chart_files.proofs.ListLaws.{gather-map}
+use Rattle.model.specs.Translation.{Origin, from-transition, from-idling, transitionCount, stateCount, origins, originOf, edgeNumber, byEdge, written}
+use Rattle.model.proofs.TranslationOrigins.{IsOrigin, origins-count, originOf-edgeNumber}
+use Rattle.prelude.proofs.Maps.{gather-map}
 use Rattle.translation.specs.Texts.{recordText, section, edgeTexts, placesText, testsText, effectsText}
 use Rattle.translation.proofs.TextsSections.{gathered-text}
-use Rattle.model.proofs.ListLaws.{gather-append}
-use Rattle.translation.proofs.Gathered.{gather-none, gather-gather, gather-empty, gather-below, gather-shift, from-append}
+use Rattle.prelude.proofs.Lists.{gather-append}
+use Rattle.prelude.proofs.Gathered.{gather-none, gather-gather, gather-empty, gather-below, gather-shift, from-append}
 
 -- ---- one section after the other
 
@@ -54,38 +54,38 @@ module _ (cs : ChartSet) {A : Type 0} (kind : ℕ) (body : ℕ × A → List ℕ
       gathered-text kind body (λ k. map (λ x. (k, x)) (f k)) (upto n)
       ∙ (λ i. gather (λ k. (gather-map body (recordText kind) (map (λ x. (k, x)) (f k)) ∙ gather-map (λ x. (k, x)) (λ y. recordText kind (body y)) (f k)) i) (upto n))
 
-  module _ (ofTransition ofState : ℕ → List A) where
-    abbrev text : ℕ → List ℕ
-    text e = edgeTexts kind body e (onEdge cs ofTransition ofState e)
+  -- what an origin's edge has
+  abbrev originText : (Origin → List A) → Origin → List ℕ
+  originText f o = edgeTexts kind body (edgeNumber cs o) (f o)
 
-    of-transition : (e : ℕ) → e < transitionCount cs → text e ≡ edgeTexts kind body e (ofTransition e)
-    of-transition e h = ap (λ b. edgeTexts kind body e (cond b (ofTransition e) (ofState (e - transitionCount cs)))) (lt-ltb e (transitionCount cs) h)
+  -- of the transitions, then of the idlings
+  pub byEdge-text : (f : Origin → List A) →
+      section kind (map body (byEdge cs f)) ≡ gather (λ t. originText f (from-transition t)) (upto (transitionCount cs)) ++ gather (λ st. originText f (from-idling st)) (upto (stateCount cs))
+  byEdge-text f =
+      by-owner-text (length (origins cs)) (λ e. f (originOf cs e))
+      ∙ ap (λ n. gather text (upto n)) (origins-count cs)
+      ∙ ap (gather text) (from-append 0 (transitionCount cs) (stateCount cs))
+      ∙ gather-append text (upto (transitionCount cs)) (from (0 + transitionCount cs) (stateCount cs))
+      ∙ (λ i. gather-below text (λ t. originText f (from-transition t)) (transitionCount cs) (λ t h. of-origin (from-transition t) h) i
+      ++ (ap (λ k. gather text (from k (stateCount cs))) (let e : 0 + transitionCount cs ≡ transitionCount cs + 0 = omega arith in e)
+      ∙ gather-shift text (transitionCount cs) 0 (stateCount cs)
+      ∙ gather-below (λ st. text (transitionCount cs + st)) (λ st. originText f (from-idling st)) (stateCount cs) (λ st h. of-origin (from-idling st) h)) i)
+    where
+      text : ℕ → List ℕ
+      text e = edgeTexts kind body e (f (originOf cs e))
 
-    of-state : (st : ℕ) → text (transitionCount cs + st) ≡ edgeTexts kind body (transitionCount cs + st) (ofState st)
-    of-state st =
-        ap (λ b. edgeTexts kind body (transitionCount cs + st) (cond b (ofTransition (transitionCount cs + st)) (ofState (transitionCount cs + st - transitionCount cs)))) (le-ltb (transitionCount cs + st) (transitionCount cs) (omega arith))
-        ∙ ap (λ k. edgeTexts kind body (transitionCount cs + st) (ofState k)) (let e : transitionCount cs + st - transitionCount cs ≡ st = omega arith in e)
+      of-origin : (o : Origin) → IsOrigin cs o → text (edgeNumber cs o) ≡ originText f o
+      of-origin o h = ap (λ z. edgeTexts kind body (edgeNumber cs o) (f z)) (originOf-edgeNumber cs o h)
 
-    -- those of the transitions, then those of the states
-    pub owned-text : section kind (map body (byOwner (transitionCount cs + stateCount cs) (onEdge cs ofTransition ofState)))
-        ≡ gather (λ t. edgeTexts kind body t (ofTransition t)) (upto (transitionCount cs)) ++ gather (λ st. edgeTexts kind body (transitionCount cs + st) (ofState st)) (upto (stateCount cs))
-    owned-text =
-        by-owner-text (transitionCount cs + stateCount cs) (onEdge cs ofTransition ofState)
-        ∙ ap (gather text) (from-append 0 (transitionCount cs) (stateCount cs))
-        ∙ gather-append text (upto (transitionCount cs)) (from (0 + transitionCount cs) (stateCount cs))
-        ∙ (λ i. gather-below text (λ t. edgeTexts kind body t (ofTransition t)) (transitionCount cs) of-transition i
-        ++ (ap (λ k. gather text (from k (stateCount cs))) (let e : 0 + transitionCount cs ≡ transitionCount cs + 0 = omega arith in e)
-        ∙ gather-shift text (transitionCount cs) 0 (stateCount cs)
-        ∙ gather-below (λ st. text (transitionCount cs + st)) (λ st. edgeTexts kind body (transitionCount cs + st) (ofState st)) (stateCount cs) (λ st h. of-state st)) i)
-
-  -- where the states have none
-  pub transitions-text : (ofTransition : ℕ → List A) →
-      section kind (map body (byOwner (transitionCount cs + stateCount cs) (onEdge cs ofTransition (λ st. [])))) ≡ gather (λ t. edgeTexts kind body t (ofTransition t)) (upto (transitionCount cs))
-  transitions-text ofTransition =
-      owned-text ofTransition (λ st. [])
-      ∙ ap (λ l. gather (λ t. edgeTexts kind body t (ofTransition t)) (upto (transitionCount cs)) ++ l)
-      ((λ i. gather (λ st. gather-none (λ (x : A). recordText kind (body (transitionCount cs + st, x))) i) (upto (stateCount cs))) ∙ gather-empty (upto (stateCount cs)))
-      ∙ append-nil (gather (λ t. edgeTexts kind body t (ofTransition t)) (upto (transitionCount cs)))
+  -- where the idlings have none
+  pub transitions-text : (f : Origin → List A) → ((z : ℕ) → f (from-idling z) ≡ []) →
+      section kind (map body (byEdge cs f)) ≡ gather (λ t. originText f (from-transition t)) (upto (transitionCount cs))
+  transitions-text f none =
+      byEdge-text f
+      ∙ ap (λ l. gather (λ t. originText f (from-transition t)) (upto (transitionCount cs)) ++ l)
+      (gather-below (λ st. originText f (from-idling st)) (λ st. []) (stateCount cs) (λ st h. ap (edgeTexts kind body (edgeNumber cs (from-idling st))) (none st) ∙ gather-none (λ (x : A). recordText kind (body (edgeNumber cs (from-idling st), x))))
+      ∙ gather-empty (upto (stateCount cs)))
+      ∙ append-nil (gather (λ t. originText f (from-transition t)) (upto (transitionCount cs)))
 
 -- ---- the answer
 

@@ -8,17 +8,17 @@ use borrow.Author.Tests.{eqb-true, eqb-false, leb-true}
 use lib.Dec.{T, eqb}
 use lib.ListN.{length, getD, take, drop}
 use lib.Seq.{getD-take, getD-drop}
-use Rattle.records.specs.Lists.{all, caseOf}
+use Rattle.prelude.specs.Lists.{all, caseOf}
 use Rattle.records.specs.Bytes.{byte, two, four, four±, signed, unsigned, bytes2, bytes4, records, kind, ofKind}
 use Rattle.records.specs.Refusal.{odd-length}
 use Rattle.records.proofs.Records.{recordAt, byte-record}
 use Rattle.records.proofs.RoundTrips.{two-record, four-record, unsigned-signed}
-use Rattle.records.proofs.FramingLaws.{and-true}
+use Rattle.prelude.proofs.Counts.{and-true}
 use Rattle.records.proofs.Framed.{length-ofKind, framed-thing}
 use Rattle.expressions.specs.Nodes.{nodeBy, readNode, nodeAt, writeNode}
 use Rattle.model.specs.ChartFile.{zeroBytes, between, unusedTransition, unusedVariable, unusedNode, unusedAction, unused, unusedAreZero, transitionInCode, variableInCode, nodeInCode, actionInCode, inCode, chartLimits, chartTests}
-use Rattle.model.proofs.BoolLaws.{is-true, not-not}
-use Rattle.model.proofs.ListLaws as M
+use Rattle.prelude.proofs.Bools.{is-true, not-not}
+use Rattle.prelude.proofs.Lists as M
 use Rattle.model.proofs.ChartFile.{lowest-none}
 use Rattle.chart_files.specs.declared.Shape.{Shape}
 use Rattle.chart_files.specs.Places.{firstNode, nodePart}

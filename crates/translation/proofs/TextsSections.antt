@@ -3,12 +3,12 @@ use mathlib.Core.Path.{_≡_, sym, ap, _∙_}
 use mathlib.Core.List.{List, [], _∷_, map}
 use Prim.Native.Nat.{ℕ, _+_, _*_, _/_, _%_, _^_, _<_}
 use native.Mathlib.Omega.{arith}
-use Rattle.records.specs.Lists.{gather, upto}
+use Rattle.prelude.specs.Lists.{gather, upto}
 use Rattle.records.specs.Bytes.{byte, signed, two±, bytes2, bytes2±}
 use Rattle.records.proofs.RoundTrips.{unsigned-signed}
-use Rattle.chart_files.proofs.ListLaws.{gather-map}
+use Rattle.prelude.proofs.Maps.{gather-map}
 use Rattle.translation.specs.Texts.{recordText, section}
-use Rattle.translation.proofs.Gathered.{gather-gather}
+use Rattle.prelude.proofs.Gathered.{gather-gather}
 
 -- a list of things by their numbers
 pub placed-text : {A : Type 0} (kind : ℕ) (body : A → List ℕ) (g : ℕ → A) (xs : List A) (n : ℕ) → xs ≡ map g (upto n) →

@@ -8,13 +8,13 @@ use native.Mathlib.Numerals.{add-one}
 use native.Mathlib.Omega.{arith}
 use lib.ListN.{length, getD, take, set}
 use lib.Seq.{sets, take-suc, length-take-le}
-use Rattle.records.specs.Lists.{gather, keep, from, upto}
+use Rattle.prelude.specs.Lists.{gather, keep, from, upto}
 use Rattle.records.specs.Wrote.{Wrote}
 use Rattle.records.proofs.Wrote.{sets-append, nothing-wrote, wrote-then}
 use Rattle.machines.specs.Chains.{remaining, withKey, Chained}
 use Rattle.machines.proofs.Chains.{At, chain-start, chain-all, chain-next, chain-one, chain-rises, chain-done}
 use Rattle.translation.specs.Texts.{Puts}
-use Rattle.translation.proofs.Gathered.{gather-none, gather-cons, gather-more}
+use Rattle.prelude.proofs.Gathered.{gather-none, gather-cons, gather-more}
 
 -- ---- byte after byte
 

@@ -3,7 +3,7 @@ use mathlib.Core.Path.{_≡_}
 use mathlib.Core.List.{List, map}
 use Prim.Native.Nat.{ℕ, _<_}
 use lib.ListN.{length, getD}
-use Rattle.records.specs.Lists.{count, upto, padded}
+use Rattle.prelude.specs.Lists.{count, upto, padded}
 use Rattle.model.specs.ChartSet.{ChartSet, transition}
 use Rattle.model.specs.Translation.{clockOf, clocksLeaving}
 use Rattle.machines.specs.Chains.{Chained}

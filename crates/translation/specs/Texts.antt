@@ -1,7 +1,7 @@
 -- The texts of automata records: one record, the records of a kind, those that belong to an edge; and what a writer of them does. Assumes nothing: these are definitions.
 use mathlib.Core.List.{List, [], _∷_, _++_, map}
 use Prim.Native.Nat.{ℕ, _+_, _≤_}
-use Rattle.records.specs.Lists.{gather, padded}
+use Rattle.prelude.specs.Lists.{gather, padded}
 use Rattle.records.specs.Bytes.{bytes2}
 use Rattle.expressions.specs.Nodes.{writeNode}
 use Rattle.records.specs.Wrote.{Wrote}

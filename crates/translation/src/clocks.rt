@@ -3,7 +3,7 @@ ghost use mathlib.Core.Path.{_≡_};
 ghost use mathlib.Core.List.{map};
 ghost use Prim.Native.Nat.{_≤_, _<_, _^_};
 ghost use lib.ListN.{length, replicate};
-ghost use Rattle.records.specs.Lists.{gather};
+ghost use Rattle.prelude.specs.Lists.{gather};
 ghost use Rattle.model.specs.ChartSet.{readCharts};
 ghost use Rattle.model.specs.AutomataTable.{writeClock};
 ghost use Rattle.model.specs.Translation.{clocksOf};
@@ -16,7 +16,8 @@ use super::writing::clock_bytes;
 use super::writing::put_record;
 use chart_files::Shape;
 use chart_files::fields::Trigger;
-use charts::triggers::ticks;
+use records::sizes::TRANSITIONS;
+use timings::ticks;
 
 // A timing trigger has one.
 pub fn clocks_in(trigger: Trigger) -> u16
@@ -31,7 +32,7 @@ pub fn clocks_in(trigger: Trigger) -> u16
 }
 
 // Of each transition the number of clocks before its own.
-pub fn fill_clocks(s: &[u8], shape: Shape, clocks: &mut [u16; 256])
+pub fn fill_clocks(s: &[u8], shape: Shape, clocks: &mut [u16; TRANSITIONS])
     requires { ⌜ IsShape (now s) shape × (now clocks ≡ replicate 256 0) ⌝ }
     ensures { λ _. ⌜ HasClocks (readCharts (now (s .entry))) (now (clocks .exit)) ⌝ }
 {

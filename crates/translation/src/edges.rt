@@ -2,10 +2,10 @@
 ghost use mathlib.Core.Path.{_≡_};
 ghost use mathlib.Core.List.{map};
 ghost use Prim.Native.Nat.{_<_, _^_};
-ghost use Rattle.records.specs.Lists.{upto};
+ghost use Rattle.prelude.specs.Lists.{upto};
 ghost use Rattle.model.specs.ChartSet.{readCharts};
 ghost use Rattle.model.specs.AutomataTable.{writeEdge};
-ghost use Rattle.model.specs.Translation.{transitionCount, stateCount, edgeOf, idleOf};
+ghost use Rattle.model.specs.Translation.{from-transition, from-idling, transitionCount, stateCount, edgeOf};
 ghost use Rattle.charts.specs.Accepted.{Accepted};
 ghost use Rattle.translation.specs.Texts.{recordText, section, Puts};
 use super::writing::edge_bytes;
@@ -17,7 +17,7 @@ use charts::transitions::target_of;
 
 fn edge_record(s: &[u8], shape: Shape, t: u16) -> [u8; 16]
     requires { ⌜ Accepted (now s) shape × (t < shape .transitions) ⌝ }
-    ensures { λ r. ⌜ r ≡ recordText 35 (writeEdge (edgeOf (readCharts (now (s .entry))) t)) ⌝ }
+    ensures { λ r. ⌜ r ≡ recordText 35 (writeEdge (edgeOf (readCharts (now (s .entry))) (from-transition t))) ⌝ }
 {
     let source = source_of(s, shape, t);
     edge_bytes(home_of(s, shape, source), source, target_of(s, shape, t), 0)
@@ -25,14 +25,14 @@ fn edge_record(s: &[u8], shape: Shape, t: u16) -> [u8; 16]
 
 fn idle_record(s: &[u8], shape: Shape, state: u16) -> [u8; 16]
     requires { ⌜ Accepted (now s) shape × (state < shape .states) ⌝ }
-    ensures { λ r. ⌜ r ≡ recordText 35 (writeEdge (idleOf (readCharts (now (s .entry))) state)) ⌝ }
+    ensures { λ r. ⌜ r ≡ recordText 35 (writeEdge (edgeOf (readCharts (now (s .entry))) (from-idling state))) ⌝ }
 {
     edge_bytes(home_of(s, shape, state), state, state, 1)
 }
 
 pub fn put_edges(s: &[u8], shape: Shape, out: &mut [u8], at: usize) -> usize
     requires { ⌜ Accepted (now s) shape × (at < 2 ^ 60) ⌝ }
-    ensures { λ r. ⌜ Puts (now (out .entry)) at (section 35 (map writeEdge (map (edgeOf (readCharts (now (s .entry)))) (upto (transitionCount (readCharts (now (s .entry)))))))) (now (out .exit)) r (2 ^ 40) ⌝ }
+    ensures { λ r. ⌜ Puts (now (out .entry)) at (section 35 (map writeEdge (map (λ t. edgeOf (readCharts (now (s .entry))) (from-transition t)) (upto (transitionCount (readCharts (now (s .entry)))))))) (now (out .exit)) r (2 ^ 40) ⌝ }
 {
     let mut next = at;
     let mut t: u16 = 0;
@@ -46,7 +46,7 @@ pub fn put_edges(s: &[u8], shape: Shape, out: &mut [u8], at: usize) -> usize
 
 pub fn put_idles(s: &[u8], shape: Shape, out: &mut [u8], at: usize) -> usize
     requires { ⌜ Accepted (now s) shape × (at < 2 ^ 60) ⌝ }
-    ensures { λ r. ⌜ Puts (now (out .entry)) at (section 35 (map writeEdge (map (idleOf (readCharts (now (s .entry)))) (upto (stateCount (readCharts (now (s .entry)))))))) (now (out .exit)) r (2 ^ 40) ⌝ }
+    ensures { λ r. ⌜ Puts (now (out .entry)) at (section 35 (map writeEdge (map (λ z. edgeOf (readCharts (now (s .entry))) (from-idling z)) (upto (stateCount (readCharts (now (s .entry)))))))) (now (out .exit)) r (2 ^ 40) ⌝ }
 {
     let mut next = at;
     let mut state: u16 = 0;

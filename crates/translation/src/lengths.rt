@@ -13,8 +13,13 @@ use chart_files::fields::first_node;
 use charts::actions::key_of;
 use charts::transitions::source_of;
 use charts::transitions::target_of;
+use records::sizes::ACTION_KEYS;
+use records::sizes::ActionHeads;
+use records::sizes::CROSSING_PLACES;
+use records::sizes::EXIT_PLACES;
+use records::sizes::STATES;
 
-fn count_actions(s: &[u8], shape: Shape, counts: &mut [u16; 512])
+fn count_actions(s: &[u8], shape: Shape, counts: &mut ActionHeads)
     requires { ⌜ Accepted (now s) shape × (now counts ≡ replicate 512 0) ⌝ }
     ensures { λ _. ⌜ CountsActions (now (s .entry)) shape (now (counts .exit)) ⌝ }
 {
@@ -28,11 +33,11 @@ fn count_actions(s: &[u8], shape: Shape, counts: &mut [u16; 512])
 
 // Literals and clocks. Of two transitions that leave a state one is a must-not of the other, so each is counted with those before it that leave its
 // state; its own literal and the idle edge's make two.
-fn count_tests(s: &[u8], shape: Shape, resets: &mut [u16; 128]) -> usize
+fn count_tests(s: &[u8], shape: Shape, resets: &mut [u16; STATES]) -> usize
     requires { ⌜ Accepted (now s) shape × (now resets ≡ replicate 128 0) ⌝ }
     ensures { λ r. ⌜ (r ≡ length (twin (readCharts (now (s .entry))) .literals) + length (twin (readCharts (now (s .entry))) .clocks)) × CountsResets (readCharts (now (s .entry))) (now (resets .exit)) ⌝ }
 {
-    let mut leaving = [0u16; 128];
+    let mut leaving = [0u16; STATES];
     let mut n: usize = 0;
     let mut t: u16 = 0;
     while t < shape.transitions {
@@ -47,7 +52,7 @@ fn count_tests(s: &[u8], shape: Shape, resets: &mut [u16; 128]) -> usize
 }
 
 // Updates and resets.
-fn count_effects(s: &[u8], shape: Shape, actions: &[u16; 512], resets: &[u16; 128]) -> usize
+fn count_effects(s: &[u8], shape: Shape, actions: &ActionHeads, resets: &[u16; STATES]) -> usize
     requires { ⌜ Accepted (now s) shape × CountsActions (now s) shape (now actions) × CountsResets (readCharts (now s)) (now resets) ⌝ }
     ensures { λ r. ⌜ r ≡ length (twin (readCharts (now (s .entry))) .updates) + length (twin (readCharts (now (s .entry))) .resets) ⌝ }
 {
@@ -56,8 +61,8 @@ fn count_effects(s: &[u8], shape: Shape, actions: &[u16; 512], resets: &[u16; 12
     while t < shape.transitions {
         let source = source_of(s, shape, t) as usize;
         let target = target_of(s, shape, t) as usize;
-        let leaving = 128 + source;
-        let crossing = 256 + (t as usize);
+        let leaving = EXIT_PLACES + source;
+        let crossing = CROSSING_PLACES + (t as usize);
         n += (actions[leaving] + actions[crossing] + actions[target] + resets[target]) as usize;
         t += 1;
     }
@@ -69,9 +74,9 @@ pub fn twin_length(s: &[u8], shape: Shape) -> usize
     requires { ⌜ Accepted (now s) shape ⌝ }
     ensures { λ r. ⌜ r ≡ length (twinBytes (now (s .entry))) ⌝ }
 {
-    let mut actions = [0u16; 512];
+    let mut actions = [0u16; ACTION_KEYS];
     count_actions(s, shape, &mut actions);
-    let mut resets = [0u16; 128];
+    let mut resets = [0u16; STATES];
     let tests = count_tests(s, shape, &mut resets);
     let effects = count_effects(s, shape, &actions, &resets);
     let copied = first_node(shape) + (shape.nodes as usize);

@@ -32,6 +32,12 @@ use lengths::twin_length;
 use literals::put_idle_literals;
 use literals::put_literals;
 use records::refusals::Refusal;
+use records::sizes::ACTION_KEYS;
+use records::sizes::ACTIONS;
+use records::sizes::LONGEST_TABLE;
+use records::sizes::PRIORITIES;
+use records::sizes::STATES;
+use records::sizes::TRANSITIONS;
 use resets::fill_leaving;
 use resets::put_resets;
 use sections::put_homes;
@@ -58,13 +64,19 @@ fn put_places(s: &[u8], shape: Shape, out: &mut [u8], at: usize) -> usize
 }
 
 // Kinds 36 to 39. The rows are made once, of 256, which names none.
-fn put_tests(s: &[u8], shape: Shape, clocks: &[u16; 256], out: &mut [u8], at: usize) -> usize
+fn put_tests(
+    s: &[u8],
+    shape: Shape,
+    clocks: &[u16; TRANSITIONS],
+    out: &mut [u8],
+    at: usize,
+) -> usize
     requires { ⌜ Accepted (now s) shape × HasClocks (readCharts (now s)) (now clocks) × (at < 2 ^ 51) ⌝ }
     ensures { λ r. ⌜ Puts (now (out .entry)) at (testsText (twin (readCharts (now (s .entry))))) (now (out .exit)) r (2 ^ 43) ⌝ }
 {
-    let empty = [256u16; 16];
-    let mut rows = [empty; 128];
-    let mut ends = [0u8; 128];
+    let empty = [256u16; PRIORITIES];
+    let mut rows = [empty; STATES];
+    let mut ends = [0u8; STATES];
     fill_rows(s, shape, &mut rows, &mut ends);
     let idles_at = put_literals(s, shape, clocks, &rows, out, at);
     let clocks_at = put_idle_literals(s, shape, clocks, &rows, &ends, out, idles_at);
@@ -74,16 +86,22 @@ fn put_tests(s: &[u8], shape: Shape, clocks: &[u16; 256], out: &mut [u8], at: us
 }
 
 // Kinds 40 and 41.
-fn put_effects(s: &[u8], shape: Shape, clocks: &[u16; 256], out: &mut [u8], at: usize) -> usize
+fn put_effects(
+    s: &[u8],
+    shape: Shape,
+    clocks: &[u16; TRANSITIONS],
+    out: &mut [u8],
+    at: usize,
+) -> usize
     requires { ⌜ Accepted (now s) shape × HasClocks (readCharts (now s)) (now clocks) × (at < 2 ^ 52) ⌝ }
     ensures { λ r. ⌜ Puts (now (out .entry)) at (effectsText (twin (readCharts (now (s .entry))))) (now (out .exit)) r (2 ^ 42) ⌝ }
 {
-    let mut first_action = [65535u16; 512];
-    let mut next_action = [65535u16; 512];
+    let mut first_action = [65535u16; ACTION_KEYS];
+    let mut next_action = [65535u16; ACTIONS];
     fill_actions(s, shape, &mut first_action, &mut next_action);
     let resets_at = put_updates(s, shape, &first_action, &next_action, out, at);
-    let mut first = [65535u16; 128];
-    let mut next = [65535u16; 256];
+    let mut first = [65535u16; STATES];
+    let mut next = [65535u16; TRANSITIONS];
     fill_leaving(s, shape, &mut first, &mut next);
     put_resets(s, shape, clocks, &first, &next, out, resets_at)
 }
@@ -93,7 +111,7 @@ fn put_twin(s: &[u8], shape: Shape, out: &mut [u8]) -> usize
     requires { ⌜ Accepted (now s) shape ⌝ }
     ensures { λ r. ⌜ Puts (now (out .entry)) 0 (twinBytes (now (s .entry))) (now (out .exit)) r (2 ^ 50) ⌝ }
 {
-    let mut clocks = [0u16; 256];
+    let mut clocks = [0u16; TRANSITIONS];
     fill_clocks(s, shape, &mut clocks);
     let tests_at = put_places(s, shape, out, 0);
     let effects_at = put_tests(s, shape, &clocks, out, tests_at);
@@ -105,7 +123,7 @@ fn has_room(s: &[u8], shape: Shape, room: usize) -> bool
     requires { ⌜ Accepted (now s) shape ⌝ }
     ensures { λ r. ⌜ r ≡ leb (length (twinBytes (now (s .entry)))) room ⌝ }
 {
-    if 232576 <= room {
+    if LONGEST_TABLE <= room {
         return true;
     }
     twin_length(s, shape) <= room

@@ -3,11 +3,11 @@ ghost use mathlib.Core.Path.{_≡_};
 ghost use mathlib.Core.List.{_∷_, _++_, map};
 ghost use mathlib.Core.Bool.{false};
 ghost use Prim.Native.Nat.{_+_, _≤_, _<_, _^_};
-ghost use Rattle.records.specs.Lists.{gather, upto};
+ghost use Rattle.prelude.specs.Lists.{gather, upto};
 ghost use Rattle.records.specs.Bytes.{bytes2};
 ghost use Rattle.model.specs.ChartSet.{readCharts, transition};
 ghost use Rattle.model.specs.AutomataTable.{writeLiteralTrigger, writeGuard};
-ghost use Rattle.model.specs.Translation.{transitionCount, stateCount, literalTriggerOf, literal, triedBefore, literalsOf, idleLiterals};
+ghost use Rattle.model.specs.Translation.{from-transition, from-idling, edgeNumber, transitionCount, stateCount, literalTriggerOf, literal, triedBefore, literalsOf};
 ghost use Rattle.chart_files.specs.Parts.{guardFor};
 ghost use Rattle.charts.specs.Accepted.{Accepted};
 ghost use Rattle.charts.specs.Tables.{HasRows, HasEnds, named};
@@ -23,6 +23,9 @@ use chart_files::fields::Guard;
 use chart_files::fields::Trigger;
 use charts::tables::slot_of;
 use charts::transitions::source_of;
+use records::sizes::Ends;
+use records::sizes::Rows;
+use records::sizes::TRANSITIONS;
 
 fn guard_number(guard: Guard) -> u16
     ensures { λ r. ⌜ bytes2 r ≡ writeGuard (guardFor guard) ⌝ }
@@ -37,7 +40,7 @@ fn guard_number(guard: Guard) -> u16
 fn literal_record(
     s: &[u8],
     shape: Shape,
-    clocks: &[u16; 256],
+    clocks: &[u16; TRANSITIONS],
     sign: u8,
     edge: u16,
     t: u16,
@@ -59,7 +62,7 @@ fn literal_record(
 fn put_negation(
     s: &[u8],
     shape: Shape,
-    clocks: &[u16; 256],
+    clocks: &[u16; TRANSITIONS],
     out: &mut [u8],
     at: usize,
     edge: u16,
@@ -80,8 +83,8 @@ fn put_negation(
 fn put_negations(
     s: &[u8],
     shape: Shape,
-    clocks: &[u16; 256],
-    rows: &[[u16; 16]; 128],
+    clocks: &[u16; TRANSITIONS],
+    rows: &Rows,
     out: &mut [u8],
     at: usize,
     edge: u16,
@@ -105,14 +108,14 @@ fn put_negations(
 fn put_literals_of(
     s: &[u8],
     shape: Shape,
-    clocks: &[u16; 256],
-    rows: &[[u16; 16]; 128],
+    clocks: &[u16; TRANSITIONS],
+    rows: &Rows,
     out: &mut [u8],
     at: usize,
     t: u16,
 ) -> usize
     requires { ⌜ Accepted (now s) shape × HasClocks (readCharts (now s)) (now clocks) × HasRows (readCharts (now s)) (now rows) × (t < shape .transitions) × (at < 2 ^ 61) ⌝ }
-    ensures { λ r. ⌜ Puts (now (out .entry)) at (literalTexts t (literalsOf (readCharts (now (s .entry))) t)) (now (out .exit)) r (2 ^ 22) ⌝ }
+    ensures { λ r. ⌜ Puts (now (out .entry)) at (literalTexts t (literalsOf (readCharts (now (s .entry))) (from-transition t))) (now (out .exit)) r (2 ^ 22) ⌝ }
 {
     let higher = (priority_of(s, shape, t) - 1) as usize;
     let source = source_of(s, shape, t);
@@ -124,13 +127,13 @@ fn put_literals_of(
 pub fn put_literals(
     s: &[u8],
     shape: Shape,
-    clocks: &[u16; 256],
-    rows: &[[u16; 16]; 128],
+    clocks: &[u16; TRANSITIONS],
+    rows: &Rows,
     out: &mut [u8],
     at: usize,
 ) -> usize
     requires { ⌜ Accepted (now s) shape × HasClocks (readCharts (now s)) (now clocks) × HasRows (readCharts (now s)) (now rows) × (at < 2 ^ 60) ⌝ }
-    ensures { λ r. ⌜ Puts (now (out .entry)) at (gather (λ t. literalTexts t (literalsOf (readCharts (now (s .entry))) t)) (upto (transitionCount (readCharts (now (s .entry)))))) (now (out .exit)) r (2 ^ 40) ⌝ }
+    ensures { λ r. ⌜ Puts (now (out .entry)) at (gather (λ t. literalTexts t (literalsOf (readCharts (now (s .entry))) (from-transition t))) (upto (transitionCount (readCharts (now (s .entry)))))) (now (out .exit)) r (2 ^ 40) ⌝ }
 {
     let mut next = at;
     let mut t: u16 = 0;
@@ -145,14 +148,14 @@ pub fn put_literals(
 pub fn put_idle_literals(
     s: &[u8],
     shape: Shape,
-    clocks: &[u16; 256],
-    rows: &[[u16; 16]; 128],
-    ends: &[u8; 128],
+    clocks: &[u16; TRANSITIONS],
+    rows: &Rows,
+    ends: &Ends,
     out: &mut [u8],
     at: usize,
 ) -> usize
     requires { ⌜ Accepted (now s) shape × HasClocks (readCharts (now s)) (now clocks) × HasRows (readCharts (now s)) (now rows) × HasEnds (readCharts (now s)) (now rows) (now ends) × (at < 2 ^ 60) ⌝ }
-    ensures { λ r. ⌜ Puts (now (out .entry)) at (gather (λ st. literalTexts (transitionCount (readCharts (now (s .entry))) + st) (idleLiterals (readCharts (now (s .entry))) st)) (upto (stateCount (readCharts (now (s .entry)))))) (now (out .exit)) r (2 ^ 40) ⌝ }
+    ensures { λ r. ⌜ Puts (now (out .entry)) at (gather (λ st. literalTexts (edgeNumber (readCharts (now (s .entry))) (from-idling st)) (literalsOf (readCharts (now (s .entry))) (from-idling st))) (upto (stateCount (readCharts (now (s .entry)))))) (now (out .exit)) r (2 ^ 40) ⌝ }
 {
     let mut next = at;
     let mut state: u16 = 0;

@@ -3,9 +3,9 @@ ghost use mathlib.Core.Path.{_≡_};
 ghost use mathlib.Core.List.{map};
 ghost use Prim.Native.Nat.{_<_, _^_};
 ghost use lib.ListN.{drop, replicate};
-ghost use Rattle.records.specs.Lists.{gather, upto};
+ghost use Rattle.prelude.specs.Lists.{gather, upto};
 ghost use Rattle.model.specs.ChartSet.{readCharts};
-ghost use Rattle.model.specs.Translation.{transitionCount, clocksOf, clocksLeaving, resetsOf};
+ghost use Rattle.model.specs.Translation.{from-transition, transitionCount, clocksOf, clocksLeaving, resetsOf};
 ghost use Rattle.chart_files.specs.Parts.{triggerFor};
 ghost use Rattle.charts.specs.Accepted.{Accepted};
 ghost use Rattle.translation.specs.Tables.{HasClocks, HasLeaving};
@@ -17,10 +17,17 @@ use chart_files::Shape;
 use chart_files::fields::Trigger;
 use charts::transitions::source_of;
 use charts::transitions::target_of;
+use records::sizes::STATES;
+use records::sizes::TRANSITIONS;
 
 // Of each state its first leaving transition, and of each transition the next that leaves the same state; 65535 is none. From the last transition down,
 // so that each finds the one behind it; places past the transitions are kept.
-pub fn fill_leaving(s: &[u8], shape: Shape, first: &mut [u16; 128], next: &mut [u16; 256])
+pub fn fill_leaving(
+    s: &[u8],
+    shape: Shape,
+    first: &mut [u16; STATES],
+    next: &mut [u16; TRANSITIONS],
+)
     requires { ⌜ Accepted (now s) shape × (now first ≡ replicate 128 65535) × (now next ≡ replicate 256 65535) ⌝ }
     ensures { λ _. ⌜ HasLeaving (readCharts (now (s .entry))) (now (first .exit)) (now (next .exit)) × (drop (transitionCount (readCharts (now (s .entry)))) (now (next .exit)) ≡ drop (transitionCount (readCharts (now (s .entry)))) (now (next .entry))) ⌝ }
 {
@@ -49,9 +56,9 @@ fn put_reset(trigger: Trigger, clock: u16, out: &mut [u8], at: usize, edge: u16)
 fn put_leaving(
     s: &[u8],
     shape: Shape,
-    clocks: &[u16; 256],
-    first: &[u16; 128],
-    next: &[u16; 256],
+    clocks: &[u16; TRANSITIONS],
+    first: &[u16; STATES],
+    next: &[u16; TRANSITIONS],
     out: &mut [u8],
     at: usize,
     edge: u16,
@@ -75,14 +82,14 @@ fn put_leaving(
 pub fn put_resets(
     s: &[u8],
     shape: Shape,
-    clocks: &[u16; 256],
-    first: &[u16; 128],
-    next: &[u16; 256],
+    clocks: &[u16; TRANSITIONS],
+    first: &[u16; STATES],
+    next: &[u16; TRANSITIONS],
     out: &mut [u8],
     at: usize,
 ) -> usize
     requires { ⌜ Accepted (now s) shape × HasClocks (readCharts (now s)) (now clocks) × HasLeaving (readCharts (now s)) (now first) (now next) × (at < 2 ^ 60) ⌝ }
-    ensures { λ r. ⌜ Puts (now (out .entry)) at (gather (λ t. resetTexts t (resetsOf (readCharts (now (s .entry))) t)) (upto (transitionCount (readCharts (now (s .entry)))))) (now (out .exit)) r (2 ^ 40) ⌝ }
+    ensures { λ r. ⌜ Puts (now (out .entry)) at (gather (λ t. resetTexts t (resetsOf (readCharts (now (s .entry))) (from-transition t))) (upto (transitionCount (readCharts (now (s .entry)))))) (now (out .exit)) r (2 ^ 40) ⌝ }
 {
     let mut place = at;
     let mut t: u16 = 0;

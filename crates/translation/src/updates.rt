@@ -2,10 +2,10 @@
 ghost use mathlib.Core.Path.{_≡_};
 ghost use mathlib.Core.List.{map};
 ghost use Prim.Native.Nat.{_+_, _<_, _^_};
-ghost use Rattle.records.specs.Lists.{keep, gather, upto};
+ghost use Rattle.prelude.specs.Lists.{keep, gather, upto};
 ghost use Rattle.model.specs.ChartSet.{readCharts};
 ghost use Rattle.model.specs.AutomataTable.{writeDeed};
-ghost use Rattle.model.specs.Translation.{transitionCount, updatesOf};
+ghost use Rattle.model.specs.Translation.{from-transition, transitionCount, updatesOf};
 ghost use Rattle.chart_files.specs.Parts.{deedFor};
 ghost use Rattle.chart_files.specs.Places.{actionAt};
 ghost use Rattle.charts.specs.Accepted.{Accepted};
@@ -18,6 +18,10 @@ use chart_files::Shape;
 use chart_files::fields::Deed;
 use charts::transitions::source_of;
 use charts::transitions::target_of;
+use records::sizes::ActionHeads;
+use records::sizes::ActionLinks;
+use records::sizes::CROSSING_KEYS;
+use records::sizes::EXIT_KEYS;
 
 fn update_record(edge: u16, deed: Deed) -> [u8; 16]
     ensures { λ r. ⌜ r ≡ recordText 40 (writeDeed edge (deedFor deed)) ⌝ }
@@ -32,8 +36,8 @@ fn update_record(edge: u16, deed: Deed) -> [u8; 16]
 fn put_deeds(
     s: &[u8],
     shape: Shape,
-    first: &[u16; 512],
-    next: &[u16; 512],
+    first: &ActionHeads,
+    next: &ActionLinks,
     out: &mut [u8],
     at: usize,
     edge: u16,
@@ -55,17 +59,17 @@ fn put_deeds(
 fn put_updates_of(
     s: &[u8],
     shape: Shape,
-    first: &[u16; 512],
-    next: &[u16; 512],
+    first: &ActionHeads,
+    next: &ActionLinks,
     out: &mut [u8],
     at: usize,
     t: u16,
 ) -> usize
     requires { ⌜ Accepted (now s) shape × HasActions (now s) shape (now first) (now next) × (t < shape .transitions) × (at < 2 ^ 60 + 2 ^ 40) ⌝ }
-    ensures { λ r. ⌜ Puts (now (out .entry)) at (updateTexts t (updatesOf (readCharts (now (s .entry))) t)) (now (out .exit)) r (2 ^ 22) ⌝ }
+    ensures { λ r. ⌜ Puts (now (out .entry)) at (updateTexts t (updatesOf (readCharts (now (s .entry))) (from-transition t))) (now (out .exit)) r (2 ^ 22) ⌝ }
 {
-    let leaving = 128 + source_of(s, shape, t);
-    let crossing = 256 + t;
+    let leaving = EXIT_KEYS + source_of(s, shape, t);
+    let crossing = CROSSING_KEYS + t;
     let entering = target_of(s, shape, t);
     let crossing_at = put_deeds(s, shape, first, next, out, at, t, leaving);
     let entering_at = put_deeds(s, shape, first, next, out, crossing_at, t, crossing);
@@ -76,13 +80,13 @@ fn put_updates_of(
 pub fn put_updates(
     s: &[u8],
     shape: Shape,
-    first: &[u16; 512],
-    next: &[u16; 512],
+    first: &ActionHeads,
+    next: &ActionLinks,
     out: &mut [u8],
     at: usize,
 ) -> usize
     requires { ⌜ Accepted (now s) shape × HasActions (now s) shape (now first) (now next) × (at < 2 ^ 60) ⌝ }
-    ensures { λ r. ⌜ Puts (now (out .entry)) at (gather (λ t. updateTexts t (updatesOf (readCharts (now (s .entry))) t)) (upto (transitionCount (readCharts (now (s .entry)))))) (now (out .exit)) r (2 ^ 40) ⌝ }
+    ensures { λ r. ⌜ Puts (now (out .entry)) at (gather (λ t. updateTexts t (updatesOf (readCharts (now (s .entry))) (from-transition t))) (upto (transitionCount (readCharts (now (s .entry)))))) (now (out .exit)) r (2 ^ 40) ⌝ }
 {
     let mut place = at;
     let mut t: u16 = 0;

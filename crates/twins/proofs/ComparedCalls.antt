@@ -8,10 +8,10 @@ use native.Mathlib.Numerals.{add-one}
 use native.Mathlib.Omega.{arith}
 use borrow.Author.Tests.{lt-ltb}
 use lib.Dec.{T, ltb}
-use Rattle.model.proofs.BoolLaws.{of-true, both-of}
+use Rattle.prelude.proofs.Bools.{of-true, both-of}
 use lib.ListN.{length, getD, drop, drop-of-length-le}
 use lib.Seq.{drop-cons}
-use Rattle.records.specs.Lists.{all, mapFrom}
+use Rattle.prelude.specs.Lists.{all, mapFrom}
 use Rattle.records.specs.Refusal.{Refusal, short-buffer, Out, val, fault, _>>_, fault-if, unless-refused}
 use Rattle.model.specs.Outcome.{settled}
 use Rattle.model.specs.Runs.{Run, Call, start}

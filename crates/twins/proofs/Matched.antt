@@ -8,9 +8,9 @@ use borrow.Author.Tests.{eq-eqb, eqb-true, ltb-true, ltb-false, le-leb}
 use lib.Dec.{T, eqb, ltb}
 use lib.IntN.{ℤ, pos, negsuc}
 use lib.ListN.{length, getD, List·getD-eq-default}
-use Rattle.records.specs.Lists.{keep, gather, upto, mem}
+use Rattle.prelude.specs.Lists.{keep, gather, upto, mem}
 use Rattle.records.specs.Refusal.{Out, val, fault, refusalNumber}
-use Rattle.model.specs.Owned.{of}
+use Rattle.prelude.specs.Owned.{of}
 use Rattle.model.specs.Runs.{Run, give, Answer, taken, idle, time, Call, one-turn, whole-cycle}
 use Rattle.model.specs.ChartSet.{readCharts}
 use Rattle.model.specs.AutomataTable as M
@@ -18,9 +18,9 @@ use Rattle.model.specs.AutomataTable.{LiteralTrigger, always, event, clock, Lit
 use Rattle.model.specs.Automata.{leaving}
 use Rattle.model.specs.Calls.{chartSets, automataTables, turnCall, cycleCall}
 use Rattle.model.specs.Correspondence.{clockFor, clockRead, clocksRead, Corresponds, AnswersMatch, OutsMatch, CallMatches, lentAfter, MoveAlike}
-use Rattle.model.proofs.BoolLaws.{of-true, both-of, clash}
-use Rattle.model.proofs.ListLaws.{mem-left, mem-right, mem-gather, mem-kept, mem-from}
-use Rattle.chart_files.proofs.NumberLaws.{all-by}
+use Rattle.prelude.proofs.Bools.{of-true, both-of, clash}
+use Rattle.prelude.proofs.Lists.{mem-left, mem-right, mem-gather, mem-kept, mem-from}
+use Rattle.prelude.proofs.Numbers.{all-by}
 use Rattle.automata_files.specs.declared.Shape.{Shape}
 use Rattle.automata_files.specs.Places.{edgeAt, literalAt}
 use Rattle.automata_files.proofs.PlacesRead.{length-edges, length-literals, edge-is, literal-is, clock-is}

@@ -7,7 +7,7 @@ use lib.Dec.{ltb, eqb}
 use lib.IntN.{ℤ, pos}
 use lib.ListN.{length, getD}
 use lib.Signed.{leZ}
-use Rattle.records.specs.Lists.{all, upto}
+use Rattle.prelude.specs.Lists.{all, upto}
 use Rattle.records.specs.Refusal.{Out, val, fault, refusalNumber}
 use Rattle.model.specs.Runs.{Run, Answer, taken, idle, time, Call, one-turn, whole-cycle}
 use Rattle.model.specs.AutomataTable.{LiteralTrigger, always, event, clock}

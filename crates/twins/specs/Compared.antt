@@ -4,7 +4,7 @@ use mathlib.Core.List.{List}
 use Prim.Native.Nat.{ℕ}
 use lib.IntN.{pos}
 use lib.ListN.{length, replicate}
-use Rattle.records.specs.Lists.{mapFrom}
+use Rattle.prelude.specs.Lists.{mapFrom}
 use Rattle.records.specs.Refusal.{Refusal, Out, val, fault}
 use Rattle.records.specs.RefusalOf.{refusalOf}
 use Rattle.model.specs.Runs.{Run, Call, start}

@@ -17,16 +17,18 @@ use machines::answers::Cycles;
 use machines::answers::Ending;
 use machines::answers::reason_number;
 use records::refusals::refusal_number;
+use records::sizes::CHARTS;
+use records::sizes::Places;
 
 // The state of the present position's chart.
-pub fn state_at(states: [u16; 8], position: u32) -> u16
+pub fn state_at(states: Places, position: u32) -> u16
     ensures { λ r. ⌜ r ≡ getD states (position - 1) 0 ⌝ }
 {
     if position == 0 {
         return states[0];
     }
     let c = (position - 1) as usize;
-    if c < 8 { states[c] } else { 0 }
+    if c < CHARTS { states[c] } else { 0 }
 }
 
 fn idle_at(t: &[u8], shape: Shape, e: u16, location: u16) -> bool

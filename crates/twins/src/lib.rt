@@ -16,6 +16,9 @@ use answers::counts_alike;
 use both::call_both;
 use both::is_turn;
 use records::refusals::Refusal;
+use records::sizes::CHARTS;
+use records::sizes::CLOCKS;
+use records::sizes::VARIABLES;
 use runs::runs_alike;
 use translation::Translated;
 
@@ -37,10 +40,15 @@ pub struct Compared {
 fn nothing_compared(w: Refusal) -> Compared
     ensures { λ r. ⌜ comparisonOf r ≡ nothingCompared (refusalOf w) ⌝ }
 {
-    let run = charts::runs::run_between_cycles([0u16; 8], [0u32; 8], [0i16; 64], 0);
-    let locations = [0u16; 8];
-    let clocks = [0u16; 256];
-    let variables = [0i16; 64];
+    let run = charts::runs::run_between_cycles(
+        [0u16; CHARTS],
+        [0u32; CHARTS],
+        [0i16; VARIABLES],
+        0,
+    );
+    let locations = [0u16; CHARTS];
+    let clocks = [0u16; CLOCKS];
+    let variables = [0i16; VARIABLES];
     let twin = automata::runs::run_in(&locations, &clocks, &variables, 0, 1, 0);
     Compared {
         verdict: Verdict::Refused(w),

@@ -3,7 +3,7 @@ ghost use mathlib.Core.Path.{_≡_};
 ghost use Prim.Native.Nat.{_≤_, _<_};
 ghost use Rattle.model.specs.Correspondence.{clockFor};
 ghost use Rattle.automata.specs.Accepted.{Accepted};
-ghost use Rattle.automata.specs.RunOf.{timingIf};
+ghost use Rattle.timings.specs.Growth.{timingIf};
 ghost use Rattle.automata.specs.RunOf as automata-run;
 ghost use Rattle.charts.specs.RunOf as charts-run;
 ghost use Rattle.twins.specs.Alike.{valuesAlike, variablesAlike, placesAlike, clockAlike, literalAlike, timersAlike, runsAlike};
@@ -15,6 +15,12 @@ use automata_files::fields::automaton_of;
 use automata_files::fields::literal_edge;
 use automata_files::fields::literal_trigger_of;
 use automata_files::fields::source_of;
+use records::sizes::Ages;
+use records::sizes::Clocks;
+use records::sizes::Places;
+use records::sizes::VARIABLES;
+use records::sizes::Variables;
+use timings::top;
 
 fn values_alike(a: i16, b: i16) -> bool
     ensures { λ r. ⌜ r ≡ valuesAlike a b ⌝ }
@@ -22,11 +28,11 @@ fn values_alike(a: i16, b: i16) -> bool
     (a <= b) & (b <= a)
 }
 
-fn variables_alike(variables: [i16; 64], others: [i16; 64]) -> bool
+fn variables_alike(variables: Variables, others: Variables) -> bool
     ensures { λ r. ⌜ r ≡ variablesAlike variables others ⌝ }
 {
     let mut v: usize = 0;
-    while v < 64 {
+    while v < VARIABLES {
         if !values_alike(variables[v], others[v]) {
             return false;
         }
@@ -35,7 +41,7 @@ fn variables_alike(variables: [i16; 64], others: [i16; 64]) -> bool
     true
 }
 
-fn places_alike(charts: u16, states: [u16; 8], locations: [u16; 8]) -> bool
+fn places_alike(charts: u16, states: Places, locations: Places) -> bool
     requires { ⌜ charts ≤ 8 ⌝ }
     ensures { λ r. ⌜ r ≡ placesAlike charts states locations ⌝ }
 {
@@ -56,7 +62,7 @@ fn clock_for(after: bool, ticks: u16, age: u32) -> u32
     ensures { λ r. ⌜ r ≡ clockFor (timingIf after) ticks age ⌝ }
 {
     if after {
-        let top = (ticks as u32) + 1;
+        let top = top(after, ticks);
         return if age <= top { age } else { top };
     }
     if age == 0 {
@@ -65,7 +71,7 @@ fn clock_for(after: bool, ticks: u16, age: u32) -> u32
     (age - 1) % (ticks as u32) + 1
 }
 
-fn clock_alike(t: &[u8], shape: Shape, clocks: [u16; 256], age: u32, k: u16) -> bool
+fn clock_alike(t: &[u8], shape: Shape, clocks: Clocks, age: u32, k: u16) -> bool
     requires { ⌜ Accepted (now t) shape × (k < shape .clocks) ⌝ }
     ensures { λ r. ⌜ r ≡ clockAlike (now (t .entry)) shape clocks age k ⌝ }
 {
@@ -78,9 +84,9 @@ fn clock_alike(t: &[u8], shape: Shape, clocks: [u16; 256], age: u32, k: u16) -> 
 fn literal_alike(
     t: &[u8],
     shape: Shape,
-    ages: [u32; 8],
-    locations: [u16; 8],
-    clocks: [u16; 256],
+    ages: Ages,
+    locations: Places,
+    clocks: Clocks,
     l: u16,
 ) -> bool
     requires { ⌜ Accepted (now t) shape × (l < shape .literals) ⌝ }
@@ -98,13 +104,7 @@ fn literal_alike(
     }
 }
 
-fn timers_alike(
-    t: &[u8],
-    shape: Shape,
-    ages: [u32; 8],
-    locations: [u16; 8],
-    clocks: [u16; 256],
-) -> bool
+fn timers_alike(t: &[u8], shape: Shape, ages: Ages, locations: Places, clocks: Clocks) -> bool
     requires { ⌜ Accepted (now t) shape ⌝ }
     ensures { λ r. ⌜ r ≡ timersAlike (now (t .entry)) shape ages locations clocks ⌝ }
 {

@@ -8,7 +8,7 @@ use Rattle.expressions.specs.Verdicts.{verdictOf}
 use Rattle.expressions.specs.Uses.{addUses, allOperands}
 use Rattle.model.specs.ChartFile.{unusedAreZero}
 use Rattle.model.specs.AutomataFile.{unusedInTable, tableInCode}
-use Rattle.chart_files.proofs.NumberLaws.{all-both}
+use Rattle.prelude.proofs.Numbers.{all-both}
 use borrow.Author.Needs.{needs}
 use Rattle.automata_files.proofs.passes.Statement.{statement}
 use Rattle.automata_files.proofs.passes.Tie as tie

@@ -7,7 +7,7 @@ use native.Mathlib.Omega.{arith}
 use borrow.Author.Tests.{ne-eqb}
 use borrow.Author.Needs.{needs}
 use Rattle.records.specs.Bytes.{byte}
-use Rattle.records.specs.Lists.{caseOf}
+use Rattle.prelude.specs.Lists.{caseOf}
 use Rattle.model.specs.AutomataTable.{readReset}
 use Rattle.list.specs.Tables.{resetText}
 use Rattle.list.specs.Listing.{textBy, recordText}

@@ -8,7 +8,7 @@ use native.Mathlib.Omega.{arith}
 use borrow.Author.Needs.{needs}
 use borrow.Author.Tests.{eq-eqb, ne-eqb}
 use lib.ListN.{length}
-use Rattle.records.specs.Lists.{upto}
+use Rattle.prelude.specs.Lists.{upto}
 use Rattle.records.specs.Refusal.{odd-length, unordered-kinds, wrong-amounts}
 use Rattle.records.specs.Framing.{oddLength, unorderedKinds, wrongAmounts, counts}
 use Rattle.records.specs.Frame.{framingOf, exceeds, sumTo}

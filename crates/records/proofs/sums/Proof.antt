@@ -5,7 +5,8 @@ use native.Mathlib.Omega.{arith}
 use borrow.Author.Needs.{needs}
 use lib.ListN.{length, getD, set, length-set}
 use Rattle.records.specs.Frame.{sumTo}
-use Rattle.records.proofs.FramingLaws.{sumTo-le, sumTo-next, is-table, table-more}
+use Rattle.prelude.proofs.Counts.{is-table, table-more}
+use Rattle.records.proofs.FramingLaws.{sumTo-le, sumTo-next}
 use Rattle.records.proofs.sums.Statement.{statement}
 use Rattle.records.proofs.sums.Tie as tie
 

@@ -6,7 +6,7 @@ use denote.Ref.{now}
 use lib.Dec.{leb, le→leb}
 use lib.ListN.{length}
 use Rattle.model.specs.Translation.{twinBytes}
-use Rattle.model.proofs.BoolLaws.{is-true}
+use Rattle.prelude.proofs.Bools.{is-true}
 use Rattle.model.proofs.TranslationAccepted.{short-twin}
 use Rattle.translation.proofs.has_room.Statement.{statement}
 use Rattle.translation.proofs.has_room.Tie as tie

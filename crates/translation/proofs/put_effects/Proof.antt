@@ -36,7 +36,7 @@ returns : tie.Need-returns
 returns c =
     let entry = c .before .before .before .before .before .before .before .before .before .before .before .before .before .before .before .before .before .before .before .before in
     let cs = readCharts (now (entry .args .s)) in
-    puts-as _ (sym (λ i. transitions-text cs 40 writeUpdate (updatesOf cs) i ++ transitions-text cs 41 writeReset (resetsOf cs) i))
+    puts-as _ (sym (λ i. transitions-text cs 40 writeUpdate (updatesOf cs) (λ z. refl) i ++ transitions-text cs 41 writeReset (resetsOf cs) (λ z. refl) i))
     (puts-then (2 ^ 42) (omega arith) (c .before .before .before .before .before .before .before .before .before .before .before .put-updates .ensures) (c .before .before .put-resets .ensures))
 
 pub put-effects-spec : {M : Type 1} → statement M

@@ -6,12 +6,13 @@ use native.Mathlib.Omega.{arith}
 use borrow.Author.Needs.{needs}
 use denote.Ref.{now}
 use Rattle.records.specs.Bytes.{bytes2}
-use Rattle.records.specs.Lists.{upto}
+use Rattle.prelude.specs.Lists.{upto}
 use Rattle.model.specs.ChartSet.{readCharts}
 use Rattle.translation.specs.Texts.{section}
 use Rattle.translation.proofs.TextsWritten.{puts-as, puts-then}
 use Rattle.model.specs.AutomataTable.{writeEdge}
-use Rattle.model.specs.Translation.{transitionCount, stateCount, edgeOf, idleOf}
+use Rattle.model.specs.Translation.{from-transition, from-idling, transitionCount, stateCount, edgeOf}
+use Rattle.model.proofs.TranslationOrigins.{edges-are}
 use Rattle.translation.proofs.TextsFile.{section-append}
 use Rattle.translation.proofs.put_places.Statement.{statement}
 use Rattle.translation.proofs.put_places.Tie as tie
@@ -44,10 +45,10 @@ returns c =
     let entry = c .before .before .before .before .before .before .before .before .before .before .before .before .before .before .before .before .before .before in
     let cs = readCharts (now (entry .args .s)) in
     let before = section 33 (map (λ i. 0 ∷ bytes2 i) (cs .initial)) ++ section 34 (map (λ h. h ∷ []) (cs .homes)) in
-    let edges = map (edgeOf cs) (upto (transitionCount cs)) in
-    let idles = map (idleOf cs) (upto (stateCount cs)) in
+    let edges = map (λ t. edgeOf cs (from-transition t)) (upto (transitionCount cs)) in
+    let idles = map (λ z. edgeOf cs (from-idling z)) (upto (stateCount cs)) in
     puts-as _
-    (append-assoc before (section 35 (map writeEdge edges)) (section 35 (map writeEdge idles)) ∙ ap (λ l. before ++ l) (sym (section-append 35 writeEdge edges idles)))
+    (append-assoc before (section 35 (map writeEdge edges)) (section 35 (map writeEdge idles)) ∙ ap (λ l. before ++ l) (sym (section-append 35 writeEdge edges idles) ∙ ap (λ l. section 35 (map writeEdge l)) (sym (edges-are cs))))
     (puts-then (2 ^ 42) (omega arith) (puts-then (3 * 2 ^ 40) (omega arith) (puts-then (2 ^ 41) (omega arith) (c .before .before .before .before .before .before .before .before .before .before .before .before .before .before .put-initials .ensures) (c .before .before .before .before .before .before .before .before .before .before .put-homes .ensures)) (c .before .before .before .before .before .before .put-edges .ensures)) (c .before .before .put-idles .ensures))
 
 pub put-places-spec : {M : Type 1} → statement M

@@ -5,14 +5,14 @@ use Prim.Native.Nat.{_*_, _^_}
 use native.Mathlib.Omega.{arith}
 use borrow.Author.Needs.{needs}
 use denote.Ref.{now}
-use Rattle.records.specs.Lists.{gather}
+use Rattle.prelude.specs.Lists.{gather}
 use Rattle.expressions.specs.Nodes.{writeNode}
 use Rattle.model.specs.ChartSet.{readCharts}
 use Rattle.model.specs.AutomataTable.{writeLiteral, writeClock, writeVariable}
-use Rattle.model.specs.Translation.{clocksOf, literalsOf, idleLiterals}
+use Rattle.model.specs.Translation.{clocksOf, literalsOf}
 use Rattle.translation.specs.Texts.{section}
 use Rattle.translation.proofs.TextsWritten.{puts-as, puts-then}
-use Rattle.translation.proofs.TextsFile.{owned-text}
+use Rattle.translation.proofs.TextsFile.{byEdge-text}
 use Rattle.translation.proofs.put_tests.Statement.{statement}
 use Rattle.translation.proofs.put_tests.Tie as tie
 
@@ -45,7 +45,7 @@ returns c =
     let cs = readCharts (now (entry .args .s)) in
     puts-as _
     (ap (λ l. l ++ section 37 (map writeClock (gather (λ x. clocksOf (x .trigger)) (cs .transitions))) ++ section 38 (map writeVariable (cs .variables)) ++ section 39 (map writeNode (cs .nodes)))
-    (sym (owned-text cs 36 writeLiteral (literalsOf cs) (idleLiterals cs))))
+    (sym (byEdge-text cs 36 writeLiteral (literalsOf cs))))
     (puts-then (2 ^ 43) (omega arith)
     (puts-then (2 ^ 42) (omega arith)
     (puts-then (3 * 2 ^ 40) (omega arith) (puts-then (2 ^ 41) (omega arith) (c .before .before .before .before .before .before .before .before .before .before .before .before .before .before .before .before .before .before .before .before .put-literals .ensures) (c .before .before .before .before .before .before .before .before .before .before .before .before .before .before .put-idle-literals .ensures)) (c .before .before .before .before .before .before .before .before .before .before .put-clocks .ensures))

@@ -10,7 +10,7 @@ use lib.ListN.{length}
 use Rattle.records.specs.Refusal.{val}
 use Rattle.model.specs.Outcome.{settled}
 use Rattle.model.specs.Translation.{twinBytes}
-use Rattle.model.proofs.BoolLaws.{of-true, not-false}
+use Rattle.prelude.proofs.Bools.{of-true, not-false}
 use Rattle.translation.proofs.TextsFile.{too-short, long-enough, from-start}
 use Rattle.translation.proofs.translate.Statement.{statement}
 use Rattle.translation.proofs.translate.Tie as tie

@@ -5,7 +5,7 @@ use Rattle.twins.specs.Alike.{callFor}
 use Rattle.twins.specs.Compared.{alike}
 use Rattle.automata.specs.RunOf as automata-run
 use Rattle.charts.specs.RunOf as charts-run
-use Rattle.model.proofs.BoolLaws.{clash, of-true}
+use Rattle.prelude.proofs.Bools.{clash, of-true}
 use Rattle.model.specs.Calls.{chartSets, automataTables}
 use Rattle.model.specs.Correspondence.{MoveAlike}
 use Rattle.model.specs.Runs.{Call}

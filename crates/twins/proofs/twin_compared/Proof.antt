@@ -4,7 +4,7 @@ use Rattle.automata.proofs.AcceptedByCheck.{accepted-of, refused-of}
 use native.Mathlib.Omega.{arith}
 use denote.Ref.{now}
 use lib.Dec.{T, ltb}
-use Rattle.records.specs.Lists.{all}
+use Rattle.prelude.specs.Lists.{all}
 use borrow.Author.Needs.{needs}
 use Rattle.twins.proofs.twin_compared.Statement.{statement}
 use Rattle.twins.proofs.twin_compared.Tie as tie

@@ -9,7 +9,7 @@ use borrow.Author.Needs.{needs}
 use denote.Ref.{now}
 use lib.Dec.{eqb}
 use lib.ListN.{length, getD}
-use Rattle.records.specs.Lists.{keep}
+use Rattle.prelude.specs.Lists.{keep}
 use Rattle.records.specs.Refusal.{Out, fault, _>>=_}
 use Rattle.model.specs.AutomataTable.{readAutomata}
 use Rattle.model.specs.Automata.{opens, theOne}

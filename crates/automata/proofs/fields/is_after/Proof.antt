@@ -4,9 +4,9 @@ use Prim.Native.Nat.{_+_, _*_}
 use native.Mathlib.Omega.{arith}
 use denote.Ref.{now}
 use lib.Dec.{eqb}
-use Rattle.records.specs.Lists.{caseOf}
+use Rattle.prelude.specs.Lists.{caseOf}
 use Rattle.records.specs.Bytes.{byte}
-use Rattle.automata.specs.RunOf.{timingIf}
+use Rattle.timings.specs.Growth.{timingIf}
 use Rattle.automata.specs.Accepted.{FewRecords}
 use Rattle.automata.proofs.IndexRecords.{few-records, in-file}
 use Rattle.automata.proofs.fields.is_after.Statement.{statement}

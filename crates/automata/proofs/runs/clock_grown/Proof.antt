@@ -7,8 +7,8 @@ use denote.Ref.{now}
 use Rattle.automata_files.specs.Places.{clockAt}
 use Rattle.automata_files.proofs.PlacesRead.{most-clocks}
 use Rattle.automata_files.proofs.NamedThings.{ticks-known}
-use Rattle.automata.specs.RunOf.{grownTo}
-use Rattle.automata.proofs.RunOfClocks.{limit}
+use Rattle.timings.specs.Growth.{grownTo}
+use Rattle.timings.proofs.GrowthBounds.{grownTo-grown}
 use Rattle.automata.proofs.runs.clock_grown.Statement.{statement}
 use Rattle.automata.proofs.runs.clock_grown.Tie as tie
 
@@ -37,7 +37,7 @@ returns c =
     let k = clockAt (now (x .s)) (x .shape) (x .k) in
     c .grown-to .ensures
     ∙ (λ i. grownTo (b .pre .1 .turns (x .k) (b .pre .2) i) (b .pre .1 .caps (x .k) (b .pre .2) i) (x .x))
-    ∙ limit (k .timing) (k .ticks) (x .x) (ticks-known (now (x .s)) (x .shape) (b .pre .0 .shape) (b .pre .0 .unrefused) (x .k) (b .pre .2) .1) (b .pre .3)
+    ∙ grownTo-grown (k .timing) (k .ticks) (x .x) (ticks-known (now (x .s)) (x .shape) (b .pre .0 .shape) (b .pre .0 .unrefused) (x .k) (b .pre .2) .1) (b .pre .3)
 
 pub clock-grown-spec : {M : Type 1} → statement M
 clock-grown-spec = tie.close (tie.spec mul-grown-to element-copy-out-grown-to mul-grown-to-2 element-copy-out-grown-to-2 grown-to-requires returns)

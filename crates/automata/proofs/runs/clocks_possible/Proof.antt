@@ -10,7 +10,7 @@ use lib.ListN.{getD}
 use Rattle.automata_files.specs.declared.Shape.{Shape}
 use Rattle.automata_files.proofs.PlacesRead.{most-clocks}
 use Rattle.automata.specs.RunOf.{topAt}
-use Rattle.automata.proofs.AllRead.{Read, read-none, read-more, read-all}
+use Rattle.prelude.proofs.AllRead.{Read, read-none, read-more, read-all}
 use Rattle.automata.proofs.runs.clocks_possible.Statement.{statement}
 use Rattle.automata.proofs.runs.clocks_possible.Tie as tie
 

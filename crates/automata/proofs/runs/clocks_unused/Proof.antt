@@ -5,7 +5,7 @@ use native.Mathlib.Omega.{arith}
 use borrow.Author.Needs.{needs}
 use denote.Ref.{now}
 use lib.Dec.{eqb}
-use Rattle.automata.proofs.AllRead.{ReadOn, read-on, read-end}
+use Rattle.prelude.proofs.AllRead.{ReadOn, read-on, read-end}
 use Rattle.automata.proofs.runs.clocks_unused.Statement.{statement}
 use Rattle.automata.proofs.runs.clocks_unused.Tie as tie
 

@@ -12,7 +12,7 @@ use Rattle.model.specs.Automata.{grown}
 use Rattle.automata_files.specs.declared.Shape.{Shape}
 use Rattle.automata_files.specs.Places.{clockAt}
 use Rattle.automata_files.proofs.PlacesRead.{most-clocks}
-use Rattle.machines.proofs.Filled.{Filled, filled-none, filled-more, filled-mapped}
+use Rattle.prelude.proofs.Filled.{Filled, filled-none, filled-more, filled-mapped}
 use Rattle.automata.proofs.runs.grow.Statement.{statement}
 use Rattle.automata.proofs.runs.grow.Tie as tie
 

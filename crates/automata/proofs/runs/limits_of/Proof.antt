@@ -9,8 +9,8 @@ use Rattle.automata_files.specs.declared.Shape.{Shape}
 use Rattle.automata_files.specs.Places.{clockAt}
 use Rattle.automata_files.proofs.PlacesRead.{most-clocks}
 use Rattle.automata_files.proofs.NamedThings.{ticks-known}
-use Rattle.machines.proofs.Filled.{Filled, filled-none, filled-more, filled-mapped}
-use Rattle.automata.specs.RunOf.{turnFor, capFor}
+use Rattle.prelude.proofs.Filled.{Filled, filled-none, filled-more, filled-mapped}
+use Rattle.timings.specs.Growth.{turnFor, capFor}
 use Rattle.automata.proofs.runs.limits_of.Statement.{statement}
 use Rattle.automata.proofs.runs.limits_of.Tie as tie
 

@@ -9,7 +9,7 @@ use borrow.Author.Tests.{lt-ltb, le-ltb}
 use denote.Ref.{now}
 use lib.ListN.{length, getD}
 use Rattle.records.specs.Refusal.{Out, fault}
-use Rattle.model.specs.Owned.{of}
+use Rattle.prelude.specs.Owned.{of}
 use Rattle.model.specs.Runs.{World, deeds}
 use Rattle.model.specs.AutomataTable.{readAutomata}
 use Rattle.automata_files.specs.Places.{firstUpdate, firstReset, updateIn}

@@ -5,11 +5,11 @@ use mathlib.Core.List.{List, [], _∷_}
 use Prim.Native.Nat.{ℕ}
 use lib.Dec.{leb}
 use borrow.Author.Tests.{ne-eqb}
-use Rattle.records.specs.Lists.{caseOf}
+use Rattle.prelude.specs.Lists.{caseOf}
 use Rattle.records.specs.Bytes.{byte}
 use Rattle.model.specs.ChartFile.{between, variableInCode, nodeInCode, deedInCode}
 use Rattle.model.specs.AutomataFile.{literalInCode}
-use Rattle.chart_files.proofs.ListLaws.{entry}
+use Rattle.prelude.proofs.Maps.{entry}
 use borrow.Author.Needs.{needs}
 use Rattle.automata_files.proofs.codes.in_code.Statement.{statement}
 use Rattle.automata_files.proofs.codes.in_code.Tie as tie

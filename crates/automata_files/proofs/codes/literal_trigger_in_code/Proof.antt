@@ -3,9 +3,9 @@ use mathlib.Core.Path.{refl, sym}
 use mathlib.Core.Bool.{true}
 use mathlib.Core.List.{[], _∷_}
 use borrow.Author.Tests.{ne-eqb}
-use Rattle.records.specs.Lists.{caseOf}
+use Rattle.prelude.specs.Lists.{caseOf}
 use Rattle.model.specs.ChartFile.{isEvent}
-use Rattle.chart_files.proofs.ListLaws.{entry}
+use Rattle.prelude.proofs.Maps.{entry}
 use Rattle.automata_files.proofs.codes.literal_trigger_in_code.Statement.{statement}
 use Rattle.automata_files.proofs.codes.literal_trigger_in_code.Tie as tie
 

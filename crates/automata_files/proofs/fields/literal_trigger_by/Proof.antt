@@ -1,7 +1,7 @@
 -- `fields::literal_trigger_by` meets its contract. Assumes nothing.
 use mathlib.Core.Path.{sym, ap}
 use borrow.Author.Tests.{ne-eqb}
-use Rattle.records.specs.Lists.{caseOf}
+use Rattle.prelude.specs.Lists.{caseOf}
 use Rattle.automata_files.specs.Places.{literalTriggerBy}
 use Rattle.automata_files.proofs.fields.literal_trigger_by.Statement.{statement}
 use Rattle.automata_files.proofs.fields.literal_trigger_by.Tie as tie

@@ -4,7 +4,7 @@ use Prim.Native.Nat.{_-_}
 use native.Mathlib.Omega.{arith}
 use borrow.Author.Tests.{not-true, not-false}
 use denote.Ref.{now}
-use Rattle.expressions.proofs.Loops.{Passed, passed-none, passed-more, passed-all, passed-not}
+use Rattle.prelude.proofs.Loops.{Passed, passed-none, passed-more, passed-all, passed-not}
 use Rattle.automata_files.specs.Names.{initialNamed}
 use Rattle.automata_files.proofs.names.initials_named.Statement.{statement}
 use Rattle.automata_files.proofs.names.initials_named.Tie as tie

@@ -5,7 +5,7 @@ use native.Mathlib.Omega.{arith}
 use borrow.Author.Tests.{not-true, not-false}
 use denote.Ref.{now}
 use Rattle.expressions.specs.Nodes.{nodeAt}
-use Rattle.expressions.proofs.Loops.{Passed, passed-none, passed-more, passed-all, passed-not}
+use Rattle.prelude.proofs.Loops.{Passed, passed-none, passed-more, passed-all, passed-not}
 use Rattle.model.specs.ChartFile.{assignedNodes}
 use Rattle.chart_files.specs.Used.{numbers}
 use Rattle.automata_files.specs.Places.{nodePart}

@@ -6,7 +6,7 @@ use borrow.Author.Tests.{le-leb, lt-leb}
 use denote.Ref.{now}
 use lib.Dec.{leb}
 use lib.ListN.{getD}
-use Rattle.expressions.proofs.Loops.{Passed, passed-none, passed-more, passed-all, passed-not}
+use Rattle.prelude.proofs.Loops.{Passed, passed-none, passed-more, passed-all, passed-not}
 use Rattle.automata_files.proofs.nodes.none_twice.Statement.{statement}
 use Rattle.automata_files.proofs.nodes.none_twice.Tie as tie
 

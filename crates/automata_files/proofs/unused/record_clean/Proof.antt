@@ -4,10 +4,10 @@ use mathlib.Core.List.{List, [], _∷_}
 use Prim.Native.Nat.{ℕ}
 use native.Mathlib.Omega.{arith}
 use borrow.Author.Tests.{ne-eqb}
-use Rattle.records.specs.Lists.{all, caseOf}
+use Rattle.prelude.specs.Lists.{all, caseOf}
 use Rattle.model.specs.ChartFile.{unusedVariable, unusedNode, unusedAreZero}
 use Rattle.model.specs.AutomataFile.{unusedLiteral, unusedUpdate}
-use Rattle.chart_files.proofs.ListLaws.{entry}
+use Rattle.prelude.proofs.Maps.{entry}
 use Rattle.chart_files.proofs.RecordLoops.{unused-one, unused-two}
 use Rattle.chart_files.proofs.UnusedWords.{joined}
 use borrow.Author.Needs.{needs}

@@ -2,7 +2,7 @@
 use mathlib.Core.Path.{_∙_}
 use mathlib.Core.Bool.{not, _&&_, _||_}
 use lib.Dec.{eqb}
-use Rattle.records.specs.Lists.{all}
+use Rattle.prelude.specs.Lists.{all}
 use Rattle.records.specs.Bytes.{byte}
 use Rattle.chart_files.proofs.UnusedWords.{deed-unused}
 use borrow.Author.Needs.{needs}

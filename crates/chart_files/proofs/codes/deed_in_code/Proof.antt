@@ -2,7 +2,7 @@
 use mathlib.Core.Path.{_≡_, refl, ap}
 use mathlib.Core.Bool.{Bool, true, false, not, cond, _&&_, _||_}
 use lib.Dec.{leb, eqb}
-use Rattle.records.specs.Lists.{caseOf}
+use Rattle.prelude.specs.Lists.{caseOf}
 use Rattle.chart_files.proofs.codes.deed_in_code.Statement.{statement}
 use Rattle.chart_files.proofs.codes.deed_in_code.Tie as tie
 

@@ -4,9 +4,9 @@ use mathlib.Core.Bool.{Bool, true}
 use mathlib.Core.List.{List, [], _∷_}
 use Prim.Native.Nat.{ℕ}
 use borrow.Author.Tests.{ne-eqb}
-use Rattle.records.specs.Lists.{caseOf}
+use Rattle.prelude.specs.Lists.{caseOf}
 use Rattle.model.specs.ChartFile.{transitionInCode, variableInCode, nodeInCode, actionInCode}
-use Rattle.chart_files.proofs.ListLaws.{entry}
+use Rattle.prelude.proofs.Maps.{entry}
 use borrow.Author.Needs.{needs}
 use Rattle.chart_files.proofs.codes.in_code.Statement.{statement}
 use Rattle.chart_files.proofs.codes.in_code.Tie as tie

@@ -3,7 +3,7 @@ use mathlib.Core.Path.{_∙_}
 use mathlib.Core.Bool.{true, _&&_}
 use mathlib.Core.List.{[], _∷_}
 use lib.Dec.{leb}
-use Rattle.records.specs.Lists.{caseOf}
+use Rattle.prelude.specs.Lists.{caseOf}
 use Rattle.model.specs.ChartFile.{isEvent, isDuration}
 use borrow.Author.Needs.{needs}
 use Rattle.chart_files.proofs.codes.transition_in_code.Statement.{statement}

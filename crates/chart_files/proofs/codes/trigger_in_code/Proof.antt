@@ -4,9 +4,9 @@ use mathlib.Core.Bool.{Bool, true}
 use mathlib.Core.List.{List, [], _∷_}
 use Prim.Native.Nat.{ℕ}
 use borrow.Author.Tests.{ne-eqb}
-use Rattle.records.specs.Lists.{caseOf}
+use Rattle.prelude.specs.Lists.{caseOf}
 use Rattle.model.specs.ChartFile.{isEvent, isDuration}
-use Rattle.chart_files.proofs.ListLaws.{entry}
+use Rattle.prelude.proofs.Maps.{entry}
 use Rattle.chart_files.proofs.codes.trigger_in_code.Statement.{statement}
 use Rattle.chart_files.proofs.codes.trigger_in_code.Tie as tie
 

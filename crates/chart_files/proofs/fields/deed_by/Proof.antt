@@ -1,7 +1,7 @@
 -- `fields::deed_by` meets its contract. Assumes nothing.
 use mathlib.Core.Path.{sym}
 use borrow.Author.Tests.{eq-eqb, ne-eqb}
-use Rattle.records.specs.Lists.{caseOf}
+use Rattle.prelude.specs.Lists.{caseOf}
 use Rattle.chart_files.proofs.fields.deed_by.Statement.{statement}
 use Rattle.chart_files.proofs.fields.deed_by.Tie as tie
 

@@ -2,7 +2,7 @@
 use mathlib.Core.Path.{sym, _∙_}
 use Prim.Native.Nat.{_-_}
 use borrow.Author.Tests.{not-true, not-false}
-use Rattle.expressions.proofs.Loops.{Passed, passed-none, passed-more, passed-all, passed-not}
+use Rattle.prelude.proofs.Loops.{Passed, passed-none, passed-more, passed-all, passed-not}
 use Rattle.chart_files.specs.Names.{transitionNamed}
 use borrow.Author.Needs.{needs}
 use Rattle.chart_files.proofs.names.transitions_named.Statement.{statement}

@@ -3,7 +3,7 @@ use mathlib.Core.Path.{sym, ap, _∙_}
 use mathlib.Core.Bool.{_&&_}
 use borrow.Author.Needs.{needs}
 use denote.Ref.{now}
-use Rattle.records.specs.Lists.{all, upto}
+use Rattle.prelude.specs.Lists.{all, upto}
 use Rattle.chart_files.specs.Structure.{transitionFitsInitials, actionFitsInitials, leftOnce}
 use Rattle.chart_files.proofs.StructureFramed.{initials-is}
 use Rattle.chart_files.proofs.structure.initials_fit.Statement.{statement}

@@ -5,7 +5,7 @@ use Prim.Native.Nat.{_*_}
 use native.Mathlib.Omega.{arith}
 use borrow.Author.Needs.{needs}
 use denote.Ref.{now}
-use Rattle.records.specs.Lists.{upto}
+use Rattle.prelude.specs.Lists.{upto}
 use Rattle.chart_files.specs.Tallies.{noneAbove}
 use Rattle.chart_files.proofs.InCode.{priority-in-code}
 use Rattle.chart_files.specs.Structure.{pairAt}

@@ -5,8 +5,8 @@ use mathlib.Core.List.{_++_}
 use borrow.Author.Needs.{needs}
 use denote.Ref.{now}
 use lib.ListN.{length}
-use Rattle.records.specs.Lists.{all, upto}
-use Rattle.expressions.proofs.Loops.{and-assoc}
+use Rattle.prelude.specs.Lists.{all, upto}
+use Rattle.prelude.proofs.Loops.{and-assoc}
 use Rattle.model.specs.ChartSet.{readCharts}
 use Rattle.model.specs.ChartFile.{insideCharts, initialFits, prioritiesDiffer, atMostEight}
 use Rattle.chart_files.proofs.NamesFramed.{initials-known}

@@ -4,7 +4,7 @@ use Prim.Native.Nat.{_-_}
 use native.Mathlib.Omega.{arith}
 use borrow.Author.Tests.{not-true, not-false}
 use denote.Ref.{now}
-use Rattle.expressions.proofs.Loops.{Passed, passed-none, passed-more, passed-all, passed-not}
+use Rattle.prelude.proofs.Loops.{Passed, passed-none, passed-more, passed-all, passed-not}
 use Rattle.chart_files.specs.Structure.{transitionFitsInitials}
 use Rattle.chart_files.proofs.structure.transitions_fit_initials.Statement.{statement}
 use Rattle.chart_files.proofs.structure.transitions_fit_initials.Tie as tie

@@ -4,14 +4,14 @@ use mathlib.Core.Bool.{Bool}
 use mathlib.Core.List.{List}
 use Prim.Native.Nat.{ℕ, _-_}
 use borrow.Author.Tests.{not-true, not-false}
-use Rattle.records.specs.Lists.{all, upto}
-use Rattle.expressions.proofs.Loops.{Passed, passed-none, passed-more, passed-all, passed-not}
+use Rattle.prelude.specs.Lists.{all, upto}
+use Rattle.prelude.proofs.Loops.{Passed, passed-none, passed-more, passed-all, passed-not}
 use Rattle.model.specs.ChartSet.{readCharts}
 use Rattle.model.specs.ChartFile as F
 use Rattle.chart_files.specs.declared.Shape.{Shape}
 use Rattle.chart_files.specs.Shape.{IsShape}
 use Rattle.chart_files.specs.Places.{transitionAt}
-use Rattle.chart_files.proofs.ListLaws.{all-map}
+use Rattle.prelude.proofs.Maps.{all-map}
 use Rattle.chart_files.proofs.PlacesRead.{transitions-are}
 use borrow.Author.Needs.{needs}
 use Rattle.chart_files.proofs.timing.all_ticking.Statement.{statement}

@@ -3,9 +3,9 @@ use mathlib.Core.Path.{_≡_, sym, ap, _∙_}
 use mathlib.Core.List.{List}
 use Prim.Native.Nat.{ℕ}
 use denote.Ref.{now}
-use Rattle.records.specs.Lists.{all}
+use Rattle.prelude.specs.Lists.{all}
 use Rattle.expressions.specs.Nodes.{nodeAt}
-use Rattle.expressions.proofs.Loops.{and-one}
+use Rattle.prelude.proofs.Loops.{and-one}
 use Rattle.model.specs.ChartFile.{guardNodes}
 use Rattle.chart_files.specs.declared.fields.Guard.{Guard}
 use Rattle.chart_files.specs.Parts.{guardFor}

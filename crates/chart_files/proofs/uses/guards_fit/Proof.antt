@@ -4,7 +4,7 @@ use Prim.Native.Nat.{_-_}
 use native.Mathlib.Omega.{arith}
 use denote.Ref.{now}
 use Rattle.expressions.specs.Nodes.{nodeAt}
-use Rattle.expressions.proofs.Loops.{Flagged, flagged-none, flagged-more, flagged-all}
+use Rattle.prelude.proofs.Loops.{Flagged, flagged-none, flagged-more, flagged-all}
 use Rattle.chart_files.specs.Places.{nodePart}
 use Rattle.chart_files.specs.Used.{guardAt, truths}
 use Rattle.chart_files.proofs.Used.{guards-is, Gathered, gathered-none, gathered-more, gathered-all}

@@ -6,7 +6,7 @@ use borrow.Author.Needs.{needs}
 use denote.Ref.{now}
 use lib.Dec.{eqb}
 use lib.ListN.{length, getD}
-use Rattle.records.specs.Lists.{all, upto}
+use Rattle.prelude.specs.Lists.{all, upto}
 use Rattle.expressions.specs.Nodes.{nodeAt}
 use Rattle.expressions.specs.Sorts.{nodesNamed, operandsFit}
 use Rattle.expressions.specs.Verdicts.{saysFit}

@@ -4,7 +4,7 @@ use mathlib.Core.Logic.{⊎-elim}
 use Prim.Native.Nat.{ℕ, _<_}
 use native.Mathlib.Omega.{arith}
 use borrow.Author.Tests.{ne-eqb}
-use Rattle.records.specs.Lists.{caseOf}
+use Rattle.prelude.specs.Lists.{caseOf}
 use Rattle.charts.specs.Tables.{keyFor, KeyedOwner}
 use Rattle.charts.proofs.actions.key_for.Statement.{statement}
 use Rattle.charts.proofs.actions.key_for.Tie as tie

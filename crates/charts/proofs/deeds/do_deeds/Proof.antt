@@ -127,8 +127,8 @@ loop-again c =
           (chain-all (keyAt s (x .shape)) 512 (x .shape .actions) (now (x .first)) (now (x .next)) (chains b) (few b) key (one-key b (l .k + 1)) _ (from-first c)),
     )
 
-do-deed-requires : tie.Need-do-deed-requires Inv-loop μ-loop
-do-deed-requires c κs = (c .before .before .before .before .before .pre .0, c .before .before .loop .inv .2 .known (c .before .if1 .left) .0)
+do-action-requires : tie.Need-do-action-requires Inv-loop μ-loop
+do-action-requires c κs = (c .before .before .before .before .before .pre .0, c .before .before .loop .inv .2 .known (c .before .if1 .left) .0)
 
 returns-2 : tie.Need-returns-2 Inv-loop μ-loop
 returns-2 c = (
@@ -136,13 +136,13 @@ returns-2 c = (
       let b = c .before .before .before .before .before .before .before in
       let x = b .args in
       let l = c .before .before .before .before .loop in
-      let f = c .before .do-deed in
+      let f = c .before .do-action in
       let wrong = c .if4 .taken in
       world-fault (f .result) (f .last .1 .1 .1 .0) p q wrong
       ∙ left-fault (now (x .s)) (x .shape) (x .leaving) (x .crossing) (x .entering) (now (x .vars)) (x .events) (l .k) _ (l .vars) (l .present) (l .inv .3) (l .a) _
       (chain-one (keyAt (now (x .s)) (x .shape)) 512 (x .shape .actions) (now (x .first)) (now (x .next)) (chains b) (few b) (keyAfter (now (x .s)) (x .shape) (x .leaving) (x .crossing) (x .entering) (l .k)) (one-key b (l .k)) (l .a) _ (l .inv .2) (c .before .before .before .if1 .left) refl)
       (codedFault (f .result)) (λ p q. sym (world-fault (f .result) (f .last .1 .1 .1 .0) p q wrong) ∙ f .ensures .0 p q) p q,
-  c .before .do-deed .ensures .1,
+  c .before .do-action .ensures .1,
 )
 
 cast-present : tie.Need-cast-present Inv-loop μ-loop
@@ -175,7 +175,7 @@ loop-again-2 c =
     let b = c .before .before .before .before .before .before .before .before in
     let x = b .args in
     let l = c .before .before .before .before .before .loop in
-    let f = c .before .before .do-deed in
+    let f = c .before .before .do-action in
     let more = c .before .before .before .before .if1 .left in
     let fine = c .before .if4 .left in (
       fine,
@@ -202,7 +202,7 @@ do-deeds-spec =
     element-copy-out-a-2
     loop-less
     loop-again
-    do-deed-requires
+    do-action-requires
     returns-2
     cast-present
     cast-a

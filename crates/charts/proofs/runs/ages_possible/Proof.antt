@@ -8,7 +8,7 @@ use borrow.Author.Needs.{needs}
 use borrow.Author.Tests.{lt-leb, le-leb}
 use lib.Dec.{leb}
 use lib.ListN.{length, getD}
-use Rattle.expressions.proofs.Loops.{Passed, passed-none, passed-more, passed-all, passed-not}
+use Rattle.prelude.proofs.Loops.{Passed, passed-none, passed-more, passed-all, passed-not}
 use Rattle.charts.proofs.runs.ages_possible.Statement.{statement}
 use Rattle.charts.proofs.runs.ages_possible.Tie as tie
 

@@ -6,7 +6,7 @@ use borrow.Author.Needs.{needs}
 use borrow.Author.Tests.{eq-eqb, ne-eqb}
 use lib.Dec.{eqb}
 use lib.ListN.{length}
-use Rattle.machines.proofs.Behind.{Behind, behind-more, behind-not, behind-all}
+use Rattle.prelude.proofs.Behind.{Behind, behind-more, behind-not, behind-all}
 use Rattle.charts.proofs.runs.ages_unused.Statement.{statement}
 use Rattle.charts.proofs.runs.ages_unused.Tie as tie
 

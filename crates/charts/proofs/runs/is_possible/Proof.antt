@@ -4,7 +4,7 @@ use mathlib.Core.Bool.{_&&_}
 use denote.Ref.{now}
 use lib.Dec.{leb}
 use lib.ListN.{length, getD}
-use Rattle.records.specs.Lists.{all, upto}
+use Rattle.prelude.specs.Lists.{all, upto}
 use Rattle.model.specs.ChartSet.{readCharts}
 use Rattle.model.specs.Charts.{charts}
 use Rattle.chart_files.proofs.PlacesRead.{most-charts, length-initial}

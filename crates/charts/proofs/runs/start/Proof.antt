@@ -4,8 +4,8 @@ use mathlib.Core.List.{map}
 use denote.Ref.{now}
 use lib.IntN.{pos}
 use lib.ListN.{replicate}
-use Rattle.records.specs.Lists.{upto, padded}
-use Rattle.chart_files.proofs.ListLaws.{map-map}
+use Rattle.prelude.specs.Lists.{upto, padded}
+use Rattle.prelude.proofs.Maps.{map-map}
 use Rattle.chart_files.proofs.PlacesRead.{most-charts, initial-are}
 use Rattle.machines.specs.Files.{variableIn}
 use Rattle.charts.proofs.ValuesRead.{has-values, variables-in}

@@ -3,7 +3,7 @@ use mathlib.Core.Path.{sym, ap, _∙_}
 use Prim.Native.Nat.{_+_}
 use native.Mathlib.Omega.{arith}
 use borrow.Author.Needs.{needs}
-use Rattle.records.specs.Lists.{mapFrom}
+use Rattle.prelude.specs.Lists.{mapFrom}
 use Rattle.charts.specs.RunOf.{aged}
 use Rattle.charts.proofs.runs.time_passed.Statement.{statement}
 use Rattle.charts.proofs.runs.time_passed.Tie as tie

@@ -3,10 +3,9 @@ use mathlib.Core.Path.{sym, ap, _∙_, subst}
 use Prim.Native.Nat.{_+_, _*_}
 use borrow.Author.Tests.{ne-eqb}
 use denote.Ref.{now}
-use lib.Dec.{eqb}
-use Rattle.records.specs.Lists.{caseOf}
+use Rattle.prelude.specs.Lists.{caseOf}
 use Rattle.records.specs.Bytes.{byte, four}
-use Rattle.model.specs.Charts.{ticks, everyHolds, triggered}
+use Rattle.model.specs.Charts.{ticks, afterHolds, everyHolds, triggered}
 use Rattle.chart_files.specs.Places.{triggerBy}
 use Rattle.charts.specs.Replies.{Holdable}
 use borrow.Author.Needs.{needs}
@@ -51,6 +50,9 @@ add-u32-within-2 c = search needs
 u32-within-requires-2 : tie.Need-u32-within-requires-2
 u32-within-requires-2 c κs = search needs
 
+after-holds-requires : tie.Need-after-holds-requires
+after-holds-requires c κs = search needs
+
 ticks-requires-2 : tie.Need-ticks-requires-2
 ticks-requires-2 c κs = search needs
 
@@ -73,11 +75,12 @@ returns c =
 returns-2 : tie.Need-returns-2
 unfolding caseOf
 returns-2 c =
-    let a = c .before .before .before .before .before .args in
+    let a = c .before .before .before .before .before .before .args in
     let s = now (a .s) in
     let n = 16 * a .n in
-    ap (eqb (a .age)) (c .ticks .ensures ∙ ap ticks (c .before .u32-within .ensures))
-    ∙ ap (λ k. triggered (triggerBy k (byte s (n + 7)) (four s (n + 8))) (a .age) (a .events)) (sym (c .before .before .match .keys2))
+    c .after-holds .ensures
+    ∙ ap (λ d. afterHolds d (a .age)) (c .before .ticks .ensures ∙ ap ticks (c .before .before .u32-within .ensures))
+    ∙ ap (λ k. triggered (triggerBy k (byte s (n + 7)) (four s (n + 8))) (a .age) (a .events)) (sym (c .before .before .before .match .keys2))
 
 returns-3 : tie.Need-returns-3
 unfolding caseOf
@@ -109,6 +112,7 @@ triggered-spec =
     add-u32-within
     u32-within-requires
     ticks-requires
+    after-holds-requires
     add-u32-within-2
     u32-within-requires-2
     ticks-requires-2

@@ -3,7 +3,7 @@ use mathlib.Core.Path.{_≡_, sym, ap, _∙_}
 use lib.Signed.{ltZ, leZ}
 use mir.Facts.{toZ-ofZ}
 use borrow.Author.Tests.{ne-eqb}
-use Rattle.records.specs.Lists.{caseOf}
+use Rattle.prelude.specs.Lists.{caseOf}
 use Rattle.expressions.specs.Nodes.{at-most}
 use Rattle.expressions.specs.Values.{compare}
 use Rattle.expressions.specs.Coded.{comparisonOf}

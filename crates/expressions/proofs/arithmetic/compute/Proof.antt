@@ -6,7 +6,7 @@ use lib.Signed.{mag}
 use mir.Syntax.{w64}
 use mir.Val.{toZ, ofZ}
 use borrow.Author.Tests.{ne-eqb}
-use Rattle.records.specs.Lists.{caseOf}
+use Rattle.prelude.specs.Lists.{caseOf}
 use Rattle.expressions.specs.Nodes.{Arithmetic, remainder}
 use Rattle.expressions.specs.Values.{compute}
 use Rattle.expressions.specs.Coded.{arithmeticOf}

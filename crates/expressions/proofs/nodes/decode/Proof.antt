@@ -4,7 +4,7 @@ use Prim.Native.Nat.{ℕ}
 use borrow.Author.Tests.{ne-eqb}
 use lib.IntN.{ℤ}
 use mir.Facts.{toZ-ofZ}
-use Rattle.records.specs.Lists.{caseOf}
+use Rattle.prelude.specs.Lists.{caseOf}
 use Rattle.expressions.specs.Nodes.{constant, nodeBy}
 use Rattle.expressions.proofs.nodes.decode.Statement.{statement}
 use Rattle.expressions.proofs.nodes.decode.Tie as tie

@@ -3,10 +3,10 @@ use mathlib.Core.Path.{_≡_, sym, ap, _∙_}
 use Prim.Native.Nat.{ℕ}
 use borrow.Author.Needs.{needs}
 use lib.Dec.{ltb}
-use Rattle.records.specs.Lists.{all}
+use Rattle.prelude.specs.Lists.{all}
 use Rattle.expressions.specs.declared.sorts.Operands.{Operands}
 use Rattle.expressions.specs.Answers.{operandsFor}
-use Rattle.expressions.proofs.Loops.{and-one, and-two, and-three}
+use Rattle.prelude.proofs.Loops.{and-one, and-two, and-three}
 use Rattle.expressions.proofs.sorts.all_below.Statement.{statement}
 use Rattle.expressions.proofs.sorts.all_below.Tie as tie
 

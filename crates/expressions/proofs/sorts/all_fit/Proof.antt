@@ -4,12 +4,12 @@ use mathlib.Core.Bool.{Bool, _&&_}
 use mathlib.Core.List.{List}
 use Prim.Native.Nat.{ℕ}
 use denote.Ref.{now}
-use Rattle.records.specs.Lists.{all}
+use Rattle.prelude.specs.Lists.{all}
 use Rattle.expressions.specs.Nodes.{nodeAt}
 use Rattle.expressions.specs.Sorts.{Sort, a-number, a-truth, operandFits}
 use Rattle.expressions.specs.declared.sorts.Operands.{Operands}
 use Rattle.expressions.specs.Answers.{sortFor, operandsFor}
-use Rattle.expressions.proofs.Loops.{and-one, and-two, and-three}
+use Rattle.prelude.proofs.Loops.{and-one, and-two, and-three}
 use borrow.Author.Needs.{needs}
 use Rattle.expressions.proofs.sorts.all_fit.Statement.{statement}
 use Rattle.expressions.proofs.sorts.all_fit.Tie as tie

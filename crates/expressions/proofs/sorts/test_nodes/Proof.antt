@@ -7,7 +7,7 @@ use native.Mathlib.Omega.{arith}
 use borrow.Author.Needs.{needs}
 use denote.Ref.{now}
 use lib.Dec.{ltb}
-use Rattle.records.specs.Lists.{all}
+use Rattle.prelude.specs.Lists.{all}
 use Rattle.records.specs.Bytes.{four±}
 use Rattle.expressions.specs.Nodes.{nodeAt}
 use Rattle.expressions.specs.Sorts.{operands, variablesOf, nodeNamed, operandFits, nodeFits}
@@ -15,7 +15,7 @@ use Rattle.expressions.specs.Verdicts.{verdict}
 use Rattle.expressions.specs.Uses.{addUses}
 use Rattle.expressions.specs.Answers.{operandsFor}
 use Rattle.expressions.proofs.Fields.{coded-at, operands-read}
-use Rattle.expressions.proofs.Loops.{Flagged, flagged-none, flagged-more, flagged-all}
+use Rattle.prelude.proofs.Loops.{Flagged, flagged-none, flagged-more, flagged-all}
 use Rattle.expressions.proofs.Uses.{Counted, counted-none, counted-more, counted-all}
 use Rattle.expressions.proofs.sorts.test_nodes.Statement.{statement}
 use Rattle.expressions.proofs.sorts.test_nodes.Tie as tie

@@ -4,8 +4,8 @@ use mathlib.Core.Bool.{cond}
 use mathlib.Core.List.{[], _∷_}
 use borrow.Author.Tests.{eq-eqb, ne-eqb}
 use lib.Dec.{ltb, eqb}
-use Rattle.records.specs.Lists.{all}
-use Rattle.expressions.proofs.Loops.{and-one}
+use Rattle.prelude.specs.Lists.{all}
+use Rattle.prelude.proofs.Loops.{and-one}
 use Rattle.expressions.proofs.Codes.{variable-code}
 use Rattle.expressions.proofs.sorts.variable_below.Statement.{statement}
 use Rattle.expressions.proofs.sorts.variable_below.Tie as tie

@@ -5,7 +5,7 @@ use native.Mathlib.Omega.{arith}
 use borrow.Author.Tests.{ne-eqb}
 use borrow.Author.Needs.{needs}
 use Rattle.records.specs.Bytes.{byte, four}
-use Rattle.records.specs.Lists.{caseOf}
+use Rattle.prelude.specs.Lists.{caseOf}
 use Rattle.model.specs.ChartSet.{always}
 use Rattle.chart_files.specs.Places.{triggerBy}
 use Rattle.list.specs.Sets.{triggerText}

@@ -5,7 +5,7 @@ use Prim.Native.Nat.{ℕ}
 use native.Mathlib.Omega.{arith}
 use borrow.Author.Tests.{ne-eqb}
 use borrow.Author.Needs.{needs}
-use Rattle.records.specs.Lists.{caseOf}
+use Rattle.prelude.specs.Lists.{caseOf}
 use Rattle.records.specs.Bytes.{byte, two}
 use Rattle.model.specs.AutomataTable.{Timing, after, every}
 use Rattle.list.specs.Tables.{timingText}

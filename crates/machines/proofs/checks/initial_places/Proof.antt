@@ -6,7 +6,7 @@ use borrow.Author.Needs.{needs}
 use denote.Ref.{now}
 use lib.ListN.{replicate}
 use Rattle.machines.specs.Files.{initialIn}
-use Rattle.machines.proofs.Filled.{Filled, filled-none, filled-more, filled-padded}
+use Rattle.prelude.proofs.Filled.{Filled, filled-none, filled-more, filled-padded}
 use Rattle.machines.proofs.checks.initial_places.Statement.{statement}
 use Rattle.machines.proofs.checks.initial_places.Tie as tie
 

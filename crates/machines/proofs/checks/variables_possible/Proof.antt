@@ -11,7 +11,7 @@ use lib.IntN.{ℤ, pos}
 use lib.ListN.{length, getD}
 use mir.Facts.{toZ-ofZ}
 use mir.Syntax.{w16}
-use Rattle.expressions.proofs.Loops.{Passed, passed-none, passed-more, passed-all, passed-not}
+use Rattle.prelude.proofs.Loops.{Passed, passed-none, passed-more, passed-all, passed-not}
 use Rattle.model.specs.Runs.{inBounds}
 use Rattle.machines.specs.declared.values.Values.{Values}
 use Rattle.machines.specs.Files.{variableIn}

@@ -7,7 +7,7 @@ use lib.IntN.{pos}
 use Rattle.expressions.specs.Values.{isZero}
 use lib.ListN.{length, getD}
 use Rattle.machines.proofs.Bits.{bits-zero}
-use Rattle.machines.proofs.Behind.{BehindBy, by-more, by-all}
+use Rattle.prelude.proofs.Behind.{BehindBy, by-more, by-all}
 use Rattle.machines.proofs.checks.variables_unused.Statement.{statement}
 use Rattle.machines.proofs.checks.variables_unused.Tie as tie
 

@@ -7,7 +7,7 @@ use lib.Signed.{leZ, mag}
 use mir.Facts.{toZ-ofZ}
 use mir.Syntax.{w32}
 use mir.Val.{toZ, ofZ}
-use Rattle.records.proofs.FramingLaws.{and-true}
+use Rattle.prelude.proofs.Counts.{and-true}
 use Rattle.machines.proofs.Worlds.{between-bounds}
 use borrow.Author.Needs.{needs}
 use Rattle.machines.proofs.deeds.is_between.Statement.{statement}

@@ -11,7 +11,7 @@ use mir.Facts.{toZ-ofZ}
 use mir.Syntax.{w16}
 use Rattle.machines.specs.declared.values.Values.{Values}
 use Rattle.machines.specs.Files.{variableIn}
-use Rattle.machines.proofs.Filled.{Filled, filled-none, filled-more, filled-padded}
+use Rattle.prelude.proofs.Filled.{Filled, filled-none, filled-more, filled-padded}
 use Rattle.machines.proofs.values.start_values.Statement.{statement}
 use Rattle.machines.proofs.values.start_values.Tie as tie
 

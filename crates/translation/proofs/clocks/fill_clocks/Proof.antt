@@ -8,7 +8,7 @@ use lib.ListN.{length, length-replicate}
 use Rattle.model.specs.ChartSet.{readCharts, transition}
 use Rattle.model.specs.Translation.{transitionCount, clocksOf, clockOf}
 use Rattle.chart_files.proofs.PlacesRead.{transition-is, length-transitions, most-transitions}
-use Rattle.machines.proofs.Filled.{Filled, filled-none, filled-more, filled-padded}
+use Rattle.prelude.proofs.Filled.{Filled, filled-none, filled-more, filled-padded}
 use Rattle.translation.proofs.TablesClocks.{clock-none, clock-more}
 use Rattle.translation.proofs.clocks.fill_clocks.Statement.{statement}
 use Rattle.translation.proofs.clocks.fill_clocks.Tie as tie

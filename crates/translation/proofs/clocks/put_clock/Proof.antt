@@ -10,7 +10,7 @@ use Rattle.model.specs.Charts.{ticks}
 use Rattle.model.specs.Translation.{clocksOf}
 use Rattle.chart_files.specs.Parts.{triggerFor}
 use Rattle.translation.specs.Texts.{recordText, section}
-use Rattle.translation.proofs.Gathered.{gather-none, gather-one}
+use Rattle.prelude.proofs.Gathered.{gather-none, gather-one}
 use Rattle.translation.proofs.TextsWritten.{puts-as, puts-nothing}
 use Rattle.translation.proofs.clocks.put_clock.Statement.{statement}
 use Rattle.translation.proofs.clocks.put_clock.Tie as tie

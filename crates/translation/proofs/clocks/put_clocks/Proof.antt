@@ -5,12 +5,12 @@ use Prim.Native.Nat.{ℕ, _-_, _^_}
 use native.Mathlib.Omega.{arith}
 use borrow.Author.Needs.{needs}
 use denote.Ref.{now}
-use Rattle.records.specs.Lists.{gather}
+use Rattle.prelude.specs.Lists.{gather}
 use Rattle.model.specs.ChartSet.{Transition, readCharts}
 use Rattle.model.specs.AutomataTable.{writeClock}
 use Rattle.model.specs.Translation.{clocksOf}
 use Rattle.chart_files.specs.Places.{transitionAt}
-use Rattle.chart_files.proofs.ListLaws.{gather-map}
+use Rattle.prelude.proofs.Maps.{gather-map}
 use Rattle.chart_files.proofs.PlacesRead.{transitions-are, most-transitions}
 use Rattle.translation.specs.Texts.{section}
 use Rattle.translation.proofs.TextsWritten.{Texts, texts-start, texts-step, texts-end, puts-as}

@@ -9,15 +9,15 @@ use Rattle.model.specs.ChartSet.{readCharts}
 use Rattle.translation.specs.Texts.{recordText}
 use Rattle.translation.proofs.TextsWritten.{Texts, texts-start, texts-step, texts-end, puts-as}
 use Rattle.translation.proofs.TextsSections.{placed-text}
-use Rattle.records.specs.Lists.{upto}
+use Rattle.prelude.specs.Lists.{upto}
 use Rattle.model.specs.AutomataTable.{writeEdge}
-use Rattle.model.specs.Translation.{transitionCount, edgeOf}
+use Rattle.model.specs.Translation.{from-transition, transitionCount, edgeOf}
 use Rattle.chart_files.proofs.PlacesRead.{length-transitions, most-transitions}
 use Rattle.translation.proofs.edges.put_edges.Statement.{statement}
 use Rattle.translation.proofs.edges.put_edges.Tie as tie
 
 abbrev Inv-loop : tie.InvT-loop
-Inv-loop s shape out₀ at next₀ t₀ out next t = Texts (λ i. recordText 35 (writeEdge (edgeOf (readCharts s) i))) (shape .transitions) 16 out₀ at out next t
+Inv-loop s shape out₀ at next₀ t₀ out next t = Texts (λ i. recordText 35 (writeEdge (edgeOf (readCharts s) (from-transition i)))) (shape .transitions) 16 out₀ at out next t
 
 abbrev μ-loop : tie.MeasureT-loop
 μ-loop s shape out₀ at next₀ t₀ out next t = (shape .transitions) - t
@@ -53,7 +53,7 @@ returns c =
     let entry = c .before .before .before .before .before in
     let x = entry .args in
     let is = entry .pre .0 .shape in
-    texts-end _ _ _ _ _ _ (placed-text 35 writeEdge (edgeOf (readCharts (now (x .s)))) (map (edgeOf (readCharts (now (x .s)))) (upto (transitionCount (readCharts (now (x .s)))))) (x .shape .transitions) (ap (λ n. map (edgeOf (readCharts (now (x .s)))) (upto n)) (length-transitions (now (x .s)) (x .shape) is))) (2 ^ 40) (omega (arith, most-transitions (now (x .s)) (x .shape) is)) (c .before .before .loop .inv) (c .if1 .left)
+    texts-end _ _ _ _ _ _ (placed-text 35 writeEdge (λ t. edgeOf (readCharts (now (x .s))) (from-transition t)) (map (λ t. edgeOf (readCharts (now (x .s))) (from-transition t)) (upto (transitionCount (readCharts (now (x .s)))))) (x .shape .transitions) (ap (λ n. map (λ t. edgeOf (readCharts (now (x .s))) (from-transition t)) (upto n)) (length-transitions (now (x .s)) (x .shape) is))) (2 ^ 40) (omega (arith, most-transitions (now (x .s)) (x .shape) is)) (c .before .before .loop .inv) (c .if1 .left)
 
 pub put-edges-spec : {M : Type 1} → statement M
 put-edges-spec =

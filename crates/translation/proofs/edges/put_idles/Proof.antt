@@ -9,15 +9,15 @@ use Rattle.model.specs.ChartSet.{readCharts}
 use Rattle.translation.specs.Texts.{recordText}
 use Rattle.translation.proofs.TextsWritten.{Texts, texts-start, texts-step, texts-end, puts-as}
 use Rattle.translation.proofs.TextsSections.{placed-text}
-use Rattle.records.specs.Lists.{upto}
+use Rattle.prelude.specs.Lists.{upto}
 use Rattle.model.specs.AutomataTable.{writeEdge}
-use Rattle.model.specs.Translation.{stateCount, idleOf}
+use Rattle.model.specs.Translation.{from-idling, stateCount, edgeOf}
 use Rattle.chart_files.proofs.PlacesRead.{length-homes, most-states}
 use Rattle.translation.proofs.edges.put_idles.Statement.{statement}
 use Rattle.translation.proofs.edges.put_idles.Tie as tie
 
 abbrev Inv-loop : tie.InvT-loop
-Inv-loop s shape out₀ at next₀ state₀ out next state = Texts (λ i. recordText 35 (writeEdge (idleOf (readCharts s) i))) (shape .states) 16 out₀ at out next state
+Inv-loop s shape out₀ at next₀ state₀ out next state = Texts (λ i. recordText 35 (writeEdge (edgeOf (readCharts s) (from-idling i)))) (shape .states) 16 out₀ at out next state
 
 abbrev μ-loop : tie.MeasureT-loop
 μ-loop s shape out₀ at next₀ state₀ out next state = (shape .states) - state
@@ -53,7 +53,7 @@ returns c =
     let entry = c .before .before .before .before .before in
     let x = entry .args in
     let is = entry .pre .0 .shape in
-    texts-end _ _ _ _ _ _ (placed-text 35 writeEdge (idleOf (readCharts (now (x .s)))) (map (idleOf (readCharts (now (x .s)))) (upto (stateCount (readCharts (now (x .s)))))) (x .shape .states) (ap (λ n. map (idleOf (readCharts (now (x .s)))) (upto n)) (length-homes (now (x .s)) (x .shape) is))) (2 ^ 40) (omega (arith, most-states (now (x .s)) (x .shape) is)) (c .before .before .loop .inv) (c .if1 .left)
+    texts-end _ _ _ _ _ _ (placed-text 35 writeEdge (λ z. edgeOf (readCharts (now (x .s))) (from-idling z)) (map (λ z. edgeOf (readCharts (now (x .s))) (from-idling z)) (upto (stateCount (readCharts (now (x .s)))))) (x .shape .states) (ap (λ n. map (λ z. edgeOf (readCharts (now (x .s))) (from-idling z)) (upto n)) (length-homes (now (x .s)) (x .shape) is))) (2 ^ 40) (omega (arith, most-states (now (x .s)) (x .shape) is)) (c .before .before .loop .inv) (c .if1 .left)
 
 pub put-idles-spec : {M : Type 1} → statement M
 put-idles-spec =

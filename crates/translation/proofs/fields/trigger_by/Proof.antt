@@ -2,7 +2,7 @@
 use mathlib.Core.Path.{_≡_, sym, ap}
 use Prim.Native.Nat.{ℕ}
 use borrow.Author.Tests.{ne-eqb}
-use Rattle.records.specs.Lists.{caseOf}
+use Rattle.prelude.specs.Lists.{caseOf}
 use Rattle.chart_files.specs.Places.{triggerBy}
 use Rattle.translation.proofs.fields.trigger_by.Statement.{statement}
 use Rattle.translation.proofs.fields.trigger_by.Tie as tie

@@ -6,8 +6,8 @@ use denote.Ref.{now}
 use lib.ListN.{getD}
 use Rattle.chart_files.proofs.PlacesRead.{most-actions}
 use Rattle.charts.specs.Tables.{keyAt, keyed}
-use Rattle.model.specs.AutomataTable.{bit}
-use Rattle.model.proofs.Sums.{sum-alike, count-from}
+use Rattle.prelude.specs.Lists.{bit}
+use Rattle.prelude.proofs.Sums.{sum-alike, count-from}
 use Rattle.translation.proofs.TablesCounts.{share, Added, added-none, added-more, added-most, share-one}
 use Rattle.translation.proofs.lengths.count_actions.Statement.{statement}
 use Rattle.translation.proofs.lengths.count_actions.Tie as tie

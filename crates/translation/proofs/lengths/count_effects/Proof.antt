@@ -7,8 +7,8 @@ use lib.ListN.{length, getD}
 use Rattle.chart_files.proofs.PlacesRead.{transition-is, length-transitions, most-states, most-transitions}
 use Rattle.charts.proofs.Accepted.{source-known, target-known}
 use Rattle.model.specs.ChartSet.{readCharts}
-use Rattle.model.specs.Translation.{transitionCount, updatesOf, clocksLeaving, resetsOf}
-use Rattle.model.proofs.Sums.{sumFrom}
+use Rattle.model.specs.Translation.{from-transition, transitionCount, updatesOf, clocksLeaving, resetsOf}
+use Rattle.prelude.proofs.Sums.{sumFrom}
 use Rattle.model.proofs.TranslationCounts.{updatesOf-few, resetsOf-few}
 use Rattle.translation.proofs.TextsEdges.{updates-count}
 use Rattle.translation.proofs.TablesCounts.{sum-none, sum-more, effectsOf, effects-are}
@@ -64,7 +64,7 @@ effects-here c =
     let x = entry .args in
     let t = k .before .before .before .loop .t in
     let cs = readCharts (now (x .s)) in
-    let same : getD (now (x .resets)) (c .target-of .result) 0 ≡ length (resetsOf cs t) =
+    let same : getD (now (x .resets)) (c .target-of .result) 0 ≡ length (resetsOf cs (from-transition t)) =
     entry .pre .2 (c .target-of .result) (target-in-states c)
     ∙ ap (λ z. length (clocksLeaving cs z)) (c .target-of .ensures ∙ ap (λ y. y .target) (sym (transition-is (now (x .s)) (x .shape) (entry .pre .0 .shape) t (k .before .if1 .taken)))) in
     omega (

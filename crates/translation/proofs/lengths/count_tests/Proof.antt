@@ -6,12 +6,12 @@ use borrow.Author.Needs.{needs}
 use denote.Ref.{now}
 use lib.ListN.{length, getD}
 use lib.Seq.{take-length}
-use Rattle.records.specs.Lists.{gather}
+use Rattle.prelude.specs.Lists.{gather}
 use Rattle.chart_files.proofs.PlacesRead.{transition-is, length-transitions, most-states, most-transitions}
 use Rattle.charts.proofs.Accepted.{source-known}
 use Rattle.model.specs.ChartSet.{readCharts, transition}
 use Rattle.model.specs.Translation.{transitionCount, clocksOf, clockOf, twin}
-use Rattle.model.proofs.Sums.{sumFrom, sum-alike}
+use Rattle.prelude.proofs.Sums.{sumFrom, sum-alike}
 use Rattle.model.proofs.TranslationCounts.{clocksOf-few}
 use Rattle.translation.specs.Tables.{sourceOf}
 use Rattle.translation.proofs.TablesClocks.{clock-none, clock-more}

@@ -6,18 +6,18 @@ use Prim.Native.Nat.{_+_, _-_, _≤_, _<_, _^_}
 use native.Mathlib.Omega.{arith}
 use denote.Ref.{now}
 use lib.ListN.{getD}
-use Rattle.records.specs.Lists.{gather, upto}
+use Rattle.prelude.specs.Lists.{gather, upto}
 use Rattle.model.specs.ChartSet.{readCharts}
 use Rattle.translation.proofs.TextsWritten.{Texts, texts-start, texts-step, texts-end, puts-as}
 use Rattle.translation.proofs.TextsEdges.{above-end}
-use Rattle.model.specs.Translation.{transitionCount, literal, idleLiterals}
+use Rattle.model.specs.Translation.{from-idling, edgeNumber, transitionCount, literal, literalsOf}
 use Rattle.chart_files.proofs.PlacesRead.{length-transitions, length-homes, most-states, most-transitions}
 use Rattle.translation.specs.Texts.{literalTexts}
 use Rattle.translation.proofs.literals.put_idle_literals.Statement.{statement}
 use Rattle.translation.proofs.literals.put_idle_literals.Tie as tie
 
 abbrev Inv-loop : tie.InvT-loop
-Inv-loop s shape clocks rows ends out₀ at next₀ state₀ out next state = Texts (λ i. literalTexts (transitionCount (readCharts s) + i) (idleLiterals (readCharts s) i)) (shape .states) (2 ^ 20) out₀ at out next state
+Inv-loop s shape clocks rows ends out₀ at next₀ state₀ out next state = Texts (λ i. literalTexts (edgeNumber (readCharts s) (from-idling i)) (literalsOf (readCharts s) (from-idling i))) (shape .states) (2 ^ 20) out₀ at out next state
 
 abbrev μ-loop : tie.MeasureT-loop
 μ-loop s shape clocks rows ends out₀ at next₀ state₀ out next state = shape .states - state
@@ -74,7 +74,7 @@ loop-again c =
     texts-step _ _ _ _ _ (l .inv) (k .before .if1 .taken) (p .kept .1 .1 .1 .1 .0)
     (puts-as _
     (ap (λ ts. literalTexts (x .shape .transitions + l .state) (map (literal cs false) ts)) (above-end (now (x .s)) (x .shape) (entry .pre .0) (now (x .rows)) (entry .pre .2) (l .state) (getD (now (x .ends)) (l .state) 0) (k .before .if1 .taken) (end-here k) (λ j a b. entry .pre .3 .empty (l .state) j (known-state k) a b))
-    ∙ ap (λ n. literalTexts (n + l .state) (idleLiterals cs (l .state))) (sym (length-transitions (now (x .s)) (x .shape) (entry .pre .0 .shape))))
+    ∙ ap (λ n. literalTexts (n + l .state) (literalsOf cs (from-idling (l .state)))) (sym (length-transitions (now (x .s)) (x .shape) (entry .pre .0 .shape))))
     (p .ensures))
 
 same-length : tie.Need-same-length Inv-loop μ-loop
@@ -85,7 +85,7 @@ returns c =
     let entry = c .before .before .before .before .before in
     let x = entry .args in
     let cs = readCharts (now (x .s)) in
-    texts-end _ _ _ _ _ _ (ap (λ n. gather (λ i. literalTexts (transitionCount cs + i) (idleLiterals cs i)) (upto n)) (sym (length-homes (now (x .s)) (x .shape) (entry .pre .0 .shape)))) (2 ^ 40) (omega (arith, most-states (now (x .s)) (x .shape) (entry .pre .0 .shape))) (c .before .before .loop .inv) (c .if1 .left)
+    texts-end _ _ _ _ _ _ (ap (λ n. gather (λ i. literalTexts (edgeNumber cs (from-idling i)) (literalsOf cs (from-idling i))) (upto n)) (sym (length-homes (now (x .s)) (x .shape) (entry .pre .0 .shape)))) (2 ^ 40) (omega (arith, most-states (now (x .s)) (x .shape) (entry .pre .0 .shape))) (c .before .before .loop .inv) (c .if1 .left)
 
 pub put-idle-literals-spec : {M : Type 1} → statement M
 put-idle-literals-spec =

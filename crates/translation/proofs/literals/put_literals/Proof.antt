@@ -3,17 +3,17 @@ use mathlib.Core.Path.{sym, ap}
 use Prim.Native.Nat.{_-_, _^_}
 use native.Mathlib.Omega.{arith}
 use denote.Ref.{now}
-use Rattle.records.specs.Lists.{gather, upto}
+use Rattle.prelude.specs.Lists.{gather, upto}
 use Rattle.model.specs.ChartSet.{readCharts}
 use Rattle.translation.proofs.TextsWritten.{Texts, texts-start, texts-step, texts-end}
-use Rattle.model.specs.Translation.{literalsOf}
+use Rattle.model.specs.Translation.{from-transition, literalsOf}
 use Rattle.chart_files.proofs.PlacesRead.{length-transitions, most-states, most-transitions}
 use Rattle.translation.specs.Texts.{literalTexts}
 use Rattle.translation.proofs.literals.put_literals.Statement.{statement}
 use Rattle.translation.proofs.literals.put_literals.Tie as tie
 
 abbrev Inv-loop : tie.InvT-loop
-Inv-loop s shape clocks rows out₀ at next₀ t₀ out next t = Texts (λ i. literalTexts i (literalsOf (readCharts s) i)) (shape .transitions) (2 ^ 22) out₀ at out next t
+Inv-loop s shape clocks rows out₀ at next₀ t₀ out next t = Texts (λ i. literalTexts i (literalsOf (readCharts s) (from-transition i))) (shape .transitions) (2 ^ 22) out₀ at out next t
 
 abbrev μ-loop : tie.MeasureT-loop
 μ-loop s shape clocks rows out₀ at next₀ t₀ out next t = shape .transitions - t
@@ -49,7 +49,7 @@ returns c =
     let entry = c .before .before .before .before .before in
     let x = entry .args in
     let cs = readCharts (now (x .s)) in
-    texts-end _ _ _ _ _ _ (ap (λ n. gather (λ i. literalTexts i (literalsOf cs i)) (upto n)) (sym (length-transitions (now (x .s)) (x .shape) (entry .pre .0 .shape)))) (2 ^ 40) (omega (arith, most-transitions (now (x .s)) (x .shape) (entry .pre .0 .shape))) (c .before .before .loop .inv) (c .if1 .left)
+    texts-end _ _ _ _ _ _ (ap (λ n. gather (λ i. literalTexts i (literalsOf cs (from-transition i))) (upto n)) (sym (length-transitions (now (x .s)) (x .shape) (entry .pre .0 .shape)))) (2 ^ 40) (omega (arith, most-transitions (now (x .s)) (x .shape) (entry .pre .0 .shape))) (c .before .before .loop .inv) (c .if1 .left)
 
 pub put-literals-spec : {M : Type 1} → statement M
 put-literals-spec =

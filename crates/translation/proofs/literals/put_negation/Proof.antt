@@ -10,7 +10,7 @@ use Rattle.model.specs.ChartSet.{readCharts}
 use Rattle.model.specs.AutomataTable.{Literal, writeLiteral}
 use Rattle.model.specs.Translation.{literal}
 use Rattle.translation.specs.Texts.{recordText, literalTexts}
-use Rattle.translation.proofs.Gathered.{gather-none, gather-one}
+use Rattle.prelude.proofs.Gathered.{gather-none, gather-one}
 use Rattle.translation.proofs.TextsWritten.{puts-as, puts-nothing}
 use Rattle.translation.proofs.literals.put_negation.Statement.{statement}
 use Rattle.translation.proofs.literals.put_negation.Tie as tie

@@ -4,10 +4,10 @@ use Prim.Native.Nat.{_-_, _^_}
 use native.Mathlib.Omega.{arith}
 use borrow.Author.Needs.{needs}
 use denote.Ref.{now}
-use Rattle.records.specs.Lists.{gather, upto}
+use Rattle.prelude.specs.Lists.{gather, upto}
 use Rattle.model.specs.ChartSet.{readCharts}
 use Rattle.translation.proofs.TextsWritten.{Texts, texts-start, texts-step, texts-end, puts-as}
-use Rattle.model.specs.Translation.{clocksLeaving, resetsOf}
+use Rattle.model.specs.Translation.{from-transition, clocksLeaving, resetsOf}
 use Rattle.chart_files.proofs.PlacesRead.{transition-is, length-transitions, most-states, most-transitions}
 use Rattle.charts.proofs.Accepted.{target-known}
 use Rattle.translation.specs.Texts.{resetTexts}
@@ -15,7 +15,7 @@ use Rattle.translation.proofs.resets.put_resets.Statement.{statement}
 use Rattle.translation.proofs.resets.put_resets.Tie as tie
 
 abbrev Inv-loop : tie.InvT-loop
-Inv-loop s shape clocks first next out₀ at place₀ t₀ out place t = Texts (λ i. resetTexts i (resetsOf (readCharts s) i)) (shape .transitions) (2 ^ 20) out₀ at out place t
+Inv-loop s shape clocks first next out₀ at place₀ t₀ out place t = Texts (λ i. resetTexts i (resetsOf (readCharts s) (from-transition i))) (shape .transitions) (2 ^ 20) out₀ at out place t
 
 abbrev μ-loop : tie.MeasureT-loop
 μ-loop s shape clocks first next out₀ at place₀ t₀ out place t = shape .transitions - t
@@ -54,7 +54,7 @@ returns c =
     let entry = c .before .before .before .before .before in
     let x = entry .args in
     let cs = readCharts (now (x .s)) in
-    texts-end _ _ _ _ _ _ (ap (λ n. gather (λ i. resetTexts i (resetsOf cs i)) (upto n)) (sym (length-transitions (now (x .s)) (x .shape) (entry .pre .0 .shape)))) (2 ^ 40) (omega (arith, most-transitions (now (x .s)) (x .shape) (entry .pre .0 .shape))) (c .before .before .loop .inv) (c .if1 .left)
+    texts-end _ _ _ _ _ _ (ap (λ n. gather (λ i. resetTexts i (resetsOf cs (from-transition i))) (upto n)) (sym (length-transitions (now (x .s)) (x .shape) (entry .pre .0 .shape)))) (2 ^ 40) (omega (arith, most-transitions (now (x .s)) (x .shape) (entry .pre .0 .shape))) (c .before .before .loop .inv) (c .if1 .left)
 
 pub put-resets-spec : {M : Type 1} → statement M
 put-resets-spec =

@@ -5,11 +5,11 @@ use Prim.Native.Nat.{ℕ, _-_, _<_}
 use native.Mathlib.Omega.{arith}
 use borrow.Author.Needs.{needs}
 use denote.Ref.{now}
-use Rattle.records.specs.Lists.{keep, upto}
+use Rattle.prelude.specs.Lists.{keep, upto}
 use Rattle.model.specs.Runs.{Deed}
 use Rattle.model.specs.AutomataTable.{writeUpdate, writeDeed}
 use Rattle.chart_files.specs.Places.{actionAt}
-use Rattle.chart_files.proofs.ListLaws.{gather-map}
+use Rattle.prelude.proofs.Maps.{gather-map}
 use Rattle.chart_files.proofs.PlacesRead.{most-actions}
 use Rattle.chart_files.specs.declared.Shape.{Shape}
 use Rattle.machines.specs.Chains.{withKey}

@@ -3,17 +3,17 @@ use mathlib.Core.Path.{sym, ap}
 use Prim.Native.Nat.{_-_, _^_}
 use native.Mathlib.Omega.{arith}
 use denote.Ref.{now}
-use Rattle.records.specs.Lists.{gather, upto}
+use Rattle.prelude.specs.Lists.{gather, upto}
 use Rattle.model.specs.ChartSet.{readCharts}
 use Rattle.translation.proofs.TextsWritten.{Texts, texts-start, texts-step, texts-end}
-use Rattle.model.specs.Translation.{updatesOf}
+use Rattle.model.specs.Translation.{from-transition, updatesOf}
 use Rattle.chart_files.proofs.PlacesRead.{length-transitions, most-states, most-transitions}
 use Rattle.translation.specs.Texts.{updateTexts}
 use Rattle.translation.proofs.updates.put_updates.Statement.{statement}
 use Rattle.translation.proofs.updates.put_updates.Tie as tie
 
 abbrev Inv-loop : tie.InvT-loop
-Inv-loop s shape first next out₀ at place₀ t₀ out place t = Texts (λ i. updateTexts i (updatesOf (readCharts s) i)) (shape .transitions) (2 ^ 22) out₀ at out place t
+Inv-loop s shape first next out₀ at place₀ t₀ out place t = Texts (λ i. updateTexts i (updatesOf (readCharts s) (from-transition i))) (shape .transitions) (2 ^ 22) out₀ at out place t
 
 abbrev μ-loop : tie.MeasureT-loop
 μ-loop s shape first next out₀ at place₀ t₀ out place t = shape .transitions - t
@@ -49,7 +49,7 @@ returns c =
     let entry = c .before .before .before .before .before in
     let x = entry .args in
     let cs = readCharts (now (x .s)) in
-    texts-end _ _ _ _ _ _ (ap (λ n. gather (λ i. updateTexts i (updatesOf cs i)) (upto n)) (sym (length-transitions (now (x .s)) (x .shape) (entry .pre .0 .shape)))) (2 ^ 40) (omega (arith, most-transitions (now (x .s)) (x .shape) (entry .pre .0 .shape))) (c .before .before .loop .inv) (c .if1 .left)
+    texts-end _ _ _ _ _ _ (ap (λ n. gather (λ i. updateTexts i (updatesOf cs (from-transition i))) (upto n)) (sym (length-transitions (now (x .s)) (x .shape) (entry .pre .0 .shape)))) (2 ^ 40) (omega (arith, most-transitions (now (x .s)) (x .shape) (entry .pre .0 .shape))) (c .before .before .loop .inv) (c .if1 .left)
 
 pub put-updates-spec : {M : Type 1} → statement M
 put-updates-spec =

@@ -1,10 +1,11 @@
 -- `runs::clock_for` meets its contract. Assumes nothing.
 use Rattle.model.specs.Correspondence.{clockFor}
-use Rattle.automata.specs.RunOf.{timingIf}
+use Rattle.timings.specs.Growth.{timingIf}
 use Prim.Native.Nat.{ℕ, _+_, _-_, _%_, _≤_, _<_}
 use mathlib.Core.Bool.{cond}
 use borrow.Author.Tests.{eq-eqb, ne-eqb}
 use Rattle.model.specs.AutomataTable.{after, every}
+use Rattle.model.specs.Automata.{top}
 use native.Mathlib.Nat.{mod-lt}
 use native.Mathlib.Omega.{arith}
 use mathlib.Core.Path.{_≡_, sym, ap, _∙_}
@@ -12,10 +13,10 @@ use borrow.Author.Needs.{needs}
 use Rattle.twins.proofs.runs.clock_for.Statement.{statement}
 use Rattle.twins.proofs.runs.clock_for.Tie as tie
 
-after-young : (d age : ℕ) → age ≤ d + 1 → age ≡ clockFor after d age
+after-young : (d age : ℕ) → age ≤ top after d → age ≡ clockFor after d age
 after-young d age h = omega (arith, h)
 
-after-old : (d age : ℕ) → d + 1 < age → d + 1 ≡ clockFor after d age
+after-old : (d age : ℕ) → top after d < age → top after d ≡ clockFor after d age
 after-old d age h = omega (arith, h)
 
 every-new : (d age : ℕ) → age ≡ 0 → 0 ≡ clockFor every d age

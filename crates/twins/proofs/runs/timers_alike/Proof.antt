@@ -1,6 +1,6 @@
 -- `runs::timers_alike` meets its contract. Assumes nothing.
 use Rattle.twins.specs.Alike.{literalAlike}
-use Rattle.expressions.proofs.Loops.{Passed, passed-none, passed-more, passed-all, passed-not}
+use Rattle.prelude.proofs.Loops.{Passed, passed-none, passed-more, passed-all, passed-not}
 use Rattle.automata_files.proofs.PlacesRead.{most-literals}
 use denote.Ref.{now}
 use borrow.Author.Tests.{not-true, not-false}

@@ -9,7 +9,7 @@ use mir.Facts.{toZ-ofZ}
 use mir.Syntax.{w16}
 use lib.IntN.{ℤ, pos}
 use lib.ListN.{getD}
-use Rattle.expressions.proofs.Loops.{Passed, passed-none, passed-more, passed-all, passed-not}
+use Rattle.prelude.proofs.Loops.{Passed, passed-none, passed-more, passed-all, passed-not}
 use Rattle.twins.specs.Alike.{valuesAlike}
 use Rattle.twins.proofs.runs.variables_alike.Statement.{statement}
 use Rattle.twins.proofs.runs.variables_alike.Tie as tie

@@ -1,0 +1,1 @@
+// The examples have no code: rows of the model, worked out, stand in proofs/.
