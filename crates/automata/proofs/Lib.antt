@@ -1,14 +1,6 @@
 -- Laws that the proofs of several functions use, and that crates above cite.
-pub mod ValuesRead
-pub mod IndexWalk
-pub mod IndexLinked
-pub mod IndexOwned
-pub mod IndexRecords
-pub mod StepOfOpen
-pub mod StepOf
 pub mod RunOfClocks
 pub mod TurnOfKept
 pub mod TurnOf
-pub mod AcceptedByCheck
 pub mod PlayedOf
 pub mod LentTypes

@@ -22,7 +22,7 @@ use Rattle.machines.specs.Playing as Playing
 use Rattle.machines.proofs.Turns.{cycle-refused}
 use Rattle.machines.proofs.Playing as played
 use Rattle.automata.specs.declared.plays.Played.{Played}
-use Rattle.automata.specs.Accepted.{Accepted}
+use Rattle.automata_steps.specs.Accepted.{Accepted}
 use Rattle.automata.specs.PlayedOf.{BetweenCycles, PlayedTo}
 use Rattle.automata.proofs.TurnOfKept.{step-kept}
 

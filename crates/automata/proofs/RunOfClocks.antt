@@ -21,7 +21,7 @@ use Rattle.automata_files.proofs.NamedThings.{ticks-known}
 use Rattle.machines.proofs.Files.{all-alike}
 use Rattle.prelude.proofs.Filled.{getD-mapFrom}
 use Rattle.machines.proofs.ChecksClauses.{all-upto}
-use Rattle.automata.specs.Accepted.{Accepted}
+use Rattle.automata_steps.specs.Accepted.{Accepted}
 use Rattle.timings.specs.Growth.{mostTop, turnFor, capFor}
 use Rattle.timings.proofs.GrowthBounds.{top-most}
 use Rattle.automata.specs.RunOf.{topAt, grownAt, ClocksPossible, turnAt, capAt, HasLimits}

@@ -10,7 +10,7 @@ use Rattle.model.specs.Automata.{edgeStep, automata}
 use Rattle.automata_files.specs.declared.Shape.{Shape}
 use Rattle.automata_files.proofs.PlacesRead.{length-initial}
 use Rattle.machines.proofs.Turns as T
-use Rattle.automata.specs.Accepted.{Accepted}
+use Rattle.automata_steps.specs.Accepted.{Accepted}
 use Rattle.automata.specs.TurnOf.{Ready, clockPossibleAt}
 use Rattle.automata.proofs.RunOfClocks.{low-of}
 use Rattle.automata.proofs.TurnOfKept.{step-kept}

@@ -10,6 +10,7 @@ use Rattle.prelude.specs.Owned.{of}
 use Rattle.model.specs.Runs.{World, Run, Answer, deeds, taken}
 use Rattle.model.specs.AutomataTable.{Automata, edge}
 use Rattle.model.specs.Automata.{theOne, reset, openEdges, edgeStep}
+use Rattle.model.proofs.TranslationClocks.{length-reset}
 use Rattle.machines.specs.Turns.{KeptWorld, KeptRun}
 use Rattle.machines.proofs.TurnsKept.{deeds-kept, set-zero}
 
@@ -17,11 +18,6 @@ reset-kept : (ks clocks : List ℕ) (c : ℕ) → getD (reset ks clocks) c 0 ≤
 unfolding reset
 reset-kept [] clocks c = le-refl (getD clocks c 0)
 reset-kept (k ∷ ks) clocks c = omega (arith, reset-kept ks (set clocks k 0) c, set-zero clocks k c)
-
-pub length-reset : (ks clocks : List ℕ) → length (reset ks clocks) ≡ length clocks
-unfolding reset
-length-reset [] clocks = refl
-length-reset (k ∷ ks) clocks = length-reset ks (set clocks k 0) ∙ length-set clocks k 0
 
 module _ (au : Automata) where
   pub step-kept : (a : ℕ) (r : Run) → KeptRun r (edgeStep au a r)

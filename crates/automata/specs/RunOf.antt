@@ -13,15 +13,8 @@ use Rattle.model.specs.Automata.{top, grown}
 use Rattle.automata_files.specs.declared.Shape.{Shape}
 use Rattle.automata_files.specs.Places.{clockAt}
 use Rattle.timings.specs.Growth.{mostTop, turnFor, capFor}
+use Rattle.machines.specs.Worlds.{runIn}
 use Rattle.automata.specs.declared.runs.Run as declared-run
-
--- a run by its places
-abbrev pub runIn : List ℕ → List ℕ → List ℤ → ℕ → ℕ → ℕ → Run
-runIn at clocks vars events position cycles = record {
-  at = at;
-  timers = clocks;
-  world = record { vars = vars; events = events; position = position; cycles = cycles };
-}
 
 -- the places that its arrays have by their types
 abbrev pub Sized : List ℕ → List ℕ → List ℤ → Type 0

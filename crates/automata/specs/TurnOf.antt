@@ -16,8 +16,6 @@ use Rattle.automata.specs.declared.turns.Turned.{Turned}
 use Rattle.automata.specs.declared.cycles.Called.{Called}
 use Rattle.automata.specs.declared.cycles.Progress.{Progress}
 use Rattle.automata.specs.declared.cycles.Progress.the-variants.{Done, Fault}
-use Rattle.automata.specs.Accepted.{Accepted}
-use Rattle.automata.specs.Index.{HasIndex}
 use Rattle.automata.specs.RunOf.{ClocksPossible, runOf}
 
 -- a turn's answer, and a cycle's, with the lent run afterwards
@@ -33,11 +31,6 @@ takenOf a r = answerOf a >>= λ x. val (x, r)
 
 abbrev pub endedOf : Ending → M.Run → Out (Unit {0} × M.Run)
 endedOf e r = endingOf e >>= λ x. val (x, r)
-
--- What is known of a table whose turns are taken: it is accepted, and its index is its own.
-pub record Prepared (s : List ℕ) (sh : Shape) (first next : List ℕ) : Type 0 where
-  pub accepted : Accepted s sh
-  pub has-index : HasIndex s sh first next
 
 -- of so many clocks none is over the highest top
 abbrev pub clockPossibleAt : Shape → ℕ → ℕ → ℕ → Type 0

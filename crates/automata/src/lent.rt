@@ -7,7 +7,7 @@ ghost use Rattle.model.specs.AutomataTable.{readAutomata};
 ghost use Rattle.model.specs.Automata.{automata as machine};
 ghost use Rattle.machines.specs.Answers.{answerOf, endingOf, cyclesOf};
 ghost use Rattle.machines.specs.Playing.{playing};
-ghost use Rattle.automata.specs.Accepted.{Accepted};
+ghost use Rattle.automata_steps.specs.Accepted.{Accepted};
 ghost use Rattle.automata.specs.RunOf.{runOf};
 ghost use Rattle.automata.specs.TurnOf.{calledOf};
 use super::cycles::Called;

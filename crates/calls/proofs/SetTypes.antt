@@ -5,7 +5,7 @@ use Rattle.model.specs.Calls.{chartSets}
 use Rattle.chart_files.specs.declared.Checked.{Checked}
 use Rattle.chart_files.specs.Shape.{IsChecked}
 use Rattle.chart_files.proofs.Checked as K
-use Rattle.charts.specs.Accepted.{Accepted}
+use Rattle.chart_steps.specs.Accepted.{Accepted}
 use Rattle.charts.proofs.LentTypes.{shape-type}
 use Rattle.calls.proofs.Gate.{Checking, Reading}
 use Rattle.calls.proofs.RefusedAnswers.{refusal-type}

@@ -5,7 +5,7 @@ use Rattle.model.specs.Calls.{automataTables}
 use Rattle.automata_files.specs.declared.Checked.{Checked}
 use Rattle.automata_files.specs.Shape.{IsChecked}
 use Rattle.automata_files.proofs.Checked as K
-use Rattle.automata.specs.Accepted.{Accepted}
+use Rattle.automata_steps.specs.Accepted.{Accepted}
 use Rattle.automata.proofs.LentTypes.{shape-type}
 use Rattle.calls.proofs.Gate.{Checking, Reading}
 use Rattle.calls.proofs.RefusedAnswers.{refusal-type}

@@ -1,17 +1,8 @@
 -- Laws that the proofs of several functions use, and that crates above cite.
-pub mod TablesRow
-pub mod Accepted
-pub mod TablesActions
-pub mod ValuesRead
-pub mod Replies
-pub mod TablesFilled
-pub mod StepOf
-pub mod TablesDeeds
 pub mod RunOfAges
-pub mod StepOfTurns
+pub mod TurnOfEnd
 pub mod TurnOfKept
 pub mod TurnOf
-pub mod AcceptedByCheck
 pub mod TurnOfCycle
 pub mod PlayedOf
 pub mod LentTypes

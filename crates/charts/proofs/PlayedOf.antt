@@ -22,7 +22,8 @@ use Rattle.machines.proofs.Turns.{cycle-refused}
 use Rattle.machines.proofs.Playing as P
 use Rattle.machines.specs.declared.answers.Cycles.the-variants.{Done}
 use Rattle.charts.specs.declared.plays.Played.{Played}
-use Rattle.charts.specs.RunOf.{runOf, runIn}
+use Rattle.machines.specs.Worlds.{runIn}
+use Rattle.charts.specs.RunOf.{runOf}
 use Rattle.charts.specs.PlayedOf.{playedOf}
 use Rattle.charts.proofs.TurnOfKept.{step-kept}
 

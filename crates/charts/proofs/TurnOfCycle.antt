@@ -23,7 +23,7 @@ use Rattle.machines.proofs.answers.Answer as declared-answer
 use Rattle.machines.proofs.TurnsCycle as B
 use Rattle.charts.specs.declared.runs.Run.{Run}
 use Rattle.charts.specs.declared.turns.Turned.{Turned}
-use Rattle.charts.specs.Accepted.{Accepted}
+use Rattle.chart_steps.specs.Accepted.{Accepted}
 use Rattle.charts.specs.RunOf.{runOf}
 use Rattle.charts.specs.TurnOf.{turnOf}
 

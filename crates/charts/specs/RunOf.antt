@@ -1,30 +1,21 @@
--- The code's run as the model's. Its arrays have 8, 8 and 64 places by their types, as the model's check 12 asks of a lent run. Assumes nothing: these
+-- The code's run as the model's. Its arrays have their places by their types, as the model's check 12 asks of a lent run. Assumes nothing: these
 -- are definitions.
 use mathlib.Core.Bool.{cond}
-use mathlib.Core.List.{List}
-use Prim.Native.Nat.{ℕ, _+_, _≤_, _<_}
+use Prim.Native.Nat.{ℕ, _+_, _-_, _≤_, _<_}
 use lib.Dec.{ltb}
-use lib.IntN.{ℤ}
 use lib.ListN.{getD}
+use Rattle.model.specs.Limits.{mostCycles}
 use Rattle.model.specs.Runs.{Run}
 pub use Rattle.machines.specs.Checks.{beforeOf}
-use Rattle.machines.specs.Worlds.{worldIn}
+use Rattle.machines.specs.Worlds.{runIn}
 use Rattle.charts.specs.declared.runs.Run as declared-run
 
 abbrev pub runOf : declared-run.Run → Run
-runOf r = record {
-  at = r .states;
-  timers = r .ages;
-  world = record { vars = r .variables; events = r .events; position = r .position; cycles = r .cycles };
-}
-
--- the run of these places
-abbrev pub runIn : List ℕ → List ℕ → List ℤ → ℕ → ℕ → ℕ → Run
-runIn states ages vars events position cycles = record { at = states; timers = ages; world = worldIn vars events position cycles }
+runOf r = runIn (r .states) (r .ages) (r .variables) (r .events) (r .position) (r .cycles)
 
 -- a cycle may still be done, and no chart's age is over the count of those done: so ages and count have room for one more
 abbrev pub AgesPossible : ℕ → Run → Type 0
-AgesPossible charts r = (r .world .cycles ≤ 999_999) × ((c : ℕ) → c < charts → getD (r .timers) c 0 ≤ r .world .cycles)
+AgesPossible charts r = (r .world .cycles ≤ mostCycles - 1) × ((c : ℕ) → c < charts → getD (r .timers) c 0 ≤ r .world .cycles)
 
 -- the age of a place after time passed
 abbrev pub aged : ℕ → ℕ → ℕ → ℕ

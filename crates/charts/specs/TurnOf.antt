@@ -1,17 +1,12 @@
 -- What turns and cycles answer, as outcomes of the model's calls. Assumes nothing: these are definitions.
-use mathlib.Core.List.{List}
 use Prim.Native.Nat.{ℕ, _≤_, _<_}
 use Rattle.model.specs.Outcome.{Outcome}
 use Rattle.model.specs.Runs as M
-use Rattle.model.specs.ChartSet.{readCharts}
 use Rattle.machines.specs.Answers.{answerOf, endingOf}
 use Rattle.machines.specs.Turns as R
 pub use Rattle.machines.specs.Turns.{after, finish}
-use Rattle.chart_files.specs.declared.Shape.{Shape}
 use Rattle.charts.specs.declared.turns.Turned.{Turned}
 use Rattle.charts.specs.declared.cycles.Called.{Called}
-use Rattle.charts.specs.Accepted.{Accepted}
-use Rattle.charts.specs.Tables.{HasRows, HasEnds, HasActions}
 use Rattle.charts.specs.RunOf.{runOf}
 
 -- a turn's answer, and the lent run afterwards
@@ -20,13 +15,6 @@ turnOf t = record { answer = answerOf (t .answer); lent = runOf (t .run) }
 
 abbrev pub calledOf : Called → Outcome (Unit {0}) M.Run
 calledOf t = record { answer = endingOf (t .answer); lent = runOf (t .run) }
-
--- What is known of a set whose turns are taken: it is accepted, and its tables are its own.
-pub record Prepared (s : List ℕ) (sh : Shape) (rows : List (List ℕ)) (ends first next : List ℕ) : Type 0 where
-  pub accepted : Accepted s sh
-  pub has-rows : HasRows (readCharts s) rows
-  pub has-ends : HasEnds (readCharts s) rows ends
-  pub has-actions : HasActions s sh first next
 
 -- A run in the midst of a cycle: its position is one of so many charts' or time's, and time can pass.
 abbrev pub Ready : ℕ → M.Run → Type 0

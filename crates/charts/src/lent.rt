@@ -7,7 +7,7 @@ ghost use Rattle.model.specs.ChartSet.{readCharts};
 ghost use Rattle.model.specs.Charts.{charts as machine};
 ghost use Rattle.machines.specs.Answers.{answerOf, endingOf, cyclesOf};
 ghost use Rattle.machines.specs.Playing.{playing};
-ghost use Rattle.charts.specs.Accepted.{Accepted};
+ghost use Rattle.chart_steps.specs.Accepted.{Accepted};
 ghost use Rattle.charts.specs.RunOf.{runOf};
 use super::cycles::cycle_by_turns;
 use super::cycles::fresh;

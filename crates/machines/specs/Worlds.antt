@@ -6,12 +6,16 @@ use Prim.Native.Nat.{ℕ, _+_}
 use lib.Dec.{leb, eqb}
 use lib.IntN.{ℤ}
 use Rattle.records.specs.Refusal.{Refusal, refusalNumber, out-of-range, zero-divisor, out-of-bounds, Out, val, fault, _>>=_}
-use Rattle.model.specs.Runs.{World}
+use Rattle.model.specs.Runs.{World, Run}
 use Rattle.machines.specs.declared.deeds.Done as declared-done
 use Rattle.machines.specs.Answers.{reasonOf}
 
 abbrev pub worldIn : List ℤ → ℕ → ℕ → ℕ → World
 worldIn vars events position cycles = record { vars = vars; events = events; position = position; cycles = cycles }
+
+-- a run by its places, as the code has them in arrays
+abbrev pub runIn : List ℕ → List ℕ → List ℤ → ℕ → ℕ → ℕ → Run
+runIn at timers vars events position cycles = record { at = at; timers = timers; world = worldIn vars events position cycles }
 
 -- deeds leave position and count as they are
 abbrev pub worldAfter : declared-done.Done → List ℤ → ℕ → ℕ → Out World

@@ -20,8 +20,8 @@ use Rattle.model.specs.PathBack.{timeMark, Walk, Row, walkStart, timeFits, edge
 use Rattle.chart_files.specs.declared.Shape.{Shape}
 use Rattle.chart_files.specs.Places.{homeAt, transitionAt}
 use Rattle.chart_files.proofs.PlacesRead.{length-initial, most-charts}
-use Rattle.charts.specs.Accepted.{Accepted}
-use Rattle.charts.proofs.Accepted.{source-known}
+use Rattle.chart_steps.specs.Accepted.{Accepted}
+use Rattle.chart_steps.proofs.Accepted.{source-known}
 use Rattle.paths.specs.Along.{allFit, rowsAlong}
 use Rattle.paths.proofs.Along.{led-is}
 use Rattle.paths.proofs.LedOfEdges.{automaton-known}

@@ -8,7 +8,7 @@ ghost use lib.ListN.{length};
 ghost use lib.Seq.{sets};
 ghost use Rattle.model.specs.ChartSet.{readCharts};
 ghost use Rattle.model.specs.PathBack.{walkStart, edgeFits, stepFits, walked as walkedOn, ledBack, rowWords};
-ghost use Rattle.charts.specs.Accepted.{Accepted};
+ghost use Rattle.chart_steps.specs.Accepted.{Accepted};
 ghost use Rattle.paths.specs.Along.{rowsAlong};
 ghost use Rattle.paths.specs.LedOf.{walkIn, IsEdge, HasEdges, nextPosition, nextCycles, countOf, counted, Writable, stepWords, ledOf, led};
 use chart_files::Shape;

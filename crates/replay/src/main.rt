@@ -1,14 +1,14 @@
 // Replays a chart set: the file named, or set.bin in the folder that it is run in. Reads event masks of four bytes, little-endian, from standard
 // input; plays a cycle for each mask and prints a line for each chart's turn: cycle, chart, transition or -, state after, variables. It stops at a refusal
 // or fault, whose number and meaning go to standard error, at a partial mask, or at the end.
-ghost use Rattle.charts.specs.TurnOf.{Prepared};
+ghost use Rattle.chart_steps.specs.Prepared.{Prepared};
 use chart_files::Checked;
 use chart_files::Shape;
 use chart_files::check;
+use chart_steps::tables::fill_actions;
+use chart_steps::tables::fill_rows;
 use charts::runs::Run;
 use charts::runs::start;
-use charts::tables::fill_actions;
-use charts::tables::fill_rows;
 use libc::STDIN_FILENO;
 use machines::answers::Ending;
 use messages::input::Form;

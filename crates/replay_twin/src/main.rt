@@ -1,13 +1,13 @@
 // Replays a table of automata: the file named, or twin.bin in the folder that it is run in. Reads event masks of four bytes, little-endian, from standard
 // input; plays a cycle for each mask and prints a line for each automaton's turn: cycle, automaton, edge, location after, variables. It stops at a refusal
 // or fault, whose number and meaning go to standard error, at a partial mask, or at the end.
-ghost use Rattle.automata.specs.TurnOf.{Prepared};
-use automata::index::index_of;
+ghost use Rattle.automata_steps.specs.Prepared.{Prepared};
 use automata::runs::Run;
 use automata::runs::start;
 use automata_files::Checked;
 use automata_files::Shape;
 use automata_files::check;
+use automata_steps::index::index_of;
 use libc::STDIN_FILENO;
 use machines::answers::Ending;
 use messages::input::Form;

@@ -7,7 +7,7 @@ ghost use Rattle.model.specs.ChartSet.{readCharts};
 ghost use Rattle.model.specs.Charts.{charts as machine};
 ghost use Rattle.model.specs.Replay.{traceLines};
 ghost use Rattle.charts.specs.RunOf.{runOf};
-ghost use Rattle.charts.specs.TurnOf.{Prepared};
+ghost use Rattle.chart_steps.specs.Prepared.{Prepared};
 ghost use Rattle.records.specs.Wrote.{Begins};
 ghost use Rattle.replays.specs.Sets.{replayedCycleOf};
 use super::parts::tell;

@@ -6,7 +6,7 @@ ghost use Rattle.model.specs.Runs.{whole-cycle, trace, cycle as model-cycle};
 ghost use Rattle.model.specs.AutomataTable.{readAutomata};
 ghost use Rattle.model.specs.Automata.{automata as machine};
 ghost use Rattle.automata.specs.RunOf.{runOf};
-ghost use Rattle.automata.specs.TurnOf.{Prepared};
+ghost use Rattle.automata_steps.specs.Prepared.{Prepared};
 ghost use Rattle.records.specs.Wrote.{Begins};
 ghost use Rattle.lines.specs.Text.{traceText};
 ghost use Rattle.replays.specs.Twins.{replayedCycleOf};

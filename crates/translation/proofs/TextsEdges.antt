@@ -22,14 +22,14 @@ use Rattle.model.specs.Translation.{updatesOf}
 use Rattle.chart_files.specs.declared.Shape.{Shape}
 use Rattle.chart_files.specs.Places.{transitionAt, actionAt}
 use Rattle.chart_files.proofs.PlacesRead.{transition-is, length-transitions, most-states, most-transitions}
-use Rattle.charts.specs.Accepted.{Accepted}
-use Rattle.charts.specs.Tables.{leaves, named, HasRows, keyed}
+use Rattle.chart_steps.specs.Accepted.{Accepted}
+use Rattle.chart_steps.specs.Tables.{leaves, named, HasRows, keyed}
 use Rattle.machines.specs.Chains.{headOr, earliest, withKey, Chained}
 use Rattle.machines.proofs.ChainsEarliest.{keep-alike}
-use Rattle.charts.proofs.TablesRow.{sourceAt, place-of}
-use Rattle.charts.proofs.StepOf.{unnamed}
-use Rattle.charts.proofs.TablesActions.{of-key}
-use Rattle.charts.proofs.Accepted.{source-known, target-known}
+use Rattle.chart_steps.proofs.TablesRow.{sourceAt, place-of}
+use Rattle.chart_steps.proofs.StepOf.{unnamed}
+use Rattle.chart_steps.proofs.TablesActions.{of-key}
+use Rattle.chart_steps.proofs.Accepted.{source-known, target-known}
 use Rattle.translation.specs.Texts.{recordText, literalTexts, updateTexts, resetTexts}
 use Rattle.translation.specs.Tables.{sourceOf, HasLeaving}
 use Rattle.prelude.proofs.Lists.{gather-append}

@@ -24,8 +24,8 @@ use Rattle.chart_files.specs.declared.Shape.{Shape}
 use Rattle.chart_files.specs.Places.{firstNode, nodePart}
 use Rattle.chart_files.proofs.Places.{node-part}
 use Rattle.chart_files.proofs.PlacesRead.{first-node}
-use Rattle.charts.specs.Accepted.{Accepted}
-use Rattle.charts.proofs.Accepted.{all-getD, all-kept}
+use Rattle.chart_steps.specs.Accepted.{Accepted}
+use Rattle.chart_steps.proofs.Accepted.{all-getD, all-kept}
 
 -- bytes 1 to 15, from the fields as they are read
 abbrev pub nodeText : ℕ → ℕ → ℕ → ℕ → ℕ → List ℕ

@@ -8,7 +8,7 @@ use Rattle.model.specs.ChartSet.{ChartSet, transition}
 use Rattle.model.specs.Translation.{clockOf, clocksLeaving}
 use Rattle.machines.specs.Chains.{Chained}
 use Rattle.chart_files.specs.declared.Shape.{Shape}
-use Rattle.charts.specs.Tables.{keyed}
+use Rattle.chart_steps.specs.Tables.{keyed}
 
 abbrev pub HasClocks : ChartSet → List ℕ → Type 0
 HasClocks cs clocks = clocks ≡ padded 256 0 (map (clockOf cs) (upto (length (cs .transitions))))

@@ -6,14 +6,14 @@ ghost use Rattle.prelude.specs.Lists.{upto};
 ghost use Rattle.model.specs.ChartSet.{readCharts};
 ghost use Rattle.model.specs.AutomataTable.{writeEdge};
 ghost use Rattle.model.specs.Translation.{from-transition, from-idling, transitionCount, stateCount, edgeOf};
-ghost use Rattle.charts.specs.Accepted.{Accepted};
+ghost use Rattle.chart_steps.specs.Accepted.{Accepted};
 ghost use Rattle.translation.specs.Texts.{recordText, section, Puts};
 use super::writing::edge_bytes;
 use super::writing::put_record;
 use chart_files::Shape;
 use chart_files::fields::home_of;
-use charts::transitions::source_of;
-use charts::transitions::target_of;
+use chart_steps::transitions::source_of;
+use chart_steps::transitions::target_of;
 
 fn edge_record(s: &[u8], shape: Shape, t: u16) -> [u8; 16]
     requires { ⌜ Accepted (now s) shape × (t < shape .transitions) ⌝ }

@@ -8,7 +8,7 @@ ghost use Rattle.model.specs.ChartSet.{readCharts};
 ghost use Rattle.model.specs.AutomataTable.{writeVariable};
 ghost use Rattle.chart_files.specs.Places.{initialAt, homeAt, variableAt, nodePart};
 ghost use Rattle.chart_files.specs.Shape.{IsShape};
-ghost use Rattle.charts.specs.Accepted.{Accepted};
+ghost use Rattle.chart_steps.specs.Accepted.{Accepted};
 ghost use Rattle.translation.specs.Texts.{recordText, section, Puts};
 use super::writing::home_bytes;
 use super::writing::initial_bytes;

@@ -13,7 +13,7 @@ use Rattle.automata_files.specs.Known.{LiteralTriggerKnown}
 use Rattle.automata_files.proofs.PlacesRead.{most-automata}
 use Rattle.automata_files.proofs.NamedThings.{automaton-known, literal-edge-known, literal-literal-trigger-known}
 use Rattle.model.specs.AutomataTable.{LiteralTrigger, clock}
-use Rattle.automata.specs.Accepted.{Accepted}
+use Rattle.automata_steps.specs.Accepted.{Accepted}
 use Rattle.twins.specs.Alike.{literalTriggerAlike, literalAlike}
 
 module _ (t : List ℕ) (sh : Shape) (l e a : ℕ) (p : e ≡ literalAt t sh l .0) (q : a ≡ edgeAt t sh e .automaton) where

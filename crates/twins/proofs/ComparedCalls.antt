@@ -29,7 +29,7 @@ use Rattle.model.proofs.TranslationWritten.{twin-back}
 use Rattle.model.proofs.TranslationAccepted.{twin-accepted}
 use Rattle.automata_files.specs.declared.Shape.{Shape}
 use Rattle.automata_files.proofs.PlacesRead.{length-initial}
-use Rattle.automata.specs.Accepted.{Accepted}
+use Rattle.automata_steps.specs.Accepted.{Accepted}
 use Rattle.translation.specs.declared.Translated.{Translated}
 use Rattle.translation.specs.Answer.{translatedOf}
 use Rattle.twins.specs.Alike.{callFor, isTurn}

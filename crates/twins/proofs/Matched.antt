@@ -25,7 +25,7 @@ use Rattle.automata_files.specs.declared.Shape.{Shape}
 use Rattle.automata_files.specs.Places.{edgeAt, literalAt}
 use Rattle.automata_files.proofs.PlacesRead.{length-edges, length-literals, edge-is, literal-is, clock-is}
 use Rattle.automata_files.proofs.NamedThings.{automaton-known, literal-edge-known}
-use Rattle.automata.specs.Accepted.{Accepted}
+use Rattle.automata_steps.specs.Accepted.{Accepted}
 use Rattle.twins.specs.Alike.{valuesAlike, variablesAlike, placesAlike, literalTriggerAlike, literalAlike, timersAlike, runsAlike, idleAt, answersAlike, outsAlike, stateAt, repliesAlike, callAlike}
 use Rattle.twins.proofs.Alike.{clock-in}
 

@@ -3,8 +3,8 @@ ghost use mathlib.Core.Path.{_≡_};
 ghost use Rattle.model.specs.ChartSet.{readCharts};
 ghost use Rattle.model.specs.AutomataTable.{readAutomata};
 ghost use Rattle.model.specs.Translation.{twin as twin-of, twinBytes, translate as translation};
-ghost use Rattle.charts.specs.Accepted as of-charts;
-ghost use Rattle.automata.specs.Accepted as of-automata;
+ghost use Rattle.chart_steps.specs.Accepted as of-charts;
+ghost use Rattle.automata_steps.specs.Accepted as of-automata;
 ghost use Rattle.records.specs.RefusalOf.{refusalOf};
 ghost use Rattle.twins.specs.Compared.{comparisonOf, calledBoth, playedBoth, movedBoth, nothingCompared, compared};
 

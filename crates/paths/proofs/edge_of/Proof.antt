@@ -8,7 +8,7 @@ use Rattle.model.specs.ChartSet.{readCharts}
 use Rattle.model.specs.AutomataTable.{edge}
 use Rattle.model.specs.Translation.{twin}
 use Rattle.chart_files.specs.Places.{homeAt, transitionAt}
-use Rattle.charts.proofs.Accepted.{source-known}
+use Rattle.chart_steps.proofs.Accepted.{source-known}
 use Rattle.paths.proofs.LedOfEdges.{home-known, low-automaton, low-source, low-target, high-automaton, high-source, high-target}
 use Rattle.paths.proofs.edge_of.Statement.{statement}
 use Rattle.paths.proofs.edge_of.Tie as tie

@@ -13,7 +13,7 @@ use lib.Seq.{sets, length-sets, take-all}
 use Rattle.model.specs.ChartSet.{readCharts}
 use Rattle.model.specs.PathBack.{walkStart, rowWords}
 use Rattle.chart_files.specs.declared.Shape.{Shape}
-use Rattle.charts.specs.Accepted.{Accepted}
+use Rattle.chart_steps.specs.Accepted.{Accepted}
 use Rattle.chart_files.proofs.PlacesRead.{length-transitions, most-transitions}
 use Rattle.paths.specs.LedOf.{stepWords, nextPosition, nextCycles}
 use Rattle.paths.specs.Along.{allFit, walkAlong, rowsAlong}

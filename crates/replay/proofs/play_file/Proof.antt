@@ -2,8 +2,8 @@
 use mathlib.Core.Path.{refl}
 use borrow.Author.Needs.{needs}
 use denote.Ref.{now}
-use Rattle.charts.specs.Accepted.{Accepted}
-use Rattle.charts.proofs.AcceptedByCheck.{accepted-of}
+use Rattle.chart_steps.specs.Accepted.{Accepted}
+use Rattle.chart_steps.proofs.AcceptedByCheck.{accepted-of}
 use Rattle.replay.proofs.play_file.Statement.{statement}
 use Rattle.replay.proofs.play_file.Tie as tie
 

@@ -1,10 +1,10 @@
 -- `replay_twin::play_file` is safe: a file that is not refused is one that can be played. Assumes nothing.
 use borrow.Author.Needs.{needs}
 use denote.Ref.{now}
-use Rattle.automata.specs.Accepted.{Accepted}
-use Rattle.automata.proofs.AcceptedByCheck.{accepted-of}
-use Rattle.automata.proofs.IndexLinked.{blank}
-use Rattle.automata.proofs.IndexRecords.{room-long}
+use Rattle.automata_steps.specs.Accepted.{Accepted}
+use Rattle.automata_steps.proofs.AcceptedByCheck.{accepted-of}
+use Rattle.automata_steps.proofs.IndexLinked.{blank}
+use Rattle.automata_steps.proofs.IndexRecords.{room-long}
 use Rattle.replay_twin.proofs.play_file.Statement.{statement}
 use Rattle.replay_twin.proofs.play_file.Tie as tie
 

@@ -1,6 +1,6 @@
 -- `file_compared` meets its contract. Assumes nothing.
 use Rattle.twins.specs.Compared.{movedBoth, compared}
-use Rattle.charts.proofs.AcceptedByCheck.{accepted-of, refused-of}
+use Rattle.chart_steps.proofs.AcceptedByCheck.{accepted-of, refused-of}
 use Rattle.model.specs.Translation.{twinBytes, written, translate}
 use Rattle.model.specs.Outcome.{settled}
 use Rattle.records.specs.RefusalOf.{refusalOf}

@@ -1,6 +1,6 @@
 -- `twin_compared` meets its contract. Assumes nothing.
 use Rattle.twins.proofs.ComparedCalls.{bytes-of, twin-reads, twin-unrefused, not-both}
-use Rattle.automata.proofs.AcceptedByCheck.{accepted-of, refused-of}
+use Rattle.automata_steps.proofs.AcceptedByCheck.{accepted-of, refused-of}
 use native.Mathlib.Omega.{arith}
 use denote.Ref.{now}
 use lib.Dec.{T, ltb}

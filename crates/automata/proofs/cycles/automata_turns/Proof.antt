@@ -14,8 +14,8 @@ use Rattle.automata_files.proofs.PlacesRead.{most-automata, length-initial}
 use Rattle.machines.specs.Answers.{reasonOf}
 use Rattle.machines.specs.Turns.{after}
 use Rattle.machines.proofs.Turns.{cycle-more, cycle-stop, cycle-end}
-use Rattle.automata.specs.RunOf.{runIn}
-use Rattle.automata.specs.StepOf.{steppedOf}
+use Rattle.machines.specs.Worlds.{runIn}
+use Rattle.automata_steps.specs.StepOf.{steppedOf}
 use Rattle.automata.specs.TurnOf.{Ready}
 use Rattle.automata.proofs.TurnOf.{ready-next, part-stepped}
 use Rattle.automata.proofs.cycles.automata_turns.Statement.{statement}

@@ -11,7 +11,7 @@ use Rattle.automata_files.proofs.PlacesRead.{length-initial}
 use Rattle.machines.specs.Checks.{beforeOf}
 use Rattle.machines.specs.Turns.{finish}
 use Rattle.machines.proofs.Turns.{cycle-refused, cycle-given}
-use Rattle.automata.specs.RunOf.{runIn}
+use Rattle.machines.specs.Worlds.{runIn}
 use Rattle.automata.specs.TurnOf.{Ready, cycledOf}
 use Rattle.automata.proofs.TurnOf.{ready}
 use borrow.Author.Needs.{needs}

@@ -1,6 +1,6 @@
 -- `cycles::cycle_by_turns` meets its contract: the index has room for the table. Assumes nothing.
 use borrow.Author.Needs.{needs}
-use Rattle.automata.proofs.IndexRecords.{room-short, room-long}
+use Rattle.automata_steps.proofs.IndexRecords.{room-short, room-long}
 use Rattle.automata.proofs.cycles.cycle_by_turns.Statement.{statement}
 use Rattle.automata.proofs.cycles.cycle_by_turns.Tie as tie
 

@@ -5,7 +5,7 @@ use denote.Ref.{now}
 use Rattle.records.specs.Refusal.{val}
 use Rattle.model.specs.AutomataTable.{readAutomata}
 use Rattle.model.specs.Automata.{automata}
-use Rattle.automata.specs.RunOf.{runIn}
+use Rattle.machines.specs.Worlds.{runIn}
 use Rattle.automata.specs.TurnOf.{progressOf, ClocksLeft}
 use Rattle.automata.proofs.RunOfClocks.{grown-are}
 use borrow.Author.Needs.{needs}

@@ -2,7 +2,7 @@
 use mathlib.Core.Path.{_≡_, refl, sym, ap, _∙_}
 use Prim.Native.Nat.{ℕ, _+_}
 use native.Mathlib.Omega.{arith}
-use Rattle.automata.specs.RunOf.{runIn}
+use Rattle.machines.specs.Worlds.{runIn}
 use Rattle.automata.specs.TurnOf.{cycledOf}
 use borrow.Author.Needs.{needs}
 use Rattle.automata.proofs.cycles.cycle_or_none.Statement.{statement}

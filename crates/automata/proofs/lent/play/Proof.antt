@@ -9,7 +9,7 @@ use Rattle.machines.specs.Answers.{cyclesOf}
 use Rattle.machines.specs.Playing.{playing}
 use Rattle.machines.proofs.LentAnswers.{cycles-type}
 use Rattle.machines.proofs.LentMasks.{lent}
-use Rattle.automata.specs.Accepted.{Accepted}
+use Rattle.automata_steps.specs.Accepted.{Accepted}
 use Rattle.automata.specs.RunOf.{runOf}
 use Rattle.automata.proofs.LentTypes.{run-type, shape-type, played-type}
 use Rattle.automata.proofs.plays.play_in_place as step

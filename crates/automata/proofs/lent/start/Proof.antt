@@ -10,7 +10,7 @@ use Rattle.model.specs.Automata.{automata}
 use Rattle.machines.specs.Answers.{endingOf}
 use Rattle.machines.proofs.LentAnswers.{ending-type}
 use Rattle.machines.proofs.LentAlone.{lent}
-use Rattle.automata.specs.Accepted.{Accepted}
+use Rattle.automata_steps.specs.Accepted.{Accepted}
 use Rattle.automata.specs.RunOf.{runOf}
 use Rattle.automata.proofs.LentTypes.{run-type, shape-type, called-type}
 use Rattle.automata.proofs.lent.fresh as step

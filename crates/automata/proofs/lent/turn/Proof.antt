@@ -9,7 +9,7 @@ use Rattle.model.specs.Automata.{automata}
 use Rattle.machines.specs.Answers.{answerOf}
 use Rattle.machines.proofs.LentAnswers.{answer-type}
 use Rattle.machines.proofs.LentEvents.{lent}
-use Rattle.automata.specs.Accepted.{Accepted}
+use Rattle.automata_steps.specs.Accepted.{Accepted}
 use Rattle.automata.specs.RunOf.{runOf}
 use Rattle.automata.proofs.LentTypes.{run-type, shape-type, turned-type}
 use Rattle.automata.proofs.turns.one_turn as step

@@ -16,7 +16,8 @@ use Rattle.machines.specs.Turns.{finish}
 use Rattle.machines.specs.Playing.{played}
 use Rattle.machines.proofs.Turns.{cycle-given}
 use Rattle.machines.proofs.Playing.{PlayedAfter, playedAfter-none, playedAfter-more, playedAfter-stop, playedAfter-all}
-use Rattle.automata.specs.RunOf.{runIn, runOf}
+use Rattle.machines.specs.Worlds.{runIn}
+use Rattle.automata.specs.RunOf.{runOf}
 use Rattle.automata.specs.TurnOf.{cycledOf}
 use Rattle.automata.specs.PlayedOf.{BetweenCycles}
 use Rattle.automata.proofs.TurnOf.{ready}

@@ -1,6 +1,6 @@
 -- `plays::play_in_place` meets its contract: the index has room for the table. Assumes nothing.
 use borrow.Author.Needs.{needs}
-use Rattle.automata.proofs.IndexRecords.{room-short, room-long}
+use Rattle.automata_steps.proofs.IndexRecords.{room-short, room-long}
 use Rattle.automata.proofs.plays.play_in_place.Statement.{statement}
 use Rattle.automata.proofs.plays.play_in_place.Tie as tie
 

@@ -1,6 +1,6 @@
 -- `plays::play_making_index` meets its contract: the index and the limits that `cycles_played` asks for are made. Assumes nothing.
 use denote.Ref.{now}
-use Rattle.automata.proofs.IndexLinked.{blank}
+use Rattle.automata_steps.proofs.IndexLinked.{blank}
 use Rattle.automata.proofs.RunOfClocks.{room-for-limits, has-limits}
 use borrow.Author.Needs.{needs}
 use Rattle.automata.proofs.plays.play_making_index.Statement.{statement}

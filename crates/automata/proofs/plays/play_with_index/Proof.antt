@@ -15,7 +15,8 @@ use Rattle.model.specs.Automata.{automata}
 use Rattle.machines.specs.Answers.{reasonOf}
 use Rattle.machines.specs.Playing.{played, stoppedAt}
 use Rattle.machines.proofs.Playing.{playedAfter-none, playedAfter-more, playedAfter-stop, playedAfter-all}
-use Rattle.automata.specs.RunOf.{runIn, runOf, Sized}
+use Rattle.machines.specs.Worlds.{runIn}
+use Rattle.automata.specs.RunOf.{runOf, Sized}
 use Rattle.automata.specs.TurnOf.{endedOf}
 use Rattle.automata.specs.PlayedOf.{BetweenCycles}
 use Rattle.automata.proofs.PlayedOf.{rested-next, rested-few, told-later}

@@ -8,8 +8,8 @@ use Rattle.model.specs.Automata.{automata}
 use Rattle.automata_files.proofs.PlacesRead.{most-automata, length-initial, length-clocks}
 use Rattle.machines.specs.Checks.{sharedPossible}
 use Rattle.machines.proofs.ChecksClauses.{possible-is}
-use Rattle.automata.specs.RunOf.{runIn}
-use Rattle.automata.proofs.ValuesRead.{homes-in, has-values, variables-in}
+use Rattle.machines.specs.Worlds.{runIn}
+use Rattle.automata_steps.proofs.ValuesRead.{homes-in, has-values, variables-in}
 use Rattle.automata.proofs.RunOfClocks.{clocks-are}
 use borrow.Author.Needs.{needs}
 use Rattle.automata.proofs.runs.is_possible.Statement.{statement}

@@ -8,7 +8,7 @@ use Rattle.prelude.specs.Lists.{upto, padded}
 use Rattle.prelude.proofs.Maps.{map-map}
 use Rattle.automata_files.proofs.PlacesRead.{most-automata, initial-are}
 use Rattle.machines.specs.Files.{variableIn}
-use Rattle.automata.proofs.ValuesRead.{has-values, variables-in}
+use Rattle.automata_steps.proofs.ValuesRead.{has-values, variables-in}
 use borrow.Author.Needs.{needs}
 use Rattle.automata.proofs.runs.start.Statement.{statement}
 use Rattle.automata.proofs.runs.start.Tie as tie

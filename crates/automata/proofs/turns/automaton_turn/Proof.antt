@@ -7,8 +7,8 @@ use Rattle.model.specs.Runs.{moved}
 use Rattle.model.specs.AutomataTable.{readAutomata}
 use Rattle.model.specs.Automata.{automata}
 use Rattle.automata_files.proofs.PlacesRead.{length-initial}
-use Rattle.automata.specs.RunOf.{runIn}
-use Rattle.automata.specs.StepOf.{steppedOf}
+use Rattle.machines.specs.Worlds.{runIn}
+use Rattle.automata_steps.specs.StepOf.{steppedOf}
 use Rattle.machines.proofs.Turns.{at-part}
 use borrow.Author.Needs.{needs}
 use Rattle.automata.proofs.turns.automaton_turn.Statement.{statement}

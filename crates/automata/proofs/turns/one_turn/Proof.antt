@@ -1,6 +1,6 @@
 -- `turns::one_turn` meets its contract: the index has room for the table. Assumes nothing.
 use borrow.Author.Needs.{needs}
-use Rattle.automata.proofs.IndexRecords.{room-short, room-long}
+use Rattle.automata_steps.proofs.IndexRecords.{room-short, room-long}
 use Rattle.automata.proofs.turns.one_turn.Statement.{statement}
 use Rattle.automata.proofs.turns.one_turn.Tie as tie
 

@@ -5,7 +5,8 @@ use Rattle.records.specs.Refusal.{val}
 use Rattle.model.specs.Outcome.{Outcome, settled}
 use Rattle.model.specs.Runs as M
 use Rattle.machines.specs.declared.answers.Answer.{Answer}
-use Rattle.automata.specs.RunOf.{runIn, runOf}
+use Rattle.machines.specs.Worlds.{runIn}
+use Rattle.automata.specs.RunOf.{runOf}
 use Rattle.automata.specs.TurnOf.{takenOf}
 use borrow.Author.Needs.{needs}
 use Rattle.automata.proofs.turns.settle_turn.Statement.{statement}

@@ -7,7 +7,7 @@ use Rattle.model.specs.Runs.{Run, checked, stepped}
 use Rattle.model.specs.AutomataTable.{readAutomata}
 use Rattle.model.specs.Automata.{automata}
 use Rattle.machines.specs.Checks.{beforeOf}
-use Rattle.automata.specs.RunOf.{runIn}
+use Rattle.machines.specs.Worlds.{runIn}
 use Rattle.automata.specs.TurnOf.{Ready}
 use Rattle.machines.proofs.Turns.{turn-refused, turn-fine}
 use Rattle.automata.proofs.TurnOf.{ready}

@@ -1,6 +1,6 @@
 -- `turns::turn_making_index` meets its contract: the index that `turn` asks for is made. Assumes nothing.
 use borrow.Author.Needs.{needs}
-use Rattle.automata.proofs.IndexLinked.{blank}
+use Rattle.automata_steps.proofs.IndexLinked.{blank}
 use Rattle.automata.proofs.turns.turn_making_index.Statement.{statement}
 use Rattle.automata.proofs.turns.turn_making_index.Tie as tie
 

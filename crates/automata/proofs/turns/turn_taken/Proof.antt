@@ -7,7 +7,7 @@ use Rattle.model.specs.Runs.{time}
 use Rattle.model.specs.AutomataTable.{readAutomata}
 use Rattle.model.specs.Automata.{automata}
 use Rattle.automata_files.proofs.PlacesRead.{length-initial}
-use Rattle.automata.specs.RunOf.{runIn}
+use Rattle.machines.specs.Worlds.{runIn}
 use Rattle.automata.proofs.RunOfClocks.{grown-are}
 use Rattle.machines.proofs.Turns.{at-time}
 use borrow.Author.Needs.{needs}

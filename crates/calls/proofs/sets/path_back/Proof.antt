@@ -6,8 +6,8 @@ use Rattle.records.specs.Refusal.{unless-refused, _>>=_}
 use Rattle.model.specs.Outcome.{settled}
 use Rattle.model.specs.ChartSet.{readCharts}
 use Rattle.model.specs.PathBack.{walkStart, ledBack, rowsWritten}
-use Rattle.charts.specs.Accepted.{Accepted}
-use Rattle.charts.proofs.AcceptedByCheck.{accepted-of, refused-of}
+use Rattle.chart_steps.specs.Accepted.{Accepted}
+use Rattle.chart_steps.proofs.AcceptedByCheck.{accepted-of, refused-of}
 use Rattle.calls.proofs.sets.path_back.Statement.{statement}
 use Rattle.calls.proofs.sets.path_back.Tie as tie
 

@@ -5,8 +5,8 @@ use denote.Ref.{now}
 use Rattle.records.specs.Refusal.{unless-refused}
 use Rattle.model.specs.Outcome.{settled}
 use Rattle.model.specs.Translation.{twinBytes, written}
-use Rattle.charts.specs.Accepted.{Accepted}
-use Rattle.charts.proofs.AcceptedByCheck.{accepted-of, refused-of}
+use Rattle.chart_steps.specs.Accepted.{Accepted}
+use Rattle.chart_steps.proofs.AcceptedByCheck.{accepted-of, refused-of}
 use Rattle.calls.proofs.sets.translate.Statement.{statement}
 use Rattle.calls.proofs.sets.translate.Tie as tie
 

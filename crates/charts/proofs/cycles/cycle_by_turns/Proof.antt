@@ -11,7 +11,7 @@ use Rattle.model.specs.ChartSet.{readCharts}
 use Rattle.model.specs.Charts.{charts}
 use Rattle.machines.specs.Answers.{reasonOf, answerOf}
 use Rattle.charts.specs.RunOf.{runOf}
-use Rattle.charts.specs.TurnOf.{Prepared}
+use Rattle.chart_steps.specs.Prepared.{Prepared}
 use Rattle.charts.proofs.TurnOfCycle.{part-turn, goes-on, nearer, ends, fails}
 use Rattle.charts.proofs.cycles.cycle_by_turns.Statement.{statement}
 use Rattle.charts.proofs.cycles.cycle_by_turns.Tie as tie

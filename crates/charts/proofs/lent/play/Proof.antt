@@ -10,7 +10,7 @@ use Rattle.machines.specs.Answers.{cyclesOf}
 use Rattle.machines.proofs.LentAnswers.{cycles-type}
 use Rattle.machines.proofs.LentMasks.{lent}
 use Rattle.charts.specs.RunOf.{runOf}
-use Rattle.charts.specs.Accepted.{Accepted}
+use Rattle.chart_steps.specs.Accepted.{Accepted}
 use Rattle.charts.proofs.LentTypes.{run-type, shape-type, played-type}
 use Rattle.charts.proofs.plays.play_in_place as step
 use Rattle.charts.proofs.plays.play_in_place.Symbol as step-def

@@ -10,7 +10,7 @@ use Rattle.machines.specs.Answers.{endingOf}
 use Rattle.machines.proofs.LentAnswers.{ending-type}
 use Rattle.machines.proofs.LentAlone.{lent}
 use Rattle.charts.specs.RunOf.{runOf}
-use Rattle.charts.specs.Accepted.{Accepted}
+use Rattle.chart_steps.specs.Accepted.{Accepted}
 use Rattle.charts.proofs.LentTypes.{run-type, shape-type, called-type}
 use Rattle.charts.proofs.cycles.fresh as step
 use Rattle.charts.proofs.cycles.fresh.Symbol as step-def

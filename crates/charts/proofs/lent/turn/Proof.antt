@@ -10,7 +10,7 @@ use Rattle.machines.specs.Answers.{answerOf}
 use Rattle.machines.proofs.LentAnswers.{answer-type}
 use Rattle.machines.proofs.LentEvents.{lent}
 use Rattle.charts.specs.RunOf.{runOf}
-use Rattle.charts.specs.Accepted.{Accepted}
+use Rattle.chart_steps.specs.Accepted.{Accepted}
 use Rattle.charts.proofs.LentTypes.{run-type, shape-type, turned-type}
 use Rattle.charts.proofs.turns.one_turn as step
 use Rattle.charts.proofs.turns.one_turn.Symbol as step-def

@@ -3,9 +3,9 @@ use Prim.Native.Nat.{_+_, _-_, _≤_}
 use native.Mathlib.Omega.{arith}
 use denote.Ref.{now}
 use Rattle.chart_files.proofs.PlacesRead.{most-charts}
-use Rattle.charts.specs.RunOf.{runIn}
-use Rattle.charts.specs.StepOf.{answerBy}
-use Rattle.charts.proofs.StepOfTurns.{cycle-young, cycle-closed}
+use Rattle.machines.specs.Worlds.{runIn}
+use Rattle.chart_steps.specs.StepOf.{answerBy}
+use Rattle.charts.proofs.TurnOfEnd.{cycle-young, cycle-closed}
 use Rattle.charts.proofs.plays.cycle_or_fault.Statement.{statement}
 use Rattle.charts.proofs.plays.cycle_or_fault.Tie as tie
 

@@ -8,8 +8,8 @@ use Rattle.model.specs.ChartSet.{readCharts}
 use Rattle.model.specs.Charts.{charts}
 use Rattle.chart_files.proofs.PlacesRead.{length-initial}
 use Rattle.machines.proofs.Turns.{cycle-given}
-use Rattle.charts.specs.RunOf.{runIn}
-use Rattle.charts.specs.StepOf.{ranTo}
+use Rattle.machines.specs.Worlds.{runIn}
+use Rattle.charts.specs.EndedBy.{ranTo}
 use Rattle.charts.specs.TurnOf.{finish}
 use Rattle.charts.proofs.TurnOf.{ready}
 use Rattle.charts.proofs.plays.cycle_or_none.Statement.{statement}

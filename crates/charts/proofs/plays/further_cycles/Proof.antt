@@ -14,8 +14,8 @@ use Rattle.model.proofs.ChecksKeptBySteps.{charts-cycle-possible}
 use Rattle.machines.specs.Answers.{reasonOf}
 use Rattle.machines.proofs.Turns.{cycle-refused}
 use Rattle.machines.proofs.Playing.{PlayedAfter, playedAfter-none, playedAfter-more, playedAfter-stop, playedAfter-all, cycle-counts}
-use Rattle.charts.specs.RunOf.{runIn}
-use Rattle.charts.specs.StepOf.{ranTo}
+use Rattle.machines.specs.Worlds.{runIn}
+use Rattle.charts.specs.EndedBy.{ranTo}
 use Rattle.charts.specs.TurnOf.{finish}
 use Rattle.charts.proofs.PlayedOf.{count-kept, checked-last, checked-fine}
 use Rattle.charts.proofs.plays.further_cycles.Statement.{statement}

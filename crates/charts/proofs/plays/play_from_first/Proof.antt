@@ -18,8 +18,9 @@ use Rattle.machines.specs.Playing.{played, stoppedAt}
 use Rattle.machines.proofs.Turns.{cycle-given}
 use Rattle.machines.proofs.Playing.{playedAfter-none, playedAfter-more, playedAfter-stop}
 use Rattle.machines.specs.declared.answers.Cycles.the-variants.{Done}
-use Rattle.charts.specs.RunOf.{runOf, runIn}
-use Rattle.charts.specs.StepOf.{ranTo}
+use Rattle.machines.specs.Worlds.{runIn}
+use Rattle.charts.specs.RunOf.{runOf}
+use Rattle.charts.specs.EndedBy.{ranTo}
 use Rattle.charts.specs.TurnOf.{finish, Ready}
 use Rattle.charts.proofs.TurnOf.{ready}
 use Rattle.charts.proofs.PlayedOf.{was-possible, later-told}

@@ -11,7 +11,8 @@ use Rattle.model.specs.Charts.{charts}
 use Rattle.machines.specs.Playing.{played}
 use Rattle.machines.proofs.Playing.{most-played}
 use Rattle.machines.specs.declared.answers.Cycles.the-variants.{Done}
-use Rattle.charts.specs.RunOf.{runOf, runIn}
+use Rattle.machines.specs.Worlds.{runIn}
+use Rattle.charts.specs.RunOf.{runOf}
 use Rattle.charts.proofs.PlayedOf.{count-kept, no-events, few-cycles}
 use Rattle.charts.proofs.plays.play_further.Statement.{statement}
 use Rattle.charts.proofs.plays.play_further.Tie as tie

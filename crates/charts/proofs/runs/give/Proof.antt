@@ -1,7 +1,7 @@
 -- `runs::give` meets its contract. Assumes nothing.
 use mathlib.Core.Path.{ap}
 use borrow.Author.Needs.{needs}
-use Rattle.charts.specs.RunOf.{runIn}
+use Rattle.machines.specs.Worlds.{runIn}
 use Rattle.charts.proofs.runs.give.Statement.{statement}
 use Rattle.charts.proofs.runs.give.Tie as tie
 

@@ -12,7 +12,7 @@ use Rattle.machines.specs.Checks.{sharedPossible}
 use Rattle.model.specs.Runs.{restZero}
 use Rattle.machines.proofs.ChecksClauses.{possible-is}
 use Rattle.charts.specs.RunOf.{runOf}
-use Rattle.charts.proofs.ValuesRead.{homes-in, has-values, variables-in}
+use Rattle.chart_steps.proofs.ValuesRead.{homes-in, has-values, variables-in}
 use borrow.Author.Needs.{needs}
 use Rattle.charts.proofs.runs.is_possible.Statement.{statement}
 use Rattle.charts.proofs.runs.is_possible.Tie as tie

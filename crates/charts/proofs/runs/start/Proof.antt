@@ -8,7 +8,7 @@ use Rattle.prelude.specs.Lists.{upto, padded}
 use Rattle.prelude.proofs.Maps.{map-map}
 use Rattle.chart_files.proofs.PlacesRead.{most-charts, initial-are}
 use Rattle.machines.specs.Files.{variableIn}
-use Rattle.charts.proofs.ValuesRead.{has-values, variables-in}
+use Rattle.chart_steps.proofs.ValuesRead.{has-values, variables-in}
 use borrow.Author.Needs.{needs}
 use Rattle.charts.proofs.runs.start.Statement.{statement}
 use Rattle.charts.proofs.runs.start.Tie as tie

@@ -9,8 +9,8 @@ use Rattle.model.specs.Charts.{charts}
 use Rattle.chart_files.proofs.PlacesRead.{most-charts, length-initial}
 use Rattle.machines.proofs.Turns.{at-part}
 use Rattle.charts.specs.RunOf.{runOf}
-use Rattle.charts.specs.StepOf.{answerBy}
-use Rattle.charts.proofs.StepOfTurns.{alone-turn}
+use Rattle.chart_steps.specs.StepOf.{answerBy}
+use Rattle.chart_steps.proofs.StepOfTurns.{alone-turn}
 use Rattle.charts.proofs.turns.chart_turn.Statement.{statement}
 use Rattle.charts.proofs.turns.chart_turn.Tie as tie
 

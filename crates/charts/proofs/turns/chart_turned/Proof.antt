@@ -4,9 +4,10 @@ use Prim.Native.Nat.{_+_}
 use native.Mathlib.Omega.{arith}
 use Rattle.records.specs.Refusal.{fault}
 use Rattle.model.specs.Outcome.{settled}
-use Rattle.charts.specs.RunOf.{runOf, runIn}
-use Rattle.charts.specs.StepOf.{answerBy}
-use Rattle.charts.proofs.StepOf.{moved-value, moved-fault}
+use Rattle.machines.specs.Worlds.{runIn}
+use Rattle.charts.specs.RunOf.{runOf}
+use Rattle.chart_steps.specs.StepOf.{answerBy}
+use Rattle.chart_steps.proofs.StepOf.{moved-value, moved-fault}
 use Rattle.charts.proofs.turns.chart_turned.Statement.{statement}
 use Rattle.charts.proofs.turns.chart_turned.Tie as tie
 

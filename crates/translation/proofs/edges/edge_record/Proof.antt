@@ -10,7 +10,7 @@ use Rattle.model.specs.Owned.{home}
 use Rattle.model.specs.ChartSet.{readCharts, transition}
 use Rattle.chart_files.specs.Places.{transitionAt}
 use Rattle.chart_files.proofs.PlacesRead.{transition-is, home-is}
-use Rattle.charts.proofs.Accepted.{source-known}
+use Rattle.chart_steps.proofs.Accepted.{source-known}
 use Rattle.translation.specs.Texts.{recordText}
 use Rattle.translation.proofs.edges.edge_record.Statement.{statement}
 use Rattle.translation.proofs.edges.edge_record.Tie as tie

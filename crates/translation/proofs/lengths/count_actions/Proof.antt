@@ -5,7 +5,7 @@ use native.Mathlib.Omega.{arith}
 use denote.Ref.{now}
 use lib.ListN.{getD}
 use Rattle.chart_files.proofs.PlacesRead.{most-actions}
-use Rattle.charts.specs.Tables.{keyAt, keyed}
+use Rattle.chart_steps.specs.Tables.{keyAt, keyed}
 use Rattle.prelude.specs.Lists.{bit}
 use Rattle.prelude.proofs.Sums.{sum-alike, count-from}
 use Rattle.translation.proofs.TablesCounts.{share, Added, added-none, added-more, added-most, share-one}

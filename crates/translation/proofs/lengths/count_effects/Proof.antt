@@ -5,7 +5,7 @@ use native.Mathlib.Omega.{arith}
 use denote.Ref.{now}
 use lib.ListN.{length, getD}
 use Rattle.chart_files.proofs.PlacesRead.{transition-is, length-transitions, most-states, most-transitions}
-use Rattle.charts.proofs.Accepted.{source-known, target-known}
+use Rattle.chart_steps.proofs.Accepted.{source-known, target-known}
 use Rattle.model.specs.ChartSet.{readCharts}
 use Rattle.model.specs.Translation.{from-transition, transitionCount, updatesOf, clocksLeaving, resetsOf}
 use Rattle.prelude.proofs.Sums.{sumFrom}

@@ -8,7 +8,7 @@ use lib.ListN.{length, getD}
 use lib.Seq.{take-length}
 use Rattle.prelude.specs.Lists.{gather}
 use Rattle.chart_files.proofs.PlacesRead.{transition-is, length-transitions, most-states, most-transitions}
-use Rattle.charts.proofs.Accepted.{source-known}
+use Rattle.chart_steps.proofs.Accepted.{source-known}
 use Rattle.model.specs.ChartSet.{readCharts, transition}
 use Rattle.model.specs.Translation.{transitionCount, clocksOf, clockOf, twin}
 use Rattle.prelude.proofs.Sums.{sumFrom, sum-alike}

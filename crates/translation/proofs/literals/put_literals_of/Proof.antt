@@ -11,7 +11,7 @@ use Rattle.model.specs.AutomataTable.{Literal, writeLiteral}
 use Rattle.model.specs.Translation.{literal, triedBefore}
 use Rattle.chart_files.specs.Places.{transitionAt}
 use Rattle.chart_files.proofs.PlacesRead.{transition-is}
-use Rattle.charts.proofs.Accepted.{priority-known, source-known}
+use Rattle.chart_steps.proofs.Accepted.{priority-known, source-known}
 use Rattle.translation.specs.Texts.{recordText, literalTexts}
 use Rattle.prelude.proofs.Lists.{gather-append}
 use Rattle.prelude.proofs.Gathered.{gather-one}

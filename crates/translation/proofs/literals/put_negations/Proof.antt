@@ -7,9 +7,9 @@ use mathlib.Core.List.{map}
 use mathlib.Core.Bool.{false}
 use Rattle.model.specs.ChartSet.{readCharts}
 use Rattle.model.specs.Translation.{literal}
-use Rattle.charts.specs.Tables.{named}
-use Rattle.charts.proofs.TablesRow.{place-of}
-use Rattle.charts.proofs.StepOf.{named-one}
+use Rattle.chart_steps.specs.Tables.{named}
+use Rattle.chart_steps.proofs.TablesRow.{place-of}
+use Rattle.chart_steps.proofs.StepOf.{named-one}
 use Rattle.translation.specs.Texts.{literalTexts}
 use Rattle.translation.proofs.TextsWritten.{Texts, texts-start, texts-step, texts-end, puts-as}
 use Rattle.translation.proofs.TextsEdges.{notsText, nots-text}

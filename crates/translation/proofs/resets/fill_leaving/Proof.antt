@@ -8,8 +8,8 @@ use lib.ListN.{drop, replicate}
 use lib.Seq.{drop-set-lt}
 use Rattle.chart_files.proofs.PlacesRead.{length-transitions, most-states, most-transitions}
 use Rattle.machines.proofs.Chains.{Chains, chains-none, chains-more, chains-made}
-use Rattle.charts.proofs.TablesRow.{sourceAt}
-use Rattle.charts.proofs.Accepted.{source-known}
+use Rattle.chart_steps.proofs.TablesRow.{sourceAt}
+use Rattle.chart_steps.proofs.Accepted.{source-known}
 use Rattle.translation.proofs.TextsEdges.{leaving-are}
 use Rattle.translation.proofs.resets.fill_leaving.Statement.{statement}
 use Rattle.translation.proofs.resets.fill_leaving.Tie as tie

@@ -10,7 +10,7 @@ use Rattle.model.specs.Translation.{transitionCount, clocksOf}
 use Rattle.chart_files.proofs.PlacesRead.{transition-is, length-transitions, most-states, most-transitions}
 use Rattle.chart_files.specs.declared.Shape.{Shape}
 use Rattle.machines.specs.Chains.{withKey}
-use Rattle.charts.specs.Accepted.{Accepted}
+use Rattle.chart_steps.specs.Accepted.{Accepted}
 use Rattle.translation.specs.Tables.{sourceOf}
 use Rattle.translation.specs.Texts.{resetTexts}
 use Rattle.translation.proofs.TextsWritten.{Along, along-start, along-rises, along-more, along-end, puts-as}

@@ -13,9 +13,9 @@ use Rattle.prelude.proofs.Maps.{gather-map}
 use Rattle.chart_files.proofs.PlacesRead.{most-actions}
 use Rattle.chart_files.specs.declared.Shape.{Shape}
 use Rattle.machines.specs.Chains.{withKey}
-use Rattle.charts.specs.Accepted.{Accepted}
-use Rattle.charts.specs.Tables.{keyAt, keyed}
-use Rattle.charts.proofs.TablesActions.{chained}
+use Rattle.chart_steps.specs.Accepted.{Accepted}
+use Rattle.chart_steps.specs.Tables.{keyAt, keyed}
+use Rattle.chart_steps.proofs.TablesActions.{chained}
 use Rattle.translation.specs.Texts.{recordText}
 use Rattle.translation.proofs.TextsWritten.{Along, along-start, along-rises, along-more, along-end, puts-as}
 use Rattle.translation.proofs.updates.put_deeds.Statement.{statement}

@@ -4,7 +4,7 @@ use native.Mathlib.Omega.{arith}
 use borrow.Author.Needs.{needs}
 use denote.Ref.{now}
 use Rattle.chart_files.proofs.PlacesRead.{most-states, most-transitions}
-use Rattle.charts.proofs.Accepted.{source-known, target-known}
+use Rattle.chart_steps.proofs.Accepted.{source-known, target-known}
 use Rattle.translation.proofs.TextsWritten.{puts-as, puts-then}
 use Rattle.translation.proofs.TextsEdges.{updates-text}
 use Rattle.translation.proofs.updates.put_updates_of.Statement.{statement}

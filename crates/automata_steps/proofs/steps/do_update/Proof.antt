@@ -1,0 +1,84 @@
+-- `steps::do_update` meets its contract: the deed of the record's fields. Assumes nothing.
+use mathlib.Core.Path.{_≡_, sym, _∙_, subst}
+use Prim.Native.Nat.{ℕ}
+use native.Mathlib.Omega.{arith}
+use borrow.Author.Needs.{needs}
+use denote.Ref.{now}
+use Rattle.model.specs.Runs.{Deed, assign, raise, deed}
+use Rattle.model.specs.ChartSet.{readDeed}
+use Rattle.automata_files.specs.Places.{updateIn}
+use Rattle.automata_files.specs.Known.{DeedKnown}
+use Rattle.machines.specs.Deeds.{Doable}
+use Rattle.machines.specs.Worlds.{worldIn}
+use Rattle.automata_steps.specs.Accepted.{InFile}
+use Rattle.automata_steps.proofs.ValuesRead.{has-values, variables-in, nodes-in}
+use Rattle.automata_steps.proofs.IndexRecords.{in-file, deed-in, update-at}
+use Rattle.automata_steps.proofs.steps.do_update.Statement.{statement}
+use Rattle.automata_steps.proofs.steps.do_update.Tie as tie
+
+file : (c : tie.Start) → InFile (now (c .args .s)) (c .args .n)
+file c = in-file (now (c .args .s)) (c .args .shape) (c .pre .0 .shape) (c .args .n) (omega (arith, c .pre .2))
+
+doable : (variables nodes : ℕ) (d : Deed) → DeedKnown variables nodes d → Doable variables d
+doable variables nodes (assign v n) k = k .0
+doable variables nodes (raise e) k = k
+
+known : (c : tie.Start) → Doable (c .args .shape .variables) (updateIn (now (c .args .s)) (c .args .n) .1)
+known c =
+    let x = c .args in
+    doable (x .shape .variables) (x .shape .nodes) (updateIn (now (x .s)) (x .n) .1)
+    (subst (λ u. DeedKnown (x .shape .variables) (x .shape .nodes) (u .1)) (update-at (now (x .s)) (x .shape) (c .pre .0) (x .n) (c .pre .1) (c .pre .2)) (deed-in (now (x .s)) (x .shape) (c .pre .0) (x .n) (c .pre .1) (c .pre .2)))
+
+-- the deed by the fields that were read
+fields : (c : tie.After-two-of) →
+    let x = c .before .before .before .before .args in
+    updateIn (now (x .s)) (x .n) .1 ≡ readDeed (c .before .before .byte-of .result) (c .before .byte-of2 .result) (c .two-of .result)
+fields c = λ i. readDeed (sym (c .before .before .byte-of .ensures) i) (sym (c .before .byte-of2 .ensures) i) (sym (c .two-of .ensures) i)
+
+byte-of-requires : tie.Need-byte-of-requires
+byte-of-requires c κs = (file (c .before), omega arith)
+
+byte-of-requires-2 : tie.Need-byte-of-requires-2
+byte-of-requires-2 c κs = (file (c .before .before), omega arith)
+
+two-of-requires : tie.Need-two-of-requires
+two-of-requires c κs = (file (c .before .before .before), omega arith)
+
+values-of-requires : tie.Need-values-of-requires
+values-of-requires c κs = search needs
+
+do-deed-requires : tie.Need-do-deed-requires
+do-deed-requires c κs =
+    let v = c .before .values-of in
+    let u = c .before .before in
+    let a = u .before .before .before .before in
+    let x = a .args in
+    (has-values (now (x .s)) (x .shape) (a .pre .0 .shape) (v .result) (v .ensures), rw (v .ensures) (subst (Doable (x .shape .variables)) (fields u) (known a)))
+
+done-by-requires : tie.Need-done-by-requires
+done-by-requires c κs = search needs
+
+returns : tie.Need-returns
+returns c = λ p q.
+    let d = c .before in
+    let v = d .before .before .values-of in
+    let u = d .before .before .before in
+    let a = u .before .before .before .before in
+    let x = a .args in
+    let s = now (x .s) in
+    let w = worldIn (now (x .vars)) (x .events) p q in
+    c .done-by .ensures .0 _ p q
+    ∙ d .do-deed .ensures .0 p q
+    ∙ (λ i. deed (nodes-in s (x .shape) (a .pre .0 .shape) (v .result) (v .ensures) i) (variables-in s (x .shape) (a .pre .0 .shape) (v .result) (v .ensures) i) (sym (fields u) i) w)
+
+pub do-update-spec : {M : Type 1} → statement M
+do-update-spec =
+    tie.close
+    (tie.spec
+    byte-of-requires
+    byte-of-requires-2
+    two-of-requires
+    values-of-requires
+    do-deed-requires
+    done-by-requires
+    returns)

@@ -1,0 +1,5 @@
+pub mod Accepted
+pub mod Values
+pub mod Index
+pub mod StepOf
+pub mod Prepared

@@ -1,0 +1,43 @@
+-- `transitions::target_of` meets its contract. Assumes nothing.
+use mathlib.Core.Path.{ap, _∙_}
+use Prim.Native.Nat.{_+_, _*_}
+use native.Mathlib.Omega.{arith}
+use borrow.Author.Needs.{needs}
+use denote.Ref.{now}
+use Rattle.records.specs.Bytes.{two}
+use Rattle.chart_files.proofs.PlacesRead.{inside}
+use Rattle.chart_steps.proofs.transitions.target_of.Statement.{statement}
+use Rattle.chart_steps.proofs.transitions.target_of.Tie as tie
+
+first-transition-requires : tie.Need-first-transition-requires
+first-transition-requires c κs = search needs
+
+add-u16-within : tie.Need-add-u16-within
+add-u16-within c = search needs
+
+mul-u16-within : tie.Need-mul-u16-within
+mul-u16-within c = search needs
+
+add-u16-within-2 : tie.Need-add-u16-within-2
+add-u16-within-2 c = search needs
+
+u16-within-requires : tie.Need-u16-within-requires
+u16-within-requires c κs =
+    let a = c .before .before in
+    omega (arith, c .first-transition .ensures, a .pre .1, inside (now (a .args .s)) (a .args .shape) (a .pre .0 .shape))
+
+returns : tie.Need-returns
+returns c =
+    let x = c .before .before .before .args in
+    c .u16-within .ensures ∙ ap (λ n. two (now (x .s)) (16 * (n + x .t) + 4)) (c .before .first-transition .ensures)
+
+pub target-of-spec : {M : Type 1} → statement M
+target-of-spec =
+    tie.close
+    (tie.spec
+    first-transition-requires
+    add-u16-within
+    mul-u16-within
+    add-u16-within-2
+    u16-within-requires
+    returns)

@@ -1,0 +1,6 @@
+pub mod Accepted
+pub mod Values
+pub mod Tables
+pub mod Replies
+pub mod StepOf
+pub mod Prepared
