@@ -1,8 +1,4 @@
 -- Laws that the proofs of several functions use, and that crates above cite.
-pub mod TextsWritten
-pub mod TextsSections
-pub mod TablesClocks
 pub mod TextsEdges
 pub mod TextsFile
 pub mod TablesCounts
-pub mod TextsNodes

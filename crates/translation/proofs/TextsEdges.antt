@@ -30,8 +30,8 @@ use Rattle.chart_steps.proofs.TablesRow.{sourceAt, place-of}
 use Rattle.chart_steps.proofs.StepOf.{unnamed}
 use Rattle.chart_steps.proofs.TablesActions.{of-key}
 use Rattle.chart_steps.proofs.Accepted.{source-known, target-known}
-use Rattle.translation.specs.Texts.{recordText, literalTexts, updateTexts, resetTexts}
-use Rattle.translation.specs.Tables.{sourceOf, HasLeaving}
+use Rattle.twin_records.specs.Texts.{recordText, literalTexts, updateTexts, resetTexts}
+use Rattle.twin_records.specs.Tables.{sourceOf, HasLeaving}
 use Rattle.prelude.proofs.Lists.{gather-append}
 use Rattle.prelude.proofs.Gathered.{gather-gather, gather-empty, gather-shift, gather-alike, gather-below, from-append}
 

@@ -17,8 +17,8 @@ use Rattle.model.specs.AutomataTable.{Automata, writeEdge, writeLiteral, writeC
 use Rattle.model.specs.Translation.{Origin, from-transition, from-idling, transitionCount, stateCount, origins, originOf, edgeNumber, byEdge, written}
 use Rattle.model.proofs.TranslationOrigins.{IsOrigin, origins-count, originOf-edgeNumber}
 use Rattle.prelude.proofs.Maps.{gather-map}
-use Rattle.translation.specs.Texts.{recordText, section, edgeTexts, placesText, testsText, effectsText}
-use Rattle.translation.proofs.TextsSections.{gathered-text}
+use Rattle.twin_records.specs.Texts.{recordText, section, edgeTexts, placesText, testsText, effectsText}
+use Rattle.twin_records.proofs.TextsSections.{gathered-text}
 use Rattle.prelude.proofs.Lists.{gather-append}
 use Rattle.prelude.proofs.Gathered.{gather-none, gather-gather, gather-empty, gather-below, gather-shift, from-append}
 

@@ -5,9 +5,7 @@ ghost use lib.ListN.{length, replicate};
 ghost use Rattle.model.specs.ChartSet.{readCharts};
 ghost use Rattle.model.specs.Translation.{twin, twinBytes};
 ghost use Rattle.chart_steps.specs.Accepted.{Accepted};
-ghost use Rattle.translation.specs.Tables.{CountsActions, CountsResets};
-use super::clocks::clocks_in;
-use super::fields::trigger_of;
+ghost use Rattle.twin_records.specs.Tables.{CountsActions, CountsResets};
 use chart_files::Shape;
 use chart_files::fields::first_node;
 use chart_steps::actions::key_of;
@@ -18,6 +16,8 @@ use records::sizes::ActionHeads;
 use records::sizes::CROSSING_PLACES;
 use records::sizes::EXIT_PLACES;
 use records::sizes::STATES;
+use twin_records::clocks::clocks_in;
+use twin_records::fields::trigger_of;
 
 fn count_actions(s: &[u8], shape: Shape, counts: &mut ActionHeads)
     requires { ⌜ Accepted (now s) shape × (now counts ≡ replicate 512 0) ⌝ }

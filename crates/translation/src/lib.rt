@@ -7,27 +7,18 @@ ghost use Rattle.model.specs.Outcome.{settled};
 ghost use Rattle.model.specs.ChartSet.{readCharts};
 ghost use Rattle.model.specs.Translation.{twin, twinBytes, written};
 ghost use Rattle.chart_steps.specs.Accepted.{Accepted};
-ghost use Rattle.translation.specs.Tables.{HasClocks};
-ghost use Rattle.translation.specs.Texts.{placesText, testsText, effectsText, Puts};
+ghost use Rattle.twin_records.specs.Tables.{HasClocks};
+ghost use Rattle.twin_records.specs.Texts.{placesText, testsText, effectsText, Puts};
 ghost use Rattle.translation.specs.Answer.{translatedOf};
 
-pub mod clocks;
-pub mod edges;
-pub mod fields;
 pub mod lengths;
 pub mod literals;
 pub mod resets;
-pub mod sections;
 pub mod updates;
-pub mod writing;
 
 use chart_files::Shape;
 use chart_steps::tables::fill_actions;
 use chart_steps::tables::fill_rows;
-use clocks::fill_clocks;
-use clocks::put_clocks;
-use edges::put_edges;
-use edges::put_idles;
 use lengths::twin_length;
 use literals::put_idle_literals;
 use literals::put_literals;
@@ -40,10 +31,14 @@ use records::sizes::STATES;
 use records::sizes::TRANSITIONS;
 use resets::fill_leaving;
 use resets::put_resets;
-use sections::put_homes;
-use sections::put_initials;
-use sections::put_nodes;
-use sections::put_variables;
+use twin_records::clocks::fill_clocks;
+use twin_records::clocks::put_clocks;
+use twin_records::edges::put_edges;
+use twin_records::edges::put_idles;
+use twin_records::sections::put_homes;
+use twin_records::sections::put_initials;
+use twin_records::sections::put_nodes;
+use twin_records::sections::put_variables;
 use updates::put_updates;
 
 // The length of the twin's file, or why there is none.

@@ -11,13 +11,8 @@ ghost use Rattle.model.specs.Translation.{from-transition, from-idling, edgeNum
 ghost use Rattle.chart_files.specs.Parts.{guardFor};
 ghost use Rattle.chart_steps.specs.Accepted.{Accepted};
 ghost use Rattle.chart_steps.specs.Tables.{HasRows, HasEnds, named};
-ghost use Rattle.translation.specs.Tables.{HasClocks};
-ghost use Rattle.translation.specs.Texts.{recordText, literalTexts, Puts};
-use super::fields::guard_of;
-use super::fields::priority_of;
-use super::fields::trigger_of;
-use super::writing::literal_bytes;
-use super::writing::put_record;
+ghost use Rattle.twin_records.specs.Tables.{HasClocks};
+ghost use Rattle.twin_records.specs.Texts.{recordText, literalTexts, Puts};
 use chart_files::Shape;
 use chart_files::fields::Guard;
 use chart_files::fields::Trigger;
@@ -26,6 +21,11 @@ use chart_steps::transitions::source_of;
 use records::sizes::Ends;
 use records::sizes::Rows;
 use records::sizes::TRANSITIONS;
+use twin_records::fields::guard_of;
+use twin_records::fields::priority_of;
+use twin_records::fields::trigger_of;
+use twin_records::writing::literal_bytes;
+use twin_records::writing::put_record;
 
 fn guard_number(guard: Guard) -> u16
     ensures { λ r. ⌜ bytes2 r ≡ writeGuard (guardFor guard) ⌝ }

@@ -8,17 +8,17 @@ ghost use Rattle.model.specs.ChartSet.{readCharts};
 ghost use Rattle.model.specs.Translation.{from-transition, transitionCount, clocksOf, clocksLeaving, resetsOf};
 ghost use Rattle.chart_files.specs.Parts.{triggerFor};
 ghost use Rattle.chart_steps.specs.Accepted.{Accepted};
-ghost use Rattle.translation.specs.Tables.{HasClocks, HasLeaving};
-ghost use Rattle.translation.specs.Texts.{resetTexts, Puts};
-use super::fields::trigger_of;
-use super::writing::put_record;
-use super::writing::reset_bytes;
+ghost use Rattle.twin_records.specs.Tables.{HasClocks, HasLeaving};
+ghost use Rattle.twin_records.specs.Texts.{resetTexts, Puts};
 use chart_files::Shape;
 use chart_files::fields::Trigger;
 use chart_steps::transitions::source_of;
 use chart_steps::transitions::target_of;
 use records::sizes::STATES;
 use records::sizes::TRANSITIONS;
+use twin_records::fields::trigger_of;
+use twin_records::writing::put_record;
+use twin_records::writing::reset_bytes;
 
 // Of each state its first leaving transition, and of each transition the next that leaves the same state; 65535 is none. From the last transition down,
 // so that each finds the one behind it; places past the transitions are kept.

@@ -10,10 +10,7 @@ ghost use Rattle.chart_files.specs.Parts.{deedFor};
 ghost use Rattle.chart_files.specs.Places.{actionAt};
 ghost use Rattle.chart_steps.specs.Accepted.{Accepted};
 ghost use Rattle.chart_steps.specs.Tables.{keyed, HasActions};
-ghost use Rattle.translation.specs.Texts.{recordText, updateTexts, Puts};
-use super::fields::deed_of;
-use super::writing::put_record;
-use super::writing::update_bytes;
+ghost use Rattle.twin_records.specs.Texts.{recordText, updateTexts, Puts};
 use chart_files::Shape;
 use chart_files::fields::Deed;
 use chart_steps::transitions::source_of;
@@ -22,6 +19,9 @@ use records::sizes::ActionHeads;
 use records::sizes::ActionLinks;
 use records::sizes::CROSSING_KEYS;
 use records::sizes::EXIT_KEYS;
+use twin_records::fields::deed_of;
+use twin_records::writing::put_record;
+use twin_records::writing::update_bytes;
 
 fn update_record(edge: u16, deed: Deed) -> [u8; 16]
     ensures { λ r. ⌜ r ≡ recordText 40 (writeDeed edge (deedFor deed)) ⌝ }

@@ -32,7 +32,7 @@ use Rattle.automata_files.proofs.PlacesRead.{length-initial}
 use Rattle.automata_steps.specs.Accepted.{Accepted}
 use Rattle.translation.specs.declared.Translated.{Translated}
 use Rattle.translation.specs.Answer.{translatedOf}
-use Rattle.twins.specs.Alike.{callFor, isTurn}
+use Rattle.alike.specs.Alike.{callFor, isTurn}
 use Rattle.twins.specs.Compared.{callsFrom}
 use Rattle.twins.proofs.Matched.{moved-to}
 

@@ -1,4 +1,3 @@
-pub mod Alike
 pub mod Matched
 pub mod AlikeBoth
 pub mod ComparedCalls

@@ -26,8 +26,8 @@ use Rattle.automata_files.specs.Places.{edgeAt, literalAt}
 use Rattle.automata_files.proofs.PlacesRead.{length-edges, length-literals, edge-is, literal-is, clock-is}
 use Rattle.automata_files.proofs.NamedThings.{automaton-known, literal-edge-known}
 use Rattle.automata_steps.specs.Accepted.{Accepted}
-use Rattle.twins.specs.Alike.{valuesAlike, variablesAlike, placesAlike, literalTriggerAlike, literalAlike, timersAlike, runsAlike, idleAt, answersAlike, outsAlike, stateAt, repliesAlike, callAlike}
-use Rattle.twins.proofs.Alike.{clock-in}
+use Rattle.alike.specs.Alike.{valuesAlike, variablesAlike, placesAlike, literalTriggerAlike, literalAlike, timersAlike, runsAlike, idleAt, answersAlike, outsAlike, stateAt, repliesAlike, callAlike}
+use Rattle.alike.proofs.Alike.{clock-in}
 
 -- ---- the clocks that a location's literals read
 

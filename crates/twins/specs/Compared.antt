@@ -18,7 +18,7 @@ use Rattle.machines.specs.Playing.{playCall}
 use Rattle.twins.specs.declared.both.Both.{Both}
 use Rattle.twins.specs.declared.Verdict as declared-verdict
 use Rattle.twins.specs.declared.Compared.{Compared}
-use Rattle.twins.specs.Alike.{Pair, callFor, isTurn}
+use Rattle.alike.specs.Alike.{Pair, callFor, isTurn}
 use Rattle.charts.specs.RunOf as charts-run
 use Rattle.automata.specs.RunOf as automata-run
 

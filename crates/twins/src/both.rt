@@ -7,12 +7,12 @@ ghost use Rattle.chart_steps.specs.Accepted as of-charts;
 ghost use Rattle.charts.specs.RunOf as charts-run;
 ghost use Rattle.automata_steps.specs.Accepted as of-automata;
 ghost use Rattle.automata.specs.RunOf as automata-run;
-ghost use Rattle.twins.specs.Alike.{called, callFor, isTurn};
+ghost use Rattle.alike.specs.Alike.{called, callFor, isTurn};
 ghost use Rattle.twins.specs.Compared.{pairOf};
-use super::answers::answers_alike;
-use super::answers::endings_alike;
-use super::answers::state_at;
-use super::runs::runs_alike;
+use alike::answers::answers_alike;
+use alike::answers::endings_alike;
+use alike::answers::state_at;
+use alike::runs::runs_alike;
 
 // Whether the call was alike, and the runs that it leaves.
 pub struct Both {

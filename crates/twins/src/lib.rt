@@ -8,18 +8,16 @@ ghost use Rattle.automata_steps.specs.Accepted as of-automata;
 ghost use Rattle.records.specs.RefusalOf.{refusalOf};
 ghost use Rattle.twins.specs.Compared.{comparisonOf, calledBoth, playedBoth, movedBoth, nothingCompared, compared};
 
-pub mod answers;
 pub mod both;
-pub mod runs;
 
-use answers::counts_alike;
+use alike::answers::counts_alike;
+use alike::runs::runs_alike;
 use both::call_both;
 use both::is_turn;
 use records::refusals::Refusal;
 use records::sizes::CHARTS;
 use records::sizes::CLOCKS;
 use records::sizes::VARIABLES;
-use runs::runs_alike;
 use translation::Translated;
 
 // All of so many calls were alike; why there was nothing to compare; the first call that was not alike.

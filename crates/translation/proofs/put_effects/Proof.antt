@@ -6,7 +6,7 @@ use native.Mathlib.Omega.{arith}
 use borrow.Author.Needs.{needs}
 use denote.Ref.{now}
 use Rattle.model.specs.ChartSet.{readCharts}
-use Rattle.translation.proofs.TextsWritten.{puts-as, puts-then}
+use Rattle.twin_records.proofs.TextsWritten.{puts-as, puts-then}
 use Rattle.model.specs.AutomataTable.{writeUpdate, writeReset}
 use Rattle.model.specs.Translation.{updatesOf, resetsOf}
 use Rattle.translation.proofs.TextsFile.{transitions-text}

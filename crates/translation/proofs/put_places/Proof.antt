@@ -8,8 +8,8 @@ use denote.Ref.{now}
 use Rattle.records.specs.Bytes.{bytes2}
 use Rattle.prelude.specs.Lists.{upto}
 use Rattle.model.specs.ChartSet.{readCharts}
-use Rattle.translation.specs.Texts.{section}
-use Rattle.translation.proofs.TextsWritten.{puts-as, puts-then}
+use Rattle.twin_records.specs.Texts.{section}
+use Rattle.twin_records.proofs.TextsWritten.{puts-as, puts-then}
 use Rattle.model.specs.AutomataTable.{writeEdge}
 use Rattle.model.specs.Translation.{from-transition, from-idling, transitionCount, stateCount, edgeOf}
 use Rattle.model.proofs.TranslationOrigins.{edges-are}

@@ -10,8 +10,8 @@ use Rattle.expressions.specs.Nodes.{writeNode}
 use Rattle.model.specs.ChartSet.{readCharts}
 use Rattle.model.specs.AutomataTable.{writeLiteral, writeClock, writeVariable}
 use Rattle.model.specs.Translation.{clocksOf, literalsOf}
-use Rattle.translation.specs.Texts.{section}
-use Rattle.translation.proofs.TextsWritten.{puts-as, puts-then}
+use Rattle.twin_records.specs.Texts.{section}
+use Rattle.twin_records.proofs.TextsWritten.{puts-as, puts-then}
 use Rattle.translation.proofs.TextsFile.{byEdge-text}
 use Rattle.translation.proofs.put_tests.Statement.{statement}
 use Rattle.translation.proofs.put_tests.Tie as tie

@@ -6,7 +6,7 @@ use borrow.Author.Needs.{needs}
 use denote.Ref.{now}
 use Rattle.model.specs.ChartSet.{readCharts}
 use Rattle.model.specs.Translation.{twin}
-use Rattle.translation.proofs.TextsWritten.{puts-as, puts-then}
+use Rattle.twin_records.proofs.TextsWritten.{puts-as, puts-then}
 use Rattle.translation.proofs.TextsFile.{file-text}
 use Rattle.translation.proofs.put_twin.Statement.{statement}
 use Rattle.translation.proofs.put_twin.Tie as tie

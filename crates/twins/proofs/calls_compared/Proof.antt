@@ -1,7 +1,7 @@
 -- `calls_compared` meets its contract. Assumes nothing.
 use Rattle.twins.proofs.ComparedCalls.{charts-are, fresh-alike, LeadsOn, leads-first, leads-next, leads-last}
 use Rattle.twins.proofs.Matched.{corresponding-alike, next-alike, then-alike, now-corresponds, moved-to}
-use Rattle.twins.specs.Alike.{callFor}
+use Rattle.alike.specs.Alike.{callFor}
 use Rattle.twins.specs.Compared.{alike}
 use Rattle.automata.specs.RunOf as automata-run
 use Rattle.charts.specs.RunOf as charts-run

@@ -2,7 +2,7 @@
 use Rattle.twins.proofs.PlaysAlike.{plays-alike}
 use Rattle.twins.proofs.ComparedCalls.{charts-are, fresh-alike}
 use Rattle.twins.proofs.Matched.{outs, corresponding-alike, now-corresponds}
-use Rattle.twins.specs.Alike.{outsAlike, runsAlike}
+use Rattle.alike.specs.Alike.{outsAlike, runsAlike}
 use Rattle.prelude.proofs.Bools.{clash, of-true}
 use Rattle.model.specs.Outcome.{settled}
 use Rattle.model.specs.ChartSet.{readCharts}

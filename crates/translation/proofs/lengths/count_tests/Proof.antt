@@ -13,8 +13,8 @@ use Rattle.model.specs.ChartSet.{readCharts, transition}
 use Rattle.model.specs.Translation.{transitionCount, clocksOf, clockOf, twin}
 use Rattle.prelude.proofs.Sums.{sumFrom, sum-alike}
 use Rattle.model.proofs.TranslationCounts.{clocksOf-few}
-use Rattle.translation.specs.Tables.{sourceOf}
-use Rattle.translation.proofs.TablesClocks.{clock-none, clock-more}
+use Rattle.twin_records.specs.Tables.{sourceOf}
+use Rattle.twin_records.proofs.TablesClocks.{clock-none, clock-more}
 use Rattle.translation.proofs.TablesCounts.{sum-none, sum-more, earlier, alike, share, Added, added-none, added-more, added-most, share-one, clocksAt, resets-are, literals-are}
 use Rattle.translation.proofs.lengths.count_tests.Statement.{statement}
 use Rattle.translation.proofs.lengths.count_tests.Tie as tie

@@ -12,8 +12,8 @@ use Rattle.model.specs.Translation.{literalTriggerOf}
 use Rattle.chart_files.specs.Parts.{triggerFor}
 use Rattle.chart_files.specs.Places.{transitionAt}
 use Rattle.chart_files.proofs.PlacesRead.{transition-is, length-transitions, most-transitions}
-use Rattle.translation.specs.Texts.{recordText}
-use Rattle.translation.proofs.TablesClocks.{clock-at}
+use Rattle.twin_records.specs.Texts.{recordText}
+use Rattle.twin_records.proofs.TablesClocks.{clock-at}
 use Rattle.translation.proofs.literals.literal_record.Statement.{statement}
 use Rattle.translation.proofs.literals.literal_record.Tie as tie
 

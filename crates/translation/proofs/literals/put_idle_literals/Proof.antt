@@ -8,11 +8,11 @@ use denote.Ref.{now}
 use lib.ListN.{getD}
 use Rattle.prelude.specs.Lists.{gather, upto}
 use Rattle.model.specs.ChartSet.{readCharts}
-use Rattle.translation.proofs.TextsWritten.{Texts, texts-start, texts-step, texts-end, puts-as}
+use Rattle.twin_records.proofs.TextsWritten.{Texts, texts-start, texts-step, texts-end, puts-as}
 use Rattle.translation.proofs.TextsEdges.{above-end}
 use Rattle.model.specs.Translation.{from-idling, edgeNumber, transitionCount, literal, literalsOf}
 use Rattle.chart_files.proofs.PlacesRead.{length-transitions, length-homes, most-states, most-transitions}
-use Rattle.translation.specs.Texts.{literalTexts}
+use Rattle.twin_records.specs.Texts.{literalTexts}
 use Rattle.translation.proofs.literals.put_idle_literals.Statement.{statement}
 use Rattle.translation.proofs.literals.put_idle_literals.Tie as tie
 

@@ -5,10 +5,10 @@ use native.Mathlib.Omega.{arith}
 use denote.Ref.{now}
 use Rattle.prelude.specs.Lists.{gather, upto}
 use Rattle.model.specs.ChartSet.{readCharts}
-use Rattle.translation.proofs.TextsWritten.{Texts, texts-start, texts-step, texts-end}
+use Rattle.twin_records.proofs.TextsWritten.{Texts, texts-start, texts-step, texts-end}
 use Rattle.model.specs.Translation.{from-transition, literalsOf}
 use Rattle.chart_files.proofs.PlacesRead.{length-transitions, most-states, most-transitions}
-use Rattle.translation.specs.Texts.{literalTexts}
+use Rattle.twin_records.specs.Texts.{literalTexts}
 use Rattle.translation.proofs.literals.put_literals.Statement.{statement}
 use Rattle.translation.proofs.literals.put_literals.Tie as tie
 

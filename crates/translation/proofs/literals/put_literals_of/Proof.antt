@@ -12,10 +12,10 @@ use Rattle.model.specs.Translation.{literal, triedBefore}
 use Rattle.chart_files.specs.Places.{transitionAt}
 use Rattle.chart_files.proofs.PlacesRead.{transition-is}
 use Rattle.chart_steps.proofs.Accepted.{priority-known, source-known}
-use Rattle.translation.specs.Texts.{recordText, literalTexts}
+use Rattle.twin_records.specs.Texts.{recordText, literalTexts}
 use Rattle.prelude.proofs.Lists.{gather-append}
 use Rattle.prelude.proofs.Gathered.{gather-one}
-use Rattle.translation.proofs.TextsWritten.{puts-as, puts-then}
+use Rattle.twin_records.proofs.TextsWritten.{puts-as, puts-then}
 use Rattle.translation.proofs.literals.put_literals_of.Statement.{statement}
 use Rattle.translation.proofs.literals.put_literals_of.Tie as tie
 

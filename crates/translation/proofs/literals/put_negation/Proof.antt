@@ -9,9 +9,9 @@ use borrow.Author.Tests.{eq-eqb, ne-eqb}
 use Rattle.model.specs.ChartSet.{readCharts}
 use Rattle.model.specs.AutomataTable.{Literal, writeLiteral}
 use Rattle.model.specs.Translation.{literal}
-use Rattle.translation.specs.Texts.{recordText, literalTexts}
+use Rattle.twin_records.specs.Texts.{recordText, literalTexts}
 use Rattle.prelude.proofs.Gathered.{gather-none, gather-one}
-use Rattle.translation.proofs.TextsWritten.{puts-as, puts-nothing}
+use Rattle.twin_records.proofs.TextsWritten.{puts-as, puts-nothing}
 use Rattle.translation.proofs.literals.put_negation.Statement.{statement}
 use Rattle.translation.proofs.literals.put_negation.Tie as tie
 

@@ -10,8 +10,8 @@ use Rattle.model.specs.Translation.{literal}
 use Rattle.chart_steps.specs.Tables.{named}
 use Rattle.chart_steps.proofs.TablesRow.{place-of}
 use Rattle.chart_steps.proofs.StepOf.{named-one}
-use Rattle.translation.specs.Texts.{literalTexts}
-use Rattle.translation.proofs.TextsWritten.{Texts, texts-start, texts-step, texts-end, puts-as}
+use Rattle.twin_records.specs.Texts.{literalTexts}
+use Rattle.twin_records.proofs.TextsWritten.{Texts, texts-start, texts-step, texts-end, puts-as}
 use Rattle.translation.proofs.TextsEdges.{notsText, nots-text}
 use Rattle.translation.proofs.literals.put_negations.Statement.{statement}
 use Rattle.translation.proofs.literals.put_negations.Tie as tie

@@ -11,10 +11,10 @@ use Rattle.chart_files.proofs.PlacesRead.{transition-is, length-transitions, mo
 use Rattle.chart_files.specs.declared.Shape.{Shape}
 use Rattle.machines.specs.Chains.{withKey}
 use Rattle.chart_steps.specs.Accepted.{Accepted}
-use Rattle.translation.specs.Tables.{sourceOf}
-use Rattle.translation.specs.Texts.{resetTexts}
-use Rattle.translation.proofs.TextsWritten.{Along, along-start, along-rises, along-more, along-end, puts-as}
-use Rattle.translation.proofs.TablesClocks.{clock-at}
+use Rattle.twin_records.specs.Tables.{sourceOf}
+use Rattle.twin_records.specs.Texts.{resetTexts}
+use Rattle.twin_records.proofs.TextsWritten.{Along, along-start, along-rises, along-more, along-end, puts-as}
+use Rattle.twin_records.proofs.TablesClocks.{clock-at}
 use Rattle.translation.proofs.TextsEdges.{clockResets, resets-text}
 use Rattle.translation.proofs.resets.put_leaving.Statement.{statement}
 use Rattle.translation.proofs.resets.put_leaving.Tie as tie

@@ -7,9 +7,9 @@ use denote.Ref.{now}
 use Rattle.model.specs.AutomataTable.{writeReset}
 use Rattle.model.specs.Translation.{clocksOf}
 use Rattle.chart_files.specs.Parts.{triggerFor}
-use Rattle.translation.specs.Texts.{recordText, resetTexts}
+use Rattle.twin_records.specs.Texts.{recordText, resetTexts}
 use Rattle.prelude.proofs.Gathered.{gather-none, gather-one}
-use Rattle.translation.proofs.TextsWritten.{puts-as, puts-nothing}
+use Rattle.twin_records.proofs.TextsWritten.{puts-as, puts-nothing}
 use Rattle.translation.proofs.resets.put_reset.Statement.{statement}
 use Rattle.translation.proofs.resets.put_reset.Tie as tie
 

@@ -6,11 +6,11 @@ use borrow.Author.Needs.{needs}
 use denote.Ref.{now}
 use Rattle.prelude.specs.Lists.{gather, upto}
 use Rattle.model.specs.ChartSet.{readCharts}
-use Rattle.translation.proofs.TextsWritten.{Texts, texts-start, texts-step, texts-end, puts-as}
+use Rattle.twin_records.proofs.TextsWritten.{Texts, texts-start, texts-step, texts-end, puts-as}
 use Rattle.model.specs.Translation.{from-transition, clocksLeaving, resetsOf}
 use Rattle.chart_files.proofs.PlacesRead.{transition-is, length-transitions, most-states, most-transitions}
 use Rattle.chart_steps.proofs.Accepted.{target-known}
-use Rattle.translation.specs.Texts.{resetTexts}
+use Rattle.twin_records.specs.Texts.{resetTexts}
 use Rattle.translation.proofs.resets.put_resets.Statement.{statement}
 use Rattle.translation.proofs.resets.put_resets.Tie as tie
 

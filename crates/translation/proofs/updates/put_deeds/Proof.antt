@@ -16,8 +16,8 @@ use Rattle.machines.specs.Chains.{withKey}
 use Rattle.chart_steps.specs.Accepted.{Accepted}
 use Rattle.chart_steps.specs.Tables.{keyAt, keyed}
 use Rattle.chart_steps.proofs.TablesActions.{chained}
-use Rattle.translation.specs.Texts.{recordText}
-use Rattle.translation.proofs.TextsWritten.{Along, along-start, along-rises, along-more, along-end, puts-as}
+use Rattle.twin_records.specs.Texts.{recordText}
+use Rattle.twin_records.proofs.TextsWritten.{Along, along-start, along-rises, along-more, along-end, puts-as}
 use Rattle.translation.proofs.updates.put_deeds.Statement.{statement}
 use Rattle.translation.proofs.updates.put_deeds.Tie as tie
 

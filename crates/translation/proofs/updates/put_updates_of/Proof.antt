@@ -5,7 +5,7 @@ use borrow.Author.Needs.{needs}
 use denote.Ref.{now}
 use Rattle.chart_files.proofs.PlacesRead.{most-states, most-transitions}
 use Rattle.chart_steps.proofs.Accepted.{source-known, target-known}
-use Rattle.translation.proofs.TextsWritten.{puts-as, puts-then}
+use Rattle.twin_records.proofs.TextsWritten.{puts-as, puts-then}
 use Rattle.translation.proofs.TextsEdges.{updates-text}
 use Rattle.translation.proofs.updates.put_updates_of.Statement.{statement}
 use Rattle.translation.proofs.updates.put_updates_of.Tie as tie

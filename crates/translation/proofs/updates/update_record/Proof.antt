@@ -2,7 +2,7 @@
 use mathlib.Core.Path.{sym, ap, _∙_}
 use Rattle.model.specs.AutomataTable.{writeDeed}
 use Rattle.chart_files.specs.Parts.{deedFor}
-use Rattle.translation.specs.Texts.{recordText}
+use Rattle.twin_records.specs.Texts.{recordText}
 use borrow.Author.Needs.{needs}
 use Rattle.translation.proofs.updates.update_record.Statement.{statement}
 use Rattle.translation.proofs.updates.update_record.Tie as tie

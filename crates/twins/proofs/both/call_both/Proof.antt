@@ -1,5 +1,5 @@
 -- `both::call_both` meets its contract. Assumes nothing.
-use Rattle.twins.specs.Alike.{called, callFor}
+use Rattle.alike.specs.Alike.{called, callFor}
 use Rattle.automata.specs.RunOf as automata-run
 use Rattle.charts.specs.RunOf as charts-run
 use denote.Ref.{now}

@@ -1,5 +1,5 @@
 -- `both::cycle_both` meets its contract. Assumes nothing.
-use Rattle.twins.specs.Alike.{outsAlike, runsAlike}
+use Rattle.alike.specs.Alike.{outsAlike, runsAlike}
 use Rattle.twins.proofs.AlikeBoth.{unrefused}
 use Rattle.automata.specs.RunOf as automata-run
 use Rattle.charts.specs.RunOf as charts-run

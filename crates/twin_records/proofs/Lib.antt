@@ -1,0 +1,5 @@
+-- Laws that the proofs of several functions use, and that crates above cite.
+pub mod TextsWritten
+pub mod TextsSections
+pub mod TablesClocks
+pub mod TextsNodes

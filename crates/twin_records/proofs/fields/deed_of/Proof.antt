@@ -1,0 +1,81 @@
+-- `fields::deed_of` meets its contract. Assumes nothing.
+use mathlib.Core.Path.{_∙_}
+use Prim.Native.Nat.{_+_, _*_, _<_}
+use native.Mathlib.Omega.{arith}
+use borrow.Author.Needs.{needs}
+use denote.Ref.{now}
+use lib.ListN.{length}
+use Rattle.records.specs.Bytes.{byte, two}
+use Rattle.model.specs.ChartSet.{readDeed}
+use Rattle.chart_files.proofs.PlacesRead.{inside}
+use Rattle.twin_records.proofs.fields.deed_of.Statement.{statement}
+use Rattle.twin_records.proofs.fields.deed_of.Tie as tie
+
+-- the record is in the file
+here : (c : tie.After-first-node) → 16 * (c .first-node .result + c .before .before .args .shape .nodes + c .before .before .args .a) + 15 < length (now (c .before .before .args .s))
+here c =
+    let entry = c .before .before in
+    omega (arith, c .first-node .ensures, entry .pre .1, inside (now (entry .args .s)) (entry .args .shape) (entry .pre .0))
+
+first-node-requires : tie.Need-first-node-requires
+first-node-requires c κs = search needs
+
+cast-at : tie.Need-cast-at
+cast-at c = search needs
+
+add-at : tie.Need-add-at
+add-at c = search needs
+
+add-at-2 : tie.Need-add-at-2
+add-at-2 c = search needs
+
+mul-at : tie.Need-mul-at
+mul-at c = search needs
+
+add-deed-by : tie.Need-add-deed-by
+add-deed-by c = search needs
+
+shared-slice-read-deed-by : tie.Need-shared-slice-read-deed-by
+shared-slice-read-deed-by c = omega (arith, here (c .before .before))
+
+add-deed-by-2 : tie.Need-add-deed-by-2
+add-deed-by-2 c = search needs
+
+shared-slice-read-deed-by-2 : tie.Need-shared-slice-read-deed-by-2
+shared-slice-read-deed-by-2 c = omega (arith, here (c .before .before .before))
+
+add-u16-within : tie.Need-add-u16-within
+add-u16-within c = search needs
+
+u16-within-requires : tie.Need-u16-within-requires
+u16-within-requires c κs = omega (arith, here (c .before .before .before))
+
+deed-by-requires : tie.Need-deed-by-requires
+deed-by-requires c κs = search needs
+
+returns : tie.Need-returns
+returns c =
+    let first = c .before .before .before .before .before in
+    let x = first .before .before .args in
+    let node = first .first-node .ensures in
+    c .deed-by .ensures
+    ∙ (λ i. readDeed (byte (now (x .s)) (16 * (node i + x .shape .nodes + x .a) + 4)) (byte (now (x .s)) (16 * (node i + x .shape .nodes + x .a) + 5))
+    ((c .before .u16-within .ensures ∙ (λ j. two (now (x .s)) (16 * (node j + x .shape .nodes + x .a) + 6))) i))
+
+pub deed-of-spec : {M : Type 1} → statement M
+deed-of-spec =
+    tie.close
+    (tie.spec
+    first-node-requires
+    cast-at
+    add-at
+    add-at-2
+    mul-at
+    add-deed-by
+    shared-slice-read-deed-by
+    add-deed-by-2
+    shared-slice-read-deed-by-2
+    add-u16-within
+    u16-within-requires
+    deed-by-requires
+    returns)

@@ -1,0 +1,71 @@
+-- `sections::put_homes` meets its contract: those before the state are written. Assumes nothing.
+use mathlib.Core.Path.{ap, _∙_}
+use mathlib.Core.List.{[], _∷_}
+use Prim.Native.Nat.{_-_, _^_}
+use native.Mathlib.Omega.{arith}
+use borrow.Author.Needs.{needs}
+use denote.Ref.{now}
+use Rattle.model.specs.ChartSet.{readCharts}
+use Rattle.twin_records.specs.Texts.{recordText}
+use Rattle.twin_records.proofs.TextsWritten.{Texts, texts-start, texts-step, texts-end, puts-as}
+use Rattle.twin_records.proofs.TextsSections.{placed-text}
+use Rattle.chart_files.specs.Places.{homeAt}
+use Rattle.chart_files.proofs.PlacesRead.{homes-are, most-states}
+use Rattle.twin_records.proofs.sections.put_homes.Statement.{statement}
+use Rattle.twin_records.proofs.sections.put_homes.Tie as tie
+
+abbrev Inv-loop : tie.InvT-loop
+Inv-loop s shape out₀ at next₀ state₀ out next state = Texts (λ i. recordText 34 (homeAt s shape i ∷ [])) (shape .states) 16 out₀ at out next state
+
+abbrev μ-loop : tie.MeasureT-loop
+μ-loop s shape out₀ at next₀ state₀ out next state = (shape .states) - state
+
+loop-holds : tie.Need-loop-holds Inv-loop μ-loop
+loop-holds c = texts-start _ _ _ _ _
+
+home-of-requires : tie.Need-home-of-requires Inv-loop μ-loop
+home-of-requires c κs = search needs
+
+home-bytes-requires : tie.Need-home-bytes-requires Inv-loop μ-loop
+home-bytes-requires c κs = search needs
+
+put-record-requires : tie.Need-put-record-requires Inv-loop μ-loop
+put-record-requires c κs = search needs
+
+add-state : tie.Need-add-state Inv-loop μ-loop
+add-state c = omega arith
+
+loop-less : tie.Need-loop-less Inv-loop μ-loop
+loop-less c = omega arith
+
+loop-again : tie.Need-loop-again Inv-loop μ-loop
+loop-again c =
+    let l = c .before .before .before .before .before .before .before .before .loop in
+    let p = c .before .before .put-record in
+    texts-step _ _ _ _ _ (l .inv) (c .before .before .before .before .before .before .if1 .taken) (p .kept .0) (puts-as _ (c .before .before .before .before .home-bytes .ensures ∙ ap (λ h. recordText 34 (h ∷ [])) (c .before .before .before .before .before .home-of .ensures)) (p .ensures))
+
+same-length : tie.Need-same-length Inv-loop μ-loop
+same-length c = c .before .before .loop .inv .long
+
+returns : tie.Need-returns Inv-loop μ-loop
+returns c =
+    let entry = c .before .before .before .before .before in
+    let x = entry .args in
+    let is = entry .pre .0 in
+    texts-end _ _ _ _ _ _ (placed-text 34 (λ h. h ∷ []) (homeAt (now (x .s)) (x .shape)) (readCharts (now (x .s)) .homes) (x .shape .states) (homes-are (now (x .s)) (x .shape) is)) (2 ^ 40) (omega (arith, most-states (now (x .s)) (x .shape) is)) (c .before .before .loop .inv) (c .if1 .left)
+
+pub put-homes-spec : {M : Type 1} → statement M
+put-homes-spec =
+    tie.close
+    (tie.spec
+    Inv-loop
+    μ-loop
+    loop-holds
+    home-of-requires
+    home-bytes-requires
+    put-record-requires
+    add-state
+    loop-less
+    loop-again
+    same-length
+    returns)
