@@ -1,5 +1,5 @@
-/* What a control unit does with Monuvaleck: loads a chart set, checks it, plays cycles, meets refusals, translates the set into its twin, plays both side by
- * side, and leads the twin's path back to the transitions that it came from.
+/* What a control unit does with Monuvaleck: loads a chart set, checks it, plays cycles, meets refusals, sees raised events, starts anew at the end of a run,
+ * translates the set into its twin, plays both side by side, and leads the twin's path back to the transitions that it came from.
  *
  *   cc -std=c11 -Iinclude examples/control_unit.c target/staticlib/libmonuvaleck.a -o target/control_unit
  *   target/control_unit crates/replay/data/set.bin
@@ -19,6 +19,24 @@ static uint8_t set[MONUVALECK_LONGEST_SET];
 static uint8_t twin[MONUVALECK_LONGEST_TWIN];
 static uint16_t path[MOST_STEPS];
 static uint32_t rows[3 * MOST_STEPS];
+
+/* A set of two charts that talk by events, built into the program. Chart 0 raises event 5 whenever event 0 comes; chart 1, later in the cycle, answers event 5 by
+ * raising event 6, which chart 0 waits for in vain: it has had its turn, and in the next cycle the event is gone. */
+static const uint8_t relay[] = {
+    1, 0, 0, 0, 0, 0, 0, 0, 0, 0, 0, 0, 0,   0,   0, 0, /* chart 0: initial state 0 */
+    1, 0, 2, 0, 0, 0, 0, 0, 0, 0, 0, 0, 0,   0,   0, 0, /* chart 1: initial state 2 */
+    2, 0, 0, 0, 0, 0, 0, 0, 0, 0, 0, 0, 0,   0,   0, 0, /* state 0, of chart 0 */
+    2, 0, 0, 0, 0, 0, 0, 0, 0, 0, 0, 0, 0,   0,   0, 0, /* state 1, of chart 0 */
+    2, 1, 0, 0, 0, 0, 0, 0, 0, 0, 0, 0, 0,   0,   0, 0, /* state 2, of chart 1 */
+    2, 1, 0, 0, 0, 0, 0, 0, 0, 0, 0, 0, 0,   0,   0, 0, /* state 3, of chart 1 */
+    3, 1, 0, 0, 1, 0, 0, 0, 0, 0, 0, 0, 255, 255, 0, 0, /* transition 0: state 0 to 1, always */
+    3, 2, 1, 0, 1, 0, 1, 0, 0, 0, 0, 0, 255, 255, 0, 0, /* transition 1: state 1 to 1, priority 2, event 0 */
+    3, 1, 1, 0, 1, 0, 1, 6, 0, 0, 0, 0, 255, 255, 0, 0, /* transition 2: state 1 to 1, priority 1, event 6 */
+    3, 1, 2, 0, 3, 0, 0, 0, 0, 0, 0, 0, 255, 255, 0, 0, /* transition 3: state 2 to 3, always */
+    3, 1, 3, 0, 3, 0, 1, 5, 0, 0, 0, 0, 255, 255, 0, 0, /* transition 4: state 3 to 3, event 5 */
+    6, 3, 1, 0, 2, 5, 0, 0, 0, 0, 0, 0, 0,   0,   0, 0, /* transition 1 raises event 5 */
+    6, 3, 4, 0, 2, 6, 0, 0, 0, 0, 0, 0, 0,   0,   0, 0, /* transition 4 raises event 6 */
+};
 
 static const char *meaning(int32_t answer)
 {
@@ -70,6 +88,16 @@ static size_t load(const char *name)
     return whole ? length : 0;
 }
 
+/* What a chart's turn answered. */
+static void tell(int32_t answer)
+{
+    if (answer == MONUVALECK_IDLE) {
+        printf("idle");
+    } else {
+        printf("transition %d", (int)answer);
+    }
+}
+
 /* A cycle, turn by turn, with a line for each chart. */
 static bool show_cycle(size_t length, charts_run *run, uint32_t events)
 {
@@ -84,11 +112,7 @@ static bool show_cycle(size_t length, charts_run *run, uint32_t events)
         }
         events = 0; /* given at position 1 alone */
         printf("cycle %u, chart %u: ", (unsigned)run->cycles, chart);
-        if (answer == MONUVALECK_IDLE) {
-            printf("idle");
-        } else {
-            printf("transition %d", (int)answer);
-        }
+        tell(answer);
         printf(", state %u, variable 0 is %d\n", run->states[chart], run->variables[0]);
     }
 }
@@ -100,6 +124,53 @@ static void show_refusal(size_t length, charts_run run)
     charts_run before = run;
     refused("events at position 2", charts_turn(set, length, &run, 1));
     printf("the run is %s\n", memcmp(&before, &run, sizeof run) == 0 ? "unchanged" : "changed");
+}
+
+/* A cycle of the relay by turns, with the events that each turn raised. A call of charts_cycle would leave none to see: time, its last turn, empties them. */
+static bool show_events(charts_run *run, uint32_t events)
+{
+    for (;;) {
+        unsigned chart = run->position - 1;
+        uint32_t before = run->events | events; /* at position 1 those given become the present ones; elsewhere none are given */
+        int32_t answer = charts_turn(relay, sizeof relay, run, events);
+        if (refused("relay", answer)) {
+            return false;
+        }
+        if (answer == MONUVALECK_TIME) {
+            printf("relay, time: present %#x\n", (unsigned)run->events);
+            return true;
+        }
+        events = 0;
+        printf("relay, cycle %u, chart %u: ", (unsigned)run->cycles, chart);
+        tell(answer);
+        printf(", raised %#x, present %#x\n", (unsigned)(run->events & ~before), (unsigned)run->events);
+    }
+}
+
+static bool play_relay(void)
+{
+    charts_run run;
+    return !refused("relay", charts_start(relay, sizeof relay, &run)) && !refused("relay", charts_cycle(relay, sizeof relay, &run, 0)) &&
+           show_events(&run, 1) && show_events(&run, 0);
+}
+
+/* The last cycle of a run, and what follows: the unit stops in a safe state, and only then starts a fresh run. */
+static bool end_of_run(size_t length, charts_run run)
+{
+    run.cycles = MONUVALECK_MOST_CYCLES - 1; /* a cycle before 27 h 46 min 40 s; no age is above that, so the run is possible */
+    for (int i = 0; i < 3; i++) {
+        int32_t answer = charts_cycle(set, length, &run, 0);
+        if (answer == -MONUVALECK_CYCLES_DONE) {
+            refused("cycle", answer);
+            puts("stopped in a safe state; starting anew"); /* here a unit halts its drives */
+            answer = charts_start(set, length, &run);
+        }
+        if (refused("cycle", answer)) {
+            return false;
+        }
+        printf("%u cycles done, state %u\n", (unsigned)run.cycles, run.states[0]);
+    }
+    return true;
 }
 
 /* A cycle of the twin, its steps added to the path. */
@@ -191,6 +262,9 @@ int main(int argc, char **argv)
     }
     show_refusal(length, run);
     play(length);
+    if (!play_relay() || !end_of_run(length, run)) {
+        return 1;
+    }
     int32_t twin_length = charts_translate(set, length, twin, sizeof twin);
     if (refused("translation", twin_length)) {
         return 1;

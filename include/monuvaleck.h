@@ -21,6 +21,19 @@
  * STACK. Leave 256 KiB. tests/c measures the deepest stack of each function, which guards and actions of 1,024 nested nodes take.
  *
  * TIME. Turns are taken in file order of the charts, at the positions 1 to n of a cycle for n charts; at position n + 1 time passes. A cycle is 100 ms.
+ * Time empties the events, adds 1 to the ages and to the cycle count, and lets clocks grow; then the position is 1 again.
+ *
+ * EVENTS. The events given at position 1 are present for all charts of that cycle. An event that a chart raises is present for the later charts of the same cycle
+ * only: not for those before it, and not in the next cycle. A cycle ends with time, so one that is done leaves no events: after charts_cycle run.events is 0, whatever
+ * was raised. To see raised events, call the turns one by one (charts_turn, until it answers MONUVALECK_TIME) and look at run.events between them: it has the given and
+ * the raised events together, and what a turn has added to it, that turn has raised. Just before time's turn it has all of the cycle's. Automata go alike.
+ *
+ * FAULTS. An accepted set may fault (15 to 17). The run is then as before the call, and the same call faults again. Where a turn past position 1 faults, the run
+ * cannot go on, since no other events can be given there.
+ *
+ * THE END OF A RUN. A run has 1,000,000 cycles, which is 27 h 46 min 40 s at 100 ms a cycle. From then on every turn and cycle is refused by MONUVALECK_CYCLES_DONE (14),
+ * and the run stays as it is. A control unit must then stop in a safe state and start a fresh run with charts_start: in the initial states, variables at
+ * their start values. run.cycles tells how near the end is. examples/control_unit.c does it.
  */
 #ifndef MONUVALECK_H
 #define MONUVALECK_H
@@ -57,7 +70,7 @@ enum monuvaleck_refusal {
                                          a clock over its top, position 0 or over n + 1, a count over 1,000,000 or, past position 1, over 999,999, events present at
                                          position 1, or an unused place that is not zero */
     MONUVALECK_MISPLACED_EVENTS = 13, /* events were given elsewhere than at position 1 */
-    MONUVALECK_CYCLES_DONE = 14,      /* 1,000,000 cycles are done, and the position is 1 */
+    MONUVALECK_CYCLES_DONE = 14,      /* 1,000,000 cycles are done, and the position is 1: stop in a safe state, and start a fresh run */
 
     /* in a turn: _turn, _cycle, _play */
     MONUVALECK_OUT_OF_RANGE = 15,  /* a number does not fit 32 bits */
@@ -85,7 +98,7 @@ typedef struct {
     uint16_t states[8];    /* of each chart its present state, numbered through the whole set */
     uint32_t ages[8];      /* of each chart the cycles since that state was entered */
     int16_t variables[64]; /* the values */
-    uint32_t events;       /* bit k: event k is present */
+    uint32_t events;       /* bit k: event k is present, given or raised; 0 at position 1 */
     uint32_t position;     /* 1 .. n + 1 */
     uint32_t cycles;       /* the cycles done */
 } charts_run;
@@ -109,13 +122,14 @@ int32_t charts_start(const uint8_t *set, size_t set_len, charts_run *run);
 int32_t automata_start(const uint8_t *table, size_t table_len, automata_run *run);
 
 /* Takes the turn of the present position. The answer is the number of the transition or edge taken, MONUVALECK_IDLE or MONUVALECK_TIME.
- * At position 1 the events given (bit k: event k) become the present ones; elsewhere they must be 0.
+ * At position 1 the events given (bit k: event k) become the present ones; elsewhere they must be 0. Events that the turn raises are added to the run's; time's turn
+ * empties them.
  * Refused as by the check, and by 12 to 14; faults 15 to 17, of automata also 18 and 19. */
 int32_t charts_turn(const uint8_t *set, size_t set_len, charts_run *run, uint32_t events);
 int32_t automata_turn(const uint8_t *table, size_t table_len, automata_run *run, uint32_t events);
 
-/* Takes the turns from the present position up to n + 1. 0: done, and the position is 1. A fault in any of the turns leaves the run as it was before
- * all of them. Refused as a turn. */
+/* Takes the turns from the present position up to n + 1. 0: done, and the position is 1. The last turn is time's, so the run has no events then. A fault in any
+ * of the turns leaves the run as it was before all of them. Refused as a turn. */
 int32_t charts_cycle(const uint8_t *set, size_t set_len, charts_run *run, uint32_t events);
 int32_t automata_cycle(const uint8_t *table, size_t table_len, automata_run *run, uint32_t events);
 
