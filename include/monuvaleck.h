@@ -25,11 +25,12 @@
  *
  * EVENTS. The events given at position 1 are present for all charts of that cycle. An event that a chart raises is present for the later charts of the same cycle
  * only: not for those before it, and not in the next cycle. A cycle ends with time, so one that is done leaves no events: after charts_cycle run.events is 0, whatever
- * was raised. To see raised events, call the turns one by one (charts_turn, until it answers MONUVALECK_TIME) and look at run.events between them: it has the given and
- * the raised events together, and what a turn has added to it, that turn has raised. Just before time's turn it has all of the cycle's. Automata go alike.
+ * was raised. To see raised events, call the turns one by one (charts_turn, until it answers MONUVALECK_TIME) and look at run.events between them: it has the
+ * given and the raised events together, and what a turn has added to it, but for the events given, that turn has raised. Just before time's turn it has all of
+ * the cycle's. Automata go alike.
  *
- * FAULTS. An accepted set may fault (15 to 17). The run is then as before the call, and the same call faults again. Where a turn past position 1 faults, the run
- * cannot go on, since no other events can be given there.
+ * FAULTS. An accepted set may fault (15 to 17). The run is then as before the call, and the same call faults again. A run that stands past position 1 and whose turn
+ * faults cannot go on, since no other events can be given there.
  *
  * THE END OF A RUN. A run has 1,000,000 cycles, which is 27 h 46 min 40 s at 100 ms a cycle. From then on every turn and cycle is refused by MONUVALECK_CYCLES_DONE (14),
  * and the run stays as it is. A control unit must then stop in a safe state and start a fresh run with charts_start: in the initial states, variables at
