@@ -10,7 +10,7 @@ use super::fields::Trigger;
 use super::fields::trigger_of;
 use timings::ticks;
 
-fn ticking(t: Trigger) -> bool
+pub fn ticking(t: Trigger) -> bool
     ensures { λ r. ⌜ r ≡ F.ticking (triggerFor t) ⌝ }
 {
     match t {

@@ -1,12 +1,10 @@
 // Where a file breaks a rule that is asked of each record by itself.
 ghost use mathlib.Core.Path.{_≡_};
 ghost use lib.ListN.{length};
-ghost use Rattle.model.specs.ChartFile as F;
-ghost use Rattle.chart_files.specs.Parts.{triggerFor};
 ghost use Rattle.findings.specs.Found.{testOf, FoundIn};
 use chart_files::Shape;
-use chart_files::fields::Trigger;
 use chart_files::fields::trigger_of;
+use chart_files::timing::ticking;
 use records::byte_at;
 
 // Kinds that are known, refusals 4, 5 and 9 of a chart set; and what 11 asks of the first three in a table.
@@ -23,18 +21,6 @@ pub enum Rule {
 pub enum Found {
     At(usize),
     Nowhere,
-}
-
-// Milliseconds / 100 to the nearest, halves up, are one tick at least.
-fn ticking(t: Trigger) -> bool
-    ensures { λ r. ⌜ r ≡ F.ticking (triggerFor t) ⌝ }
-{
-    match t {
-        Trigger::Always => true,
-        Trigger::Event(_) => true,
-        Trigger::After(ms) => 0 < timings::ticks(ms),
-        Trigger::Every(ms) => 0 < timings::ticks(ms),
-    }
 }
 
 // The trigger of a record alone is that of transition 0 behind no other record.

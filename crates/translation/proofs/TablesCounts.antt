@@ -20,7 +20,7 @@ use Rattle.prelude.proofs.Bools.{of-true, eqb-comm}
 use Rattle.prelude.proofs.Lists.{kept-apart}
 use Rattle.prelude.proofs.Sums.{sumFrom, sum-alike, sum-add, sum-most, sum-least, sum-append, sum-swap, sum-zero, count-from, once-most, once-least, count-keep, count-below, length-gathered}
 use Rattle.model.proofs.ChartFile.{source-in, priority-low, priority-high, priorities-differ}
-use Rattle.model.proofs.TranslationCounts.{onEdge-sum}
+use Rattle.model.proofs.TranslationOrigins.{byEdge-sum}
 use Rattle.twin_records.specs.Tables.{sourceOf}
 
 -- ---- sums

@@ -8,7 +8,7 @@ use lib.ListN.{length}
 use Rattle.chart_files.proofs.PlacesRead.{length-initial, length-homes, length-transitions, length-variables, length-nodes, most-charts, most-states, most-transitions, most-variables, most-nodes}
 use Rattle.model.specs.ChartSet.{readCharts}
 use Rattle.model.specs.Translation.{twin}
-use Rattle.model.proofs.TranslationEdges.{edges-count}
+use Rattle.model.proofs.TranslationOrigins.{origins-count, edges-count}
 use Rattle.model.proofs.TranslationCounts.{literals-few, clocks-few, updates-few, resets-few}
 use Rattle.model.proofs.TranslationAccepted.{length-twin}
 use Rattle.translation.proofs.lengths.twin_length.Statement.{statement}
@@ -78,6 +78,7 @@ returns c =
       arith,
       length-twin s (entry .pre .unrefused),
       edges-count (readCharts s),
+      origins-count (readCharts s),
       c .before .before .first-node .ensures,
       tests .count-tests .ensures .0,
       effects .count-effects .ensures,
