@@ -7,6 +7,7 @@ use lib.Dec.{ltb, eqb}
 use lib.IntN.{ℤ, pos}
 use lib.ListN.{length, getD}
 use lib.Signed.{leZ}
+use Rattle.model.specs.Limits.{mostVariables}
 use Rattle.prelude.specs.Lists.{all, upto}
 use Rattle.records.specs.Refusal.{Out, val, fault, refusalNumber}
 use Rattle.model.specs.Runs.{Run, Answer, taken, idle, time, Call, one-turn, whole-cycle}
@@ -22,7 +23,7 @@ abbrev pub valuesAlike : ℤ → ℤ → Bool
 valuesAlike a b = leZ a b && leZ b a
 
 abbrev pub variablesAlike : List ℤ → List ℤ → Bool
-variablesAlike vars vars′ = all (λ v. valuesAlike (getD vars v (pos 0)) (getD vars′ v (pos 0))) (upto 64)
+variablesAlike vars vars′ = all (λ v. valuesAlike (getD vars v (pos 0)) (getD vars′ v (pos 0))) (upto mostVariables)
 
 -- of so many charts
 abbrev pub placesAlike : ℕ → List ℕ → List ℕ → Bool

@@ -8,6 +8,7 @@ use native.Mathlib.Omega.{arith}
 use borrow.Author.Tests.{eq-eqb, ne-eqb, eqb-true}
 use lib.Dec.{T, leb, eqb, leb→le}
 use lib.ListN.{length}
+use Rattle.model.specs.Limits.{mostClocks}
 use Rattle.records.specs.Refusal.{Out, val, fault, fault-if, impossible-run, cycles-done}
 use Rattle.model.specs.Runs.{Run, Machine, possible, checked, cycle, checkedBy}
 use Rattle.model.specs.AutomataTable.{Automata, readAutomata}
@@ -71,7 +72,7 @@ module _ (s : List ℕ) (sh : Shape) (ok : Accepted s sh) where
     pub rested-few : r .world .cycles ≤ 1_000_000
     rested-few = leb→le (r .world .cycles) 1_000_000 (subst (λ k. T (leb (r .world .cycles) (cond (eqb k 1) 1_000_000 999_999))) (rested .position) (possible-rests m r (rested .fit) .count))
 
-    pub rested-clocks : length (r .timers) ≡ 256
+    pub rested-clocks : length (r .timers) ≡ mostClocks
     rested-clocks = possible-fits m r (rested .fit) .timer-room
 
 -- cycles after the first are told of by their number, whatever stopped them

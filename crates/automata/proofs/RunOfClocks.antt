@@ -8,6 +8,7 @@ use native.Mathlib.Omega.{arith}
 use borrow.Author.Tests.{leb-true, ltb-true, lt-ltb, ne-eqb}
 use lib.Dec.{leb, ltb, eqb}
 use lib.ListN.{length, getD, replicate, length-replicate}
+use Rattle.model.specs.Limits.{mostClocks}
 use Rattle.prelude.specs.Lists.{all, upto, mapFrom}
 use Rattle.model.specs.Runs.{Run, timersPossible}
 use Rattle.model.specs.AutomataTable.{Timing, after, every, readAutomata}
@@ -55,10 +56,10 @@ low-of s sh ok r e k h =
     omega arith
 
 -- arrays of 256 places in which the limits are written have them
-pub room-for-limits : (length (replicate {A = ℕ} 256 65535) ≡ 256) × (length (replicate {A = ℕ} 256 65535) ≡ 256)
-room-for-limits = (length-replicate {A = ℕ} 256 65535, length-replicate {A = ℕ} 256 65535)
+pub room-for-limits : (length (replicate {A = ℕ} mostClocks 65535) ≡ mostClocks) × (length (replicate {A = ℕ} mostClocks 65535) ≡ mostClocks)
+room-for-limits = (length-replicate {A = ℕ} mostClocks 65535, length-replicate {A = ℕ} mostClocks 65535)
 
-pub has-limits : (s : List ℕ) (sh : Shape) → IsShape s sh → (turn₀ cap₀ turn cap : List ℕ) → (length turn₀ ≡ 256) × (length cap₀ ≡ 256) →
+pub has-limits : (s : List ℕ) (sh : Shape) → IsShape s sh → (turn₀ cap₀ turn cap : List ℕ) → (length turn₀ ≡ mostClocks) × (length cap₀ ≡ mostClocks) →
     (turn ≡ mapFrom 0 (turnAt s sh) turn₀) × (cap ≡ mapFrom 0 (capAt s sh) cap₀) → HasLimits s sh turn cap
 has-limits s sh is turn₀ cap₀ turn cap long e = record {
   turns = λ k h. ap (λ l. getD l k 0) (e .0)

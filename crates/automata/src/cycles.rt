@@ -2,6 +2,7 @@
 ghost use mathlib.Core.Path.{_≡_};
 ghost use Prim.Native.Nat.{ℕ, _+_, _-_};
 ghost use lib.ListN.{length};
+ghost use Rattle.model.specs.Limits.{mostClocks};
 ghost use Rattle.model.specs.Outcome.{settled};
 ghost use Rattle.model.specs.Runs.{cycle as model-cycle};
 ghost use Rattle.model.specs.AutomataTable.{readAutomata};
@@ -27,6 +28,7 @@ use machines::answers::Reason;
 use machines::checks::Before;
 use machines::checks::events_given;
 use records::sizes::Clocks;
+use records::sizes::NO_RECORD;
 use records::sizes::Places;
 use records::sizes::TABLE_KEYS;
 use records::sizes::TABLE_RECORDS;
@@ -108,7 +110,7 @@ pub fn cycle_by_turns(s: &[u8], shape: Shape, run: Run, events: u32) -> Called
         let mut next = [65535u16; 1024];
         cycle_making_index(s, shape, &mut next, run, events)
     } else {
-        let mut next = [14536u16; TABLE_RECORDS];
+        let mut next = [NO_RECORD; TABLE_RECORDS];
         cycle_making_index(s, shape, &mut next, run, events)
     }
 }
@@ -178,7 +180,7 @@ fn cycle_or_fault(
 ) -> Progress
     requires { ⌜ Prepared (now s) shape (now first) (now next) ⌝ }
     requires { ⌜ Ready shape (runIn (now locations) (now clocks) (now vars) events position cycles) ⌝ }
-    requires { ⌜ length (now clocks) ≡ 256 ⌝ }
+    requires { ⌜ length (now clocks) ≡ mostClocks ⌝ }
     requires { ⌜ HasLimits (now s) shape (now turn) (now cap) ⌝ }
     ensures { λ r. ⌜ cycledOf r (runIn (now (locations .exit)) (now (clocks .exit)) (now (vars .exit)) 0 1 (cycles + 1)) ≡ after (machine (readAutomata (now (s .entry)))) (shape .automata + 2 - position) (runIn (now (locations .entry)) (now (clocks .entry)) (now (vars .entry)) events position cycles) ⌝ }
 {
@@ -219,7 +221,7 @@ pub fn cycle_or_none(
 ) -> Progress
     requires { ⌜ Prepared (now s) shape (now first) (now next) ⌝ }
     requires { ⌜ Ready shape (runIn (now locations) (now clocks) (now vars) events position cycles) ⌝ }
-    requires { ⌜ length (now clocks) ≡ 256 ⌝ }
+    requires { ⌜ length (now clocks) ≡ mostClocks ⌝ }
     requires { ⌜ HasLimits (now s) shape (now turn) (now cap) ⌝ }
     ensures { λ r. ⌜ cycledOf r (runIn (now (locations .exit)) (now (clocks .exit)) (now (vars .exit)) 0 1 (cycles + 1)) ≡ after (machine (readAutomata (now (s .entry)))) (shape .automata + 2 - position) (runIn (now (locations .entry)) (now (clocks .entry)) (now (vars .entry)) events position cycles) ⌝ }
     ensures { λ r. ⌜ ((w : Reason) → r ≡ Progress.Fault w → runIn (now (locations .exit)) (now (clocks .exit)) (now (vars .exit)) ≡ runIn (now (locations .entry)) (now (clocks .entry)) (now (vars .entry))) ⌝ }

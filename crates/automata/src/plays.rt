@@ -23,6 +23,7 @@ use machines::answers::Ending;
 use records::sizes::CLOCKS;
 use records::sizes::Clocks;
 use records::sizes::MOST_CYCLES;
+use records::sizes::NO_RECORD;
 use records::sizes::Places;
 use records::sizes::TABLE_KEYS;
 use records::sizes::TABLE_RECORDS;
@@ -193,7 +194,7 @@ pub fn play_in_place(s: &[u8], shape: Shape, run: Run, masks: &[u32]) -> Played
         let mut next = [65535u16; 1024];
         play_making_index(s, shape, &mut next, run, masks)
     } else {
-        let mut next = [14536u16; TABLE_RECORDS];
+        let mut next = [NO_RECORD; TABLE_RECORDS];
         play_making_index(s, shape, &mut next, run, masks)
     }
 }

@@ -4,6 +4,7 @@ ghost use Prim.Native.Nat.{ℕ, _≤_, _<_};
 ghost use mathlib.Core.Bool.{cond};
 ghost use lib.Dec.{leb, eqb};
 ghost use lib.ListN.{length, getD};
+ghost use Rattle.model.specs.Limits.{mostClocks};
 ghost use Rattle.prelude.specs.Lists.{all, upto, mapFrom};
 ghost use Rattle.model.specs.Runs.{start as started, possible, checked, restZero};
 ghost use Rattle.model.specs.AutomataTable.{readAutomata};
@@ -111,7 +112,7 @@ fn clocks_possible(s: &[u8], shape: Shape, clocks: &Clocks) -> bool
 
 // All are read, so that many are compared at once.
 fn clocks_unused(count: u16, clocks: &Clocks) -> bool
-    requires { ⌜ length (now clocks) ≡ 256 ⌝ }
+    requires { ⌜ length (now clocks) ≡ mostClocks ⌝ }
     ensures { λ r. ⌜ r ≡ restZero count (now (clocks .entry)) ⌝ }
 {
     let mut unused = true;
@@ -174,7 +175,7 @@ pub fn before_turn(
 // Of each clock where it turns and where it stops, read once for many cycles.
 pub fn limits_of(s: &[u8], shape: Shape, turn: &mut Clocks, cap: &mut Clocks)
     requires { ⌜ Accepted (now s) shape ⌝ }
-    requires { ⌜ (length (now turn) ≡ 256) × (length (now cap) ≡ 256) ⌝ }
+    requires { ⌜ (length (now turn) ≡ mostClocks) × (length (now cap) ≡ mostClocks) ⌝ }
     ensures { λ _. ⌜ (now (turn .exit) ≡ mapFrom 0 (turnAt (now (s .entry)) shape) (now (turn .entry))) × (now (cap .exit) ≡ mapFrom 0 (capAt (now (s .entry)) shape) (now (cap .entry))) ⌝ }
 {
     let mut k: u16 = 0;
@@ -197,7 +198,7 @@ fn clock_grown(s: &[u8], shape: Shape, turn: &Clocks, cap: &Clocks, k: u16, x: u
 // Each clock in use grows.
 pub fn grow(s: &[u8], shape: Shape, turn: &Clocks, cap: &Clocks, clocks: &mut Clocks)
     requires { ⌜ Accepted (now s) shape × HasLimits (now s) shape (now turn) (now cap) ⌝ }
-    requires { ⌜ length (now clocks) ≡ 256 ⌝ }
+    requires { ⌜ length (now clocks) ≡ mostClocks ⌝ }
     requires { ⌜ ClocksPossible (shape .clocks) (now clocks) ⌝ }
     ensures { λ _. ⌜ now (clocks .exit) ≡ mapFrom 0 (grownAt (now (s .entry)) shape) (now (clocks .entry)) ⌝ }
 {
@@ -212,7 +213,7 @@ pub fn grow(s: &[u8], shape: Shape, turn: &Clocks, cap: &Clocks, clocks: &mut Cl
 // Each clock in use grows, its limits read for this once.
 pub fn pass_time(s: &[u8], shape: Shape, clocks: &mut Clocks)
     requires { ⌜ Accepted (now s) shape ⌝ }
-    requires { ⌜ length (now clocks) ≡ 256 ⌝ }
+    requires { ⌜ length (now clocks) ≡ mostClocks ⌝ }
     requires { ⌜ ClocksPossible (shape .clocks) (now clocks) ⌝ }
     ensures { λ _. ⌜ now (clocks .exit) ≡ mapFrom 0 (grownAt (now (s .entry)) shape) (now (clocks .entry)) ⌝ }
 {

@@ -2,6 +2,7 @@
 ghost use mathlib.Core.Path.{_≡_};
 ghost use Prim.Native.Nat.{ℕ, _≤_};
 ghost use lib.ListN.{length};
+ghost use Rattle.model.specs.Limits.{mostClocks};
 ghost use Rattle.model.specs.Outcome.{settled};
 ghost use Rattle.model.specs.Runs.{stepped, turn as model-turn};
 ghost use Rattle.model.specs.AutomataTable.{readAutomata};
@@ -24,6 +25,7 @@ use machines::answers::Answer;
 use machines::checks::Before;
 use machines::checks::events_given;
 use records::sizes::Clocks;
+use records::sizes::NO_RECORD;
 use records::sizes::Places;
 use records::sizes::TABLE_KEYS;
 use records::sizes::TABLE_RECORDS;
@@ -88,7 +90,7 @@ fn turn_taken(
 ) -> Answer
     requires { ⌜ Prepared (now s) shape (now first) (now next) ⌝ }
     requires { ⌜ Ready shape (runIn (now locations) (now clocks) (now vars) (now events) (now position) (now cycles)) ⌝ }
-    requires { ⌜ length (now clocks) ≡ 256 ⌝ }
+    requires { ⌜ length (now clocks) ≡ mostClocks ⌝ }
     ensures { λ r. ⌜ takenOf r (runIn (now (locations .exit)) (now (clocks .exit)) (now (vars .exit)) (now (events .exit)) (now (position .exit)) (now (cycles .exit))) ≡ stepped (machine (readAutomata (now (s .entry)))) (runIn (now (locations .entry)) (now (clocks .entry)) (now (vars .entry)) (now (events .entry)) (now (position .entry)) (now (cycles .entry))) ⌝ }
 {
     if *position <= (shape.automata as u32) {
@@ -260,7 +262,7 @@ fn turn_making_index(s: &[u8], shape: Shape, next: &mut [u16], run: Run, events:
     turn(s, shape, &first, next, run, events)
 }
 
-// A turn of an accepted table. The index is short for a short file. The long one is filled with 14536, which names no record: its two bytes differ, so that
+// A turn of an accepted table. The index is short for a short file. The long one is filled with `NO_RECORD`, whose two bytes differ, so that
 // it is stored by vectors and not by one instruction that is repeated for each byte.
 pub fn one_turn(s: &[u8], shape: Shape, run: Run, events: u32) -> Turned
     requires { ⌜ Accepted (now s) shape ⌝ }
@@ -270,7 +272,7 @@ pub fn one_turn(s: &[u8], shape: Shape, run: Run, events: u32) -> Turned
         let mut next = [65535u16; 1024];
         turn_making_index(s, shape, &mut next, run, events)
     } else {
-        let mut next = [14536u16; TABLE_RECORDS];
+        let mut next = [NO_RECORD; TABLE_RECORDS];
         turn_making_index(s, shape, &mut next, run, events)
     }
 }

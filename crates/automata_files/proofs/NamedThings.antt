@@ -9,6 +9,7 @@ use borrow.Author.Tests.{leb-true, ltb-true, eqb-true, not-true, not-false}
 use lib.Dec.{leb, ltb, eqb}
 use lib.ListN.{getD}
 use lib.Signed.{leZ}
+use Rattle.model.specs.Limits.{mostTicks}
 use Rattle.prelude.specs.Lists.{all, upto, caseOf}
 use Rattle.records.specs.Bytes.{byte, two, signed, records, kind}
 use Rattle.records.specs.Refusal.{Refusal, lowest}
@@ -194,8 +195,8 @@ module _ (s : List ℕ) (sh : Shape) (is : IsShape s sh) (ok : automataRefusal s
 
   -- ---- clocks and variables
 
-  pub ticks-known : (k : ℕ) → k < sh .clocks → (1 ≤ clockAt s sh k .ticks) × (clockAt s sh k .ticks ≤ 36_000)
-  ticks-known k h = ranged 1 36_000 (clockAt s sh k .ticks) (all-at (clockTicks s sh) (sh .clocks) k h (sym (clocks-is s sh is) ∙ ticking))
+  pub ticks-known : (k : ℕ) → k < sh .clocks → (1 ≤ clockAt s sh k .ticks) × (clockAt s sh k .ticks ≤ mostTicks)
+  ticks-known k h = ranged 1 mostTicks (clockAt s sh k .ticks) (all-at (clockTicks s sh) (sh .clocks) k h (sym (clocks-is s sh is) ∙ ticking))
 
   pub start-known : (v : ℕ) → v < sh .variables →
       (leZ (variableAt s sh v .lowest) (variableAt s sh v .start) ≡ true) × (leZ (variableAt s sh v .start) (variableAt s sh v .highest) ≡ true)

@@ -6,6 +6,7 @@ use native.Mathlib.Nat.{zero-add}
 use native.Mathlib.Omega.{arith}
 use lib.Dec.{eqb}
 use lib.ListN.{length, getD, length-map}
+use Rattle.model.specs.Limits.{mostEdges, mostLiterals, mostClocks, mostUpdates, mostResets}
 use Rattle.prelude.specs.Lists.{upto, caseOf}
 use Rattle.records.specs.Bytes.{byte, two, ofKind}
 use Rattle.records.specs.Framing.{howMany, firstOf}
@@ -101,13 +102,13 @@ module _ (s : List ℕ) (sh : Shape) (is : IsShape s sh) where
   pub most-locations : sh .locations ≤ 128
   most-locations = omega (arith, at-most 1 (omega arith))
 
-  pub most-edges : sh .edges ≤ 384
+  pub most-edges : sh .edges ≤ mostEdges
   most-edges = omega (arith, at-most 2 (omega arith))
 
-  pub most-literals : sh .literals ≤ 2432
+  pub most-literals : sh .literals ≤ mostLiterals
   most-literals = omega (arith, at-most 3 (omega arith))
 
-  pub most-clocks : sh .clocks ≤ 256
+  pub most-clocks : sh .clocks ≤ mostClocks
   most-clocks = omega (arith, at-most 4 (omega arith))
 
   pub most-variables : sh .variables ≤ 64
@@ -116,10 +117,10 @@ module _ (s : List ℕ) (sh : Shape) (is : IsShape s sh) where
   pub most-nodes : sh .nodes ≤ 1024
   most-nodes = omega (arith, at-most 6 (omega arith))
 
-  pub most-updates : sh .updates ≤ 6144
+  pub most-updates : sh .updates ≤ mostUpdates
   most-updates = omega (arith, at-most 7 (omega arith))
 
-  pub most-resets : sh .resets ≤ 4096
+  pub most-resets : sh .resets ≤ mostResets
   most-resets = omega (arith, at-most 8 (omega arith))
 
   -- all records are in the file

@@ -6,6 +6,7 @@ use Prim.Native.Nat.{ℕ, min, _≤_}
 use native.Mathlib.Omega.{arith}
 use lib.Dec.{leb, ltb, eqb}
 use lib.ListN.{length, getD, replicate}
+use Rattle.model.specs.Limits.{mostTicks}
 use Rattle.prelude.specs.Lists.{all, gather, upto}
 use Rattle.expressions.specs.Nodes.{Node, nodeOf, nodeAt}
 use Rattle.expressions.specs.Sorts.{sortOf, isNumber, isTruth, nodesNamed, operandsFit, operandUses}
@@ -85,7 +86,7 @@ module _ (s : List ℕ) (sh : Shape) (is : IsShape s sh) where
   -- ---- clocks, and ends of edges
 
   pub clocks-is : clocksTick (readAutomata s) ≡ all (clockTicks s sh) (upto (sh .clocks))
-  clocks-is = ap (all (λ c. between 1 36_000 (c .ticks))) (clocks-are s sh is) ∙ all-map (clockAt s sh) (λ c. between 1 36_000 (c .ticks)) (upto (sh .clocks))
+  clocks-is = ap (all (λ c. between 1 mostTicks (c .ticks))) (clocks-are s sh is) ∙ all-map (clockAt s sh) (λ c. between 1 mostTicks (c .ticks)) (upto (sh .clocks))
 
   edges-inside :
       all (λ e. eqb (home (readAutomata s .homes) (e .source)) (e .automaton) && eqb (home (readAutomata s .homes) (e .target)) (e .automaton)) (readAutomata s .edges)

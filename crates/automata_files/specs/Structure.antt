@@ -3,6 +3,7 @@ use mathlib.Core.Bool.{Bool, not, _&&_, _||_}
 use mathlib.Core.List.{List}
 use Prim.Native.Nat.{ℕ}
 use lib.Dec.{eqb}
+use Rattle.model.specs.Limits.{mostTicks}
 use Rattle.model.specs.Owned.{home}
 use Rattle.model.specs.AutomataTable.{readAutomata}
 use Rattle.model.specs.ChartFile.{between, guardNodes, assignedNodes}
@@ -11,7 +12,7 @@ use Rattle.automata_files.specs.Places.{initialAt, edgeAt, literalAt, cl
 
 module _ (s : List ℕ) (sh : Shape) where
   abbrev pub clockTicks : ℕ → Bool
-  clockTicks k = between 1 36_000 (clockAt s sh k .ticks)
+  clockTicks k = between 1 mostTicks (clockAt s sh k .ticks)
 
   -- both ends of an edge, and the initial location, are in the automaton
   abbrev pub edgeInside : ℕ → Bool

@@ -9,9 +9,10 @@ use lib.Dec.{eqb}
 use lib.ListN.{length, getD, set, replicate, length-set, length-replicate, getD-replicate}
 use lib.Seq.{getD-set-same, getD-set-other}
 use borrow.Author.Tests.{eqb-true, eqb-false}
+use Rattle.model.specs.Limits.{tableRecords}
 use Rattle.machines.specs.Chains.{earliest}
 use Rattle.machines.proofs.ChainsEarliest.{earliest-one, earliest-none}
-use Rattle.automata_steps.specs.Index.{ownerIn, ownedBy, Linked, Vacant, Blank, Apart, Linkable, Links}
+use Rattle.automata_steps.specs.Index.{ownerIn, ownedBy, Linked, Vacant, Blank, Apart, Linkable, Links, tableKeys}
 use Rattle.automata_steps.specs.declared.index.Span.{Span}
 
 pub apart-within : (lo hi start end k : ℕ) → lo ≤ start → end ≤ hi → Apart lo hi k → Apart start end k
@@ -82,10 +83,10 @@ module _ (s : List ℕ) (start end base owners : ℕ) (first₀ next₀ : List �
 
 -- ---- one kind after the other
 
-pub blank : Blank (replicate {A = ℕ} 896 65535)
-blank = record { keys = length-replicate {A = ℕ} 896 65535; vacant = λ j a b. getD-replicate {A = ℕ} 896 j 65535 0 b }
+pub blank : Blank (replicate {A = ℕ} tableKeys 65535)
+blank = record { keys = length-replicate {A = ℕ} tableKeys 65535; vacant = λ j a b. getD-replicate {A = ℕ} tableKeys j 65535 0 b }
 
-pub linkable : (s : List ℕ) (sp : Span) (first next : List ℕ) → length first ≡ 896 → sp .start ≤ sp .end → sp .end ≤ 14536 → sp .end ≤ length next → 16 * sp .end ≤ length s → sp .base + sp .owners ≤ 896 →
+pub linkable : (s : List ℕ) (sp : Span) (first next : List ℕ) → length first ≡ tableKeys → sp .start ≤ sp .end → sp .end ≤ tableRecords → sp .end ≤ length next → 16 * sp .end ≤ length s → sp .base + sp .owners ≤ tableKeys →
     ((n : ℕ) → sp .start ≤ n → n < sp .end → ownerIn s n < sp .owners) → Vacant (sp .base) first → Linkable s sp first next
 linkable s sp first next k a b l f c own v = record { keys = k; ordered = a; space = (b, l); read = f; room = c; own = own; empty = λ o h. v (sp .base + o) (omega arith) (omega arith) }
 

@@ -7,6 +7,7 @@ use native.Mathlib.Omega.{arith}
 use lib.Dec.{eqb, ltb}
 use lib.ListN.{length, replicate, length-replicate}
 use borrow.Author.Tests.{ne-eqb, ltb-true, ltb-false}
+use Rattle.model.specs.Limits.{tableRecords}
 use Rattle.prelude.specs.Lists.{keep, from, upto}
 use Rattle.prelude.specs.Owned.{of}
 use Rattle.model.specs.AutomataTable.{readAutomata, edge}
@@ -38,8 +39,8 @@ module _ (s : List ℕ) (sh : Shape) (is : IsShape s sh) where
   pub room-short : length s ≤ 16384 → RoomFor sh (replicate {A = ℕ} 1024 65535)
   room-short h = omega (arith, h, inside s sh is, length-replicate {A = ℕ} 1024 65535)
 
-  pub room-long : RoomFor sh (replicate {A = ℕ} 14536 14536)
-  room-long = omega (arith, few-records, length-replicate {A = ℕ} 14536 14536)
+  pub room-long : RoomFor sh (replicate {A = ℕ} tableRecords tableRecords)
+  room-long = omega (arith, few-records, length-replicate {A = ℕ} tableRecords tableRecords)
 
   -- ---- what an edge has, record by record
 

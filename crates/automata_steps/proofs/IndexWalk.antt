@@ -7,6 +7,7 @@ use native.Mathlib.Omega.{arith}
 use lib.Dec.{eqb, ltb}
 use lib.ListN.{getD}
 use borrow.Author.Tests.{ne-eqb, eqb-true, eqb-false, lt-ltb, le-ltb}
+use Rattle.model.specs.Limits.{tableRecords}
 use Rattle.prelude.specs.Lists.{keep, from}
 use Rattle.machines.specs.Chains.{earliest, remaining}
 use Rattle.machines.proofs.ChainsEarliest.{Found, none-found, one-found, earliest-one, earliest-none}
@@ -67,7 +68,7 @@ pub record Walk {S X : Type 0} (run : List ℕ → S → X) (whole : X) (s : Lis
   pub here : Here (ownedBy s o) start end n
   pub left : whole ≡ run (remaining (ownedBy s o) end n) state
 
-module _ {S X : Type 0} {run : List ℕ → S → X} {whole : X} {s : List ℕ} {start end o : ℕ} (small : end ≤ 14536) where
+module _ {S X : Type 0} {run : List ℕ → S → X} {whole : X} {s : List ℕ} {start end o : ℕ} (small : end ≤ tableRecords) where
   pub walk-from : (state : S) (n : ℕ) → n ≡ earliest (ownedBy s o) start (end - start) → whole ≡ run (keep (ownedBy s o) (from start (end - start))) state → Walk run whole s start end o state n
   walk-from state n at e = record {
     here = here-first (ownedBy s o) end (omega arith) start n at;

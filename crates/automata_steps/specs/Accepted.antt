@@ -4,6 +4,7 @@ use mathlib.Core.Option.{none}
 use mathlib.Core.List.{List}
 use Prim.Native.Nat.{ℕ, _+_, _*_, _≤_}
 use lib.ListN.{length}
+use Rattle.model.specs.Limits.{tableRecords}
 use Rattle.model.specs.AutomataFile.{automataRefusal}
 use Rattle.automata_files.specs.declared.Shape.{Shape}
 use Rattle.automata_files.specs.Shape.{IsShape}
@@ -19,4 +20,4 @@ InFile s n = 16 * n + 16 ≤ length s
 
 -- no more records than the longest table has
 abbrev pub FewRecords : Shape → Type 0
-FewRecords sh = firstReset sh + sh .resets ≤ 14536
+FewRecords sh = firstReset sh + sh .resets ≤ tableRecords

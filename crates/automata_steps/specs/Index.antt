@@ -6,6 +6,7 @@ use mathlib.Core.List.{List}
 use Prim.Native.Nat.{ℕ, _+_, _*_, _-_, _≤_, _<_}
 use lib.Dec.{eqb}
 use lib.ListN.{length, getD}
+use Rattle.model.specs.Limits.{mostStates, mostEdges, tableRecords}
 use Rattle.records.specs.Bytes.{two}
 use Rattle.machines.specs.Chains.{earliest}
 use Rattle.automata_files.specs.declared.Shape.{Shape}
@@ -32,11 +33,21 @@ pub record Linked (s : List ℕ) (start end base owners : ℕ) (first next : Lis
 abbrev pub Apart : ℕ → ℕ → ℕ → Type 0
 Apart lo hi k = (k < lo) ⊎ (hi ≤ k)
 
--- Edges by their source, literals by their edge, and in one chain updates and then resets by their edge: keys from 0, 128 and 512 on.
+-- where the keys of literals begin, and those of updates and resets; how many keys there are
+abbrev pub literalKeys : ℕ
+literalKeys = mostStates
+
+abbrev pub effectKeys : ℕ
+effectKeys = mostStates + mostEdges
+
+abbrev pub tableKeys : ℕ
+tableKeys = mostStates + 2 * mostEdges
+
+-- Edges by their source, literals by their edge, and in one chain updates and then resets by their edge: keys from 0, `literalKeys` and `effectKeys` on.
 pub record HasIndex (s : List ℕ) (sh : Shape) (first next : List ℕ) : Type 0 where
-  pub edges : Linked s (firstEdge sh) (firstLiteral sh) 0 128 first next
-  pub literals : Linked s (firstLiteral sh) (firstClock sh) 128 384 first next
-  pub effects : Linked s (firstUpdate sh) (firstReset sh + sh .resets) 512 384 first next
+  pub edges : Linked s (firstEdge sh) (firstLiteral sh) 0 mostStates first next
+  pub literals : Linked s (firstLiteral sh) (firstClock sh) literalKeys mostEdges first next
+  pub effects : Linked s (firstUpdate sh) (firstReset sh + sh .resets) effectKeys mostEdges first next
   pub places : firstReset sh + sh .resets ≤ length next
 
 -- What no chain has: the records of other kinds, and the places behind the records. They stay as they were.
@@ -54,20 +65,20 @@ RoomFor sh next = firstReset sh + sh .resets ≤ length next
 
 -- from a key on nothing is named
 abbrev pub Vacant : ℕ → List ℕ → Type 0
-Vacant k first = (j : ℕ) → k ≤ j → j < 896 → getD first j 0 ≡ 65535
+Vacant k first = (j : ℕ) → k ≤ j → j < tableKeys → getD first j 0 ≡ 65535
 
 -- a key for each owner, and nothing named
 pub record Blank (first : List ℕ) : Type 0 where
-  pub keys : length first ≡ 896
+  pub keys : length first ≡ tableKeys
   pub vacant : Vacant 0 first
 
 -- a kind that can be linked: its records and keys have room, the records lie in the file, their owners have keys, and nothing is named there yet
 pub record Linkable (s : List ℕ) (sp : Span) (first next : List ℕ) : Type 0 where
-  pub keys : length first ≡ 896
+  pub keys : length first ≡ tableKeys
   pub ordered : sp .start ≤ sp .end
-  pub space : (sp .end ≤ 14536) × (sp .end ≤ length next)
+  pub space : (sp .end ≤ tableRecords) × (sp .end ≤ length next)
   pub read : 16 * sp .end ≤ length s
-  pub room : sp .base + sp .owners ≤ 896
+  pub room : sp .base + sp .owners ≤ tableKeys
   pub own : (n : ℕ) → sp .start ≤ n → n < sp .end → ownerIn s n < sp .owners
   pub empty : (o : ℕ) → o < sp .owners → getD first (sp .base + o) 0 ≡ 65535
 

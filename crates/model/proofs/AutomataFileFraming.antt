@@ -9,6 +9,7 @@ use native.Mathlib.Omega.{arith}
 use borrow.Author.Tests.{le-ltb, ne-eqb}
 use lib.Dec.{T, leb, ltb, eqb, leb→le, le→leb}
 use lib.ListN.{length, length-map}
+use Rattle.model.specs.Limits.{mostEdges, mostLiterals, mostClocks, mostUpdates, mostResets}
 use Rattle.prelude.specs.Lists.{all, any, gather, mapFrom, ascending}
 use Rattle.records.specs.Bytes.{bytes2, records, kind}
 use Rattle.records.specs.Framing.{known, howMany, oddLength, unorderedKinds, wrongAmounts, framing}
@@ -73,13 +74,13 @@ pub record WithinLimits (au : Automata) : Type 0 where
   pub some-automaton : 0 < length (au .initial)
   pub automata : length (au .initial) ≤ 8
   pub locations : length (au .homes) ≤ 128
-  pub edges : length (au .edges) ≤ 384
-  pub literals : length (au .literals) ≤ 2432
-  pub clocks : length (au .clocks) ≤ 256
+  pub edges : length (au .edges) ≤ mostEdges
+  pub literals : length (au .literals) ≤ mostLiterals
+  pub clocks : length (au .clocks) ≤ mostClocks
   pub variables : length (au .variables) ≤ 64
   pub nodes : length (au .nodes) ≤ 1024
-  pub updates : length (au .updates) ≤ 6144
-  pub resets : length (au .resets) ≤ 4096
+  pub updates : length (au .updates) ≤ mostUpdates
+  pub resets : length (au .resets) ≤ mostResets
 
 module _ (au : Automata) where
   pub written-even : oddLength 33 automataLimits (writeAutomata au) ≡ false
@@ -153,13 +154,13 @@ module _ (au : Automata) where
         λ i. some-written i || (
         few-written 33 8 (length (au .initial)) automata-written (within .automata) i || (
         few-written 34 128 (length (au .homes)) locations-written (within .locations) i || (
-        few-written 35 384 (length (au .edges)) edges-written (within .edges) i || (
-        few-written 36 2432 (length (au .literals)) literals-written (within .literals) i || (
-        few-written 37 256 (length (au .clocks)) clocks-written (within .clocks) i || (
+        few-written 35 mostEdges (length (au .edges)) edges-written (within .edges) i || (
+        few-written 36 mostLiterals (length (au .literals)) literals-written (within .literals) i || (
+        few-written 37 mostClocks (length (au .clocks)) clocks-written (within .clocks) i || (
         few-written 38 64 (length (au .variables)) variables-written (within .variables) i || (
         few-written 39 1024 (length (au .nodes)) nodes-written (within .nodes) i || (
-        few-written 40 6144 (length (au .updates)) updates-written (within .updates) i || (
-        few-written 41 4096 (length (au .resets)) resets-written (within .resets) i || false)))))))))
+        few-written 40 mostUpdates (length (au .updates)) updates-written (within .updates) i || (
+        few-written 41 mostResets (length (au .resets)) resets-written (within .resets) i || false)))))))))
 
     pub written-framed : framing 33 automataLimits (writeAutomata au) ≡ none
     written-framed = is-none 33 automataLimits (writeAutomata au) written-even written-ordered written-within

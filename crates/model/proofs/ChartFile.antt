@@ -8,6 +8,7 @@ use native.Mathlib.Omega.{arith}
 use lib.Dec.{T, leb, ltb, eqb, leb→le, ltb→lt, eqb→eq, nltb→le}
 use lib.ListN.{length, getD, length-map}
 use lib.Signed.{leZ}
+use Rattle.model.specs.Limits.{mostTransitions}
 use Rattle.prelude.specs.Lists.{keep, all, any, count, caseOf, mapFrom, from, upto, mem}
 use Rattle.records.specs.Refusal.{Refusal, odd-length, lowest}
 use Rattle.records.specs.Bytes.{byte, two, four, records, kind, ofKind}
@@ -174,9 +175,9 @@ module _ (s : List ℕ) (ok : chartsRefusal s ≡ none) where
   unfolding mapFrom
   states-few = rw (length-map (ofKind 2 s) (λ r. byte r 1), length-ofKind 2 s) (nltb→le 128 (howMany 2 s) (limit 1 (omega arith)))
 
-  pub transitions-few : length (cs .transitions) ≤ 256
+  pub transitions-few : length (cs .transitions) ≤ mostTransitions
   unfolding mapFrom
-  transitions-few = rw (length-map (ofKind 3 s) readTransition, length-ofKind 3 s) (nltb→le 256 (howMany 3 s) (limit 2 (omega arith)))
+  transitions-few = rw (length-map (ofKind 3 s) readTransition, length-ofKind 3 s) (nltb→le mostTransitions (howMany 3 s) (limit 2 (omega arith)))
 
   pub variables-few : length (cs .variables) ≤ 64
   unfolding mapFrom

@@ -10,6 +10,7 @@ use native.Mathlib.Omega.{arith}
 use lib.Dec.{T, leb, ltb, eqb, eqb-refl, le→leb, lt→ltb, leb→le, ltb→lt, nltb→le, eqb→eq}
 use lib.ListN.{length, getD, set, length-set, length-map}
 use lib.Seq.{getD-set-same, getD-set-other}
+use Rattle.model.specs.Limits.{mostClocks}
 use Rattle.prelude.specs.Lists.{all, any, mapFrom, mem, upto}
 use Rattle.records.specs.Refusal.{Refusal, bad-table, Out, val, fault, _>>=_}
 use Rattle.records.specs.Bytes.{two, ofKind}
@@ -152,7 +153,7 @@ open-mem f (x ∷ es) os e q m = go (f x) (opens f es) refl q (λ rest i. open-m
 -- what an accepted table has
 pub record SoundTable (au : Automata) : Type 0 where
   automata-fit : length (au .initial) ≤ 8
-  clocks-fit : length (au .clocks) ≤ 256
+  clocks-fit : length (au .clocks) ≤ mostClocks
   ticking : (k : ℕ) → k < length (au .clocks) → 0 < clockAt au k .ticks
   targets : (e : ℕ) → e < length (au .edges) → (edge au e .target < length (au .homes)) × (home (au .homes) (edge au e .target) ≡ edge au e .automaton)
 
@@ -225,7 +226,7 @@ module _ (s : List ℕ) (ok : automataRefusal s ≡ none) where
   unfolding mapFrom
   sound-table = record {
     automata-fit = rw (length-map (ofKind 33 s) (λ r. two r 2), length-ofKind 33 s) (nltb→le 8 (howMany 33 s) (limit 0 (omega arith)));
-    clocks-fit = rw (length-map (ofKind 37 s) readClock, length-ofKind 37 s) (nltb→le 256 (howMany 37 s) (limit 4 (omega arith)));
+    clocks-fit = rw (length-map (ofKind 37 s) readClock, length-ofKind 37 s) (nltb→le mostClocks (howMany 37 s) (limit 4 (omega arith)));
     ticking = λ k h.
         leb→le 1 (clockAt au k .ticks) (and-left (leb 1 (clockAt au k .ticks)) (leb (clockAt au k .ticks) 36_000)
         (all-getD (λ c. between 1 36_000 (c .ticks)) (au .clocks) noClock k (not-not (clocksTick au) (off 6 (omega arith))) h));

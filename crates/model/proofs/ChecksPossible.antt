@@ -8,6 +8,7 @@ use lib.Dec.{T, leb, ltb, eqb, le→leb, lt→ltb, leb→le, nltb→le, ltb→lt
 use lib.IntN.{ℤ, pos, negsuc}
 use lib.ListN.{length, getD, drop, replicate, length-append, length-replicate, length-map, List·getD-append, List·getD-eq-default, List·getD-map}
 use lib.Seq.{getD-append-add}
+use Rattle.model.specs.Limits.{mostCharts, mostClocks}
 use Rattle.prelude.specs.Lists.{all}
 use Rattle.records.specs.Refusal.{impossible-run, misplaced-events, cycles-done, Out, val, _>>=_, fault-if}
 use Rattle.expressions.specs.Values.{isZero}
@@ -304,15 +305,15 @@ module _ (cs : ChartSet) (ok : Sound cs) where
           let d : getD (cs .variables) v noVariable ≡ noVariable = List·getD-eq-default (cs .variables) noVariable l in
           subst (λ x. T (inBounds x (getD (firsts ++ replicate (64 - length firsts) (pos 0)) v (pos 0)))) (sym d) (subst (λ x. T (inBounds noVariable x)) (sym z) tt)
 
-  start-timed : Timed cs (start (charts cs) .at) (replicate 8 0) (replicate 256 0) 0
+  start-timed : Timed cs (start (charts cs) .at) (replicate mostCharts 0) (replicate mostClocks 0) 0
   start-timed = record {
-    same = λ c t x c-in t-in e f. getD-zeros 256 (clockOf cs t) ∙ sym (ap (clockFor (x .timing) (x .ticks)) (getD-zeros 8 c) ∙ clockFor-fresh (x .timing) (x .ticks));
+    same = λ c t x c-in t-in e f. getD-zeros mostClocks (clockOf cs t) ∙ sym (ap (clockFor (x .timing) (x .ticks)) (getD-zeros mostCharts c) ∙ clockFor-fresh (x .timing) (x .ticks));
     age-room = refl;
-    age-low = λ c c-in. rw (getD-zeros 8 c) zero-le;
-    age-rest = λ k l. getD-zeros 8 k;
+    age-low = λ c c-in. rw (getD-zeros mostCharts c) zero-le;
+    age-rest = λ k l. getD-zeros mostCharts k;
     clock-room = refl;
-    clock-low = λ k l. rw (getD-zeros 256 k) zero-le;
-    clock-rest = λ k l. getD-zeros 256 k;
+    clock-low = λ k l. rw (getD-zeros mostClocks k) zero-le;
+    clock-rest = λ k l. getD-zeros mostClocks k;
   }
 
   pub start-atRest : AtRest cs (start (charts cs)) (start (automata (twin cs)))

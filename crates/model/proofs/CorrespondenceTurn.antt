@@ -7,6 +7,7 @@ use native.Mathlib.Nat.{zero-add}
 use native.Mathlib.Omega.{arith}
 use lib.Dec.{eqb, leb, ltb, lt→ltb, ltb→lt, leb→le, nleb→lt, nltb→le}
 use lib.ListN.{length, getD, List·getD-eq-default}
+use Rattle.model.specs.Limits.{mostClocks}
 use Rattle.prelude.specs.Lists.{mapFrom}
 use Rattle.records.specs.Refusal.{Out, val, fault, _>>=_}
 use Rattle.model.specs.Runs.{Run, Answer, taken, idle, time, setEvents, give, moved, timePassed, stepped}
@@ -84,8 +85,8 @@ module _ (cs : ChartSet) (ok : Sound cs) (r q : Run) (al : Alike cs r q) where
 
   clock-next : (k : ℕ) → k < length (twin cs .clocks) → getD (automata (twin cs) .passed q) k 0 ≡ grown (clockAt (twin cs) k .timing) (clockAt (twin cs) k .ticks) (getD (q .timers) k 0)
   clock-next k h =
-      let f : length (twin cs .clocks) ≤ 256 = ok .clocks-fit in
-      let j : length (q .timers) ≡ 256 = al .timed .clock-room in
+      let f : length (twin cs .clocks) ≤ mostClocks = ok .clocks-fit in
+      let j : length (q .timers) ≡ mostClocks = al .timed .clock-room in
       getD-mapFrom (λ k x. cond (ltb k (length (twin cs .clocks))) (grown (clockAt (twin cs) k .timing) (clockAt (twin cs) k .ticks) x) x) (q .timers) 0 k (omega arith)
       ∙ rw (zero-add k, is-true {b = ltb k (length (twin cs .clocks))} (lt→ltb k (length (twin cs .clocks)) h))
 

@@ -7,6 +7,7 @@ use Prim.Native.Nat.{ℕ, _*_, _≤_}
 use native.Mathlib.Omega.{arith}
 use lib.Dec.{T, ltb}
 use lib.ListN.{length}
+use Rattle.model.specs.Limits.{longestTable}
 use Rattle.prelude.specs.Lists.{all}
 use Rattle.records.specs.Refusal.{Refusal, bad-table, lowest}
 use Rattle.records.specs.Bytes.{records}
@@ -92,7 +93,7 @@ module _ (s : List ℕ) (ok : chartsRefusal s ≡ none) where
   pub length-twin : length (twinBytes s) ≡ 16 * things (twin cs)
   length-twin = written-length (twin cs)
 
-  pub short-twin : length (twinBytes s) ≤ 232_576
+  pub short-twin : length (twinBytes s) ≤ longestTable
   short-twin =
       omega (
         arith,

@@ -1,5 +1,5 @@
 -- Every limit of document 01, by name; nothing else says its number. Assumes nothing: these are definitions.
-use Prim.Native.Nat.{ℕ}
+use Prim.Native.Nat.{ℕ, _+_, _*_}
 
 -- ---- "Limits" of a chart set, kind by kind
 
@@ -63,3 +63,11 @@ mostTicks = 36_000
 
 abbrev pub mostCycles : ℕ
 mostCycles = 1_000_000
+
+-- ---- what follows from them: of an automata table, its records and its bytes
+
+abbrev pub tableRecords : ℕ
+tableRecords = mostCharts + mostStates + mostEdges + mostLiterals + mostClocks + mostVariables + mostNodes + mostUpdates + mostResets
+
+abbrev pub longestTable : ℕ
+longestTable = 16 * tableRecords

@@ -7,6 +7,7 @@ use Prim.Native.Nat.{ℕ, _≤_}
 use native.Mathlib.Omega.{arith}
 use lib.Dec.{ltb}
 use lib.ListN.{length, drop}
+use Rattle.model.specs.Limits.{longestTable}
 use Rattle.records.specs.Refusal.{Refusal, short-buffer, Out, val, fault, _>>_, fault-if, unless-refused}
 use Rattle.model.specs.Outcome.{settled}
 use Rattle.model.specs.ChartFile.{chartsRefusal}
@@ -25,9 +26,9 @@ module _ (s buffer : List ℕ) (n : ℕ) where
   answered o = settled buffer (unless-refused o (written text buffer)) .answer
 
   -- of any bytes
-  pub short : translate s buffer .answer ≡ val n → n ≤ 232_576
+  pub short : translate s buffer .answer ≡ val n → n ≤ longestTable
   short e = go (chartsRefusal s) refl
     where
-      go : (o : Option Refusal) → chartsRefusal s ≡ o → n ≤ 232_576
+      go : (o : Option Refusal) → chartsRefusal s ≡ o → n ≤ longestTable
       go none q = let m : n ≡ length text = counted (ltb (length buffer) (length text)) (ap answered (sym q) ∙ e) in omega (arith, m, short-twin s q)
       go (some w) q = let d : answered (some w) ≡ val n = ap answered (sym q) ∙ e in let z : _≡_ {A = ℕ} 0 1 = cc in absurd (omega arith)

@@ -1,6 +1,7 @@
 // The translator.
 ghost use mathlib.Core.Path.{_≡_};
 ghost use Prim.Native.Nat.{ℕ, _≤_};
+ghost use Rattle.model.specs.Limits.{longestTable};
 ghost use Rattle.records.specs.Refusal.{val};
 ghost use Rattle.model.specs.Calls.{numbered};
 ghost use Rattle.model.specs.Translation.{translate};
@@ -10,7 +11,7 @@ use machines::answers::refused_code;
 use translation::Translated;
 
 fn translated_code(answer: Translated) -> i32
-    requires { ⌜ ((n : ℕ) → answerOf answer ≡ val n → n ≤ 232_576) ⌝ }
+    requires { ⌜ ((n : ℕ) → answerOf answer ≡ val n → n ≤ longestTable) ⌝ }
     ensures { λ r. ⌜ r ≡ numbered countCode (answerOf answer) ⌝ }
 {
     match answer {

@@ -8,6 +8,7 @@ use borrow.Author.Tests.{lt-ltb, le-ltb, eq-eqb, ne-eqb, ltb-true, eqb-true, eqb
 use lib.Dec.{ltb, eqb}
 use lib.ListN.{length, getD, set, take}
 use lib.Seq.{getD-take, take-set-lt}
+use Rattle.model.specs.Limits.{mostEdges}
 use Rattle.prelude.proofs.Counts.{and-true}
 use Rattle.model.specs.ChartSet.{ChartSet, readCharts}
 use Rattle.model.specs.AutomataTable.{edge}
@@ -135,7 +136,7 @@ module _ (s : List ℕ) (sh : Shape) (ok : Accepted s sh) (automata sources targ
   abbrev pub held : Edge
   held = record { automaton = getD automata e 0; source = getD sources e 0; target = getD targets e 0 }
 
-  pub edge-room : e < 384
+  pub edge-room : e < mostEdges
   edge-room = omega (arith, h, most-transitions s sh (ok .shape), most-states s sh (ok .shape))
 
   pub few-automata : getD automata e 0 < 8

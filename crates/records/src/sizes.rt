@@ -124,6 +124,9 @@ pub const TABLE_RECORDS: usize = CHARTS
     + UPDATES
     + RESETS;
 
+// Names no record of a table. Its two bytes differ, so that an array is filled with it by plain stores.
+pub const NO_RECORD: u16 = TABLE_RECORDS as u16;
+
 pub const LONGEST_SET: usize = 16 * SET_RECORDS;
 
 pub const LONGEST_TABLE: usize = 16 * TABLE_RECORDS;

@@ -4,6 +4,7 @@ use mathlib.Core.List.{List}
 use Prim.Native.Nat.{ℕ}
 use lib.IntN.{pos}
 use lib.ListN.{length, replicate}
+use Rattle.model.specs.Limits.{mostCharts, mostVariables, mostClocks}
 use Rattle.prelude.specs.Lists.{mapFrom}
 use Rattle.records.specs.Refusal.{Refusal, Out, val, fault}
 use Rattle.records.specs.RefusalOf.{refusalOf}
@@ -72,10 +73,10 @@ module _ (s t masks : List ℕ) where
 
 -- where nothing was compared the runs are zeros, at position 1
 abbrev pub blankRun : ℕ → Run
-blankRun timers = record { at = replicate 8 0; timers = replicate timers 0; world = record { vars = replicate 64 (pos 0); events = 0; position = 1; cycles = 0 } }
+blankRun timers = record { at = replicate mostCharts 0; timers = replicate timers 0; world = record { vars = replicate mostVariables (pos 0); events = 0; position = 1; cycles = 0 } }
 
 abbrev pub nothingCompared : Refusal → Comparison
-nothingCompared w = record { verdict = refused w; run = blankRun 8; twin = blankRun 256 }
+nothingCompared w = record { verdict = refused w; run = blankRun mostCharts; twin = blankRun mostClocks }
 
 -- by what the translation answers
 abbrev pub compared : Out ℕ → Comparison → Comparison

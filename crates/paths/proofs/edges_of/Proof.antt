@@ -9,6 +9,7 @@ use denote.Ref.{now}
 use lib.Dec.{eqb}
 use lib.ListN.{length, getD, set, length-set}
 use lib.Seq.{getD-set-same, getD-set-other}
+use Rattle.model.specs.Limits.{mostEdges}
 use Rattle.chart_files.proofs.PlacesRead.{most-states, most-transitions}
 use Rattle.chart_files.specs.declared.Shape.{Shape}
 use Rattle.chart_files.specs.Shape.{IsShape}
@@ -22,17 +23,17 @@ use Rattle.paths.proofs.edge_of.Reads as edge-of-reads
 
 -- the arrays hold so many edges
 record Held (s : List ℕ) (charts n : ℕ) (automata sources targets : List ℕ) : Type 0 where
-  rooms : (length automata ≡ 384) × (length sources ≡ 384) × (length targets ≡ 384)
+  rooms : (length automata ≡ mostEdges) × (length sources ≡ mostEdges) × (length targets ≡ mostEdges)
   held : (e : ℕ) → e < n → IsEdge s charts e (record { automaton = getD automata e 0; source = getD sources e 0; target = getD targets e 0 })
 
-held-more : (s : List ℕ) (charts n : ℕ) (automata sources targets : List ℕ) (x : Edge) → n < 384 → Held s charts n automata sources targets → IsEdge s charts n x →
+held-more : (s : List ℕ) (charts n : ℕ) (automata sources targets : List ℕ) (x : Edge) → n < mostEdges → Held s charts n automata sources targets → IsEdge s charts n x →
     Held s charts (n + 1) (set automata n (x .automaton)) (set sources n (x .source)) (set targets n (x .target))
 held-more s charts n automata sources targets x h held is = record {
   rooms = (length-set automata n (x .automaton) ∙ held .rooms .0, length-set sources n (x .source) ∙ held .rooms .1, length-set targets n (x .target) ∙ held .rooms .2);
   held = λ e l. go e l (eqb e n) refl;
 }
   where
-    new : (xs : List ℕ) (v : ℕ) → length xs ≡ 384 → getD (set xs n v) n 0 ≡ v
+    new : (xs : List ℕ) (v : ℕ) → length xs ≡ mostEdges → getD (set xs n v) n 0 ≡ v
     new xs v r = getD-set-same xs n v 0 (omega (arith, r, h))
 
     go : (e : ℕ) → e < n + 1 → (b : Bool) → eqb e n ≡ b →
@@ -57,7 +58,7 @@ abbrev μ-loop : tie.MeasureT-loop
 loop-holds : tie.Need-loop-holds Inv-loop μ-loop
 loop-holds c = (record { rooms = (refl, refl, refl); held = λ e l. absurd (omega arith) }, omega arith)
 
-few : (s : List ℕ) (sh : Shape) → IsShape s sh → sh .transitions + sh .states ≤ 384
+few : (s : List ℕ) (sh : Shape) → IsShape s sh → sh .transitions + sh .states ≤ mostEdges
 few s sh is = omega (arith, most-transitions s sh is, most-states s sh is)
 
 add-if1 : tie.Need-add-if1 Inv-loop μ-loop
@@ -66,7 +67,7 @@ add-if1 c = let b = c .before .before .before in omega (arith, few (now (b .args
 edge-of-requires : tie.Need-edge-of-requires Inv-loop μ-loop
 edge-of-requires c κs = (c .before .before .before .before .pre, c .if1 .taken)
 
-in-room : (c : lts.After-edge-of (edge-of-reads.Asked, edge-of-reads.Learnt) reads.Pre reads.Post Inv-loop μ-loop) → c .before .before .before .loop .e < 384
+in-room : (c : lts.After-edge-of (edge-of-reads.Asked, edge-of-reads.Learnt) reads.Pre reads.Post Inv-loop μ-loop) → c .before .before .before .loop .e < mostEdges
 in-room c = let b = c .before .before .before .before .before in omega (arith, c .before .if1 .taken, few (now (b .args .s)) (b .args .shape) (b .pre .shape))
 
 cast-i : tie.Need-cast-i Inv-loop μ-loop

@@ -4,6 +4,7 @@ use Prim.Native.Nat.{_<_}
 use native.Mathlib.Omega.{arith}
 use borrow.Author.Needs.{needs}
 use denote.Ref.{now}
+use Rattle.model.specs.Limits.{mostClocks}
 use Rattle.automata_files.specs.Places.{clockAt}
 use Rattle.automata_files.proofs.PlacesRead.{most-clocks}
 use Rattle.automata_files.proofs.NamedThings.{ticks-known}
@@ -12,7 +13,7 @@ use Rattle.timings.proofs.GrowthBounds.{grownTo-grown}
 use Rattle.automata.proofs.runs.clock_grown.Statement.{statement}
 use Rattle.automata.proofs.runs.clock_grown.Tie as tie
 
-few : (c : tie.Start) → c .args .k < 256
+few : (c : tie.Start) → c .args .k < mostClocks
 few c = omega (arith, c .pre .2, most-clocks (now (c .args .s)) (c .args .shape) (c .pre .0 .shape))
 
 mul-grown-to : tie.Need-mul-grown-to

@@ -7,6 +7,7 @@ use borrow.Author.Needs.{needs}
 use denote.Ref.{now}
 use lib.Dec.{leb}
 use lib.ListN.{getD}
+use Rattle.model.specs.Limits.{mostClocks}
 use Rattle.automata_files.specs.declared.Shape.{Shape}
 use Rattle.automata_files.proofs.PlacesRead.{most-clocks}
 use Rattle.automata.specs.RunOf.{topAt}
@@ -30,7 +31,7 @@ cast-i : tie.Need-cast-i Inv-loop μ-loop
 cast-i c = search needs
 
 -- a place of the array
-few : (c : tie.Then1 Inv-loop μ-loop) → c .before .before .loop .k < 256
+few : (c : tie.Then1 Inv-loop μ-loop) → c .before .before .loop .k < mostClocks
 few c =
     let b = c .before .before .before .before in
     omega (arith, c .if1 .taken, most-clocks (now (b .args .s)) (b .args .shape) (b .pre))

@@ -5,6 +5,7 @@ use native.Mathlib.Omega.{arith}
 use borrow.Author.Needs.{needs}
 use denote.Ref.{now}
 use lib.Dec.{eqb}
+use Rattle.model.specs.Limits.{mostClocks}
 use Rattle.prelude.proofs.AllRead.{ReadOn, read-on, read-end}
 use Rattle.automata.proofs.runs.clocks_unused.Statement.{statement}
 use Rattle.automata.proofs.runs.clocks_unused.Tie as tie
@@ -13,7 +14,7 @@ abbrev Inv-loop : tie.InvT-loop
 Inv-loop count clocks unused₀ k₀ unused k = ReadOn (λ x. eqb x 0) 0 count clocks unused k
 
 abbrev μ-loop : tie.MeasureT-loop
-μ-loop count clocks unused₀ k₀ unused k = 256 - k
+μ-loop count clocks unused₀ k₀ unused k = mostClocks - k
 
 loop-holds : tie.Need-loop-holds Inv-loop μ-loop
 loop-holds c = refl

@@ -4,6 +4,7 @@ use mathlib.Core.List.{map}
 use denote.Ref.{now}
 use lib.IntN.{pos}
 use lib.ListN.{replicate}
+use Rattle.model.specs.Limits.{mostClocks}
 use Rattle.prelude.specs.Lists.{upto, padded}
 use Rattle.prelude.proofs.Maps.{map-map}
 use Rattle.automata_files.proofs.PlacesRead.{most-automata, initial-are}
@@ -32,7 +33,7 @@ returns c =
     let values = c .start-values .ensures
     ∙ ap (padded 64 (pos 0))
     (sym (map-map (variableIn s (v .result)) (λ x. x .start) (upto (v .result .variables))) ∙ ap (map (λ x. x .start)) (variables-in s sh (b .pre) (v .result) (v .ensures))) in
-    λ i. record { at = locations i; timers = replicate 256 0; world = record { vars = values i; events = 0; position = 1; cycles = 0 } }
+    λ i. record { at = locations i; timers = replicate mostClocks 0; world = record { vars = values i; events = 0; position = 1; cycles = 0 } }
 
 pub start-spec : {M : Type 1} → statement M
 start-spec =

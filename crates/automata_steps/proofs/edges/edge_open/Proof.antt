@@ -6,6 +6,7 @@ use borrow.Author.Needs.{needs}
 use native.Mathlib.Omega.{arith}
 use denote.Ref.{now}
 use lib.ListN.{length}
+use Rattle.model.specs.Limits.{mostEdges, tableRecords}
 use Rattle.expressions.specs.Answers.{valueReasonOf, truthOf}
 use Rattle.records.specs.Refusal.{val, fault}
 use Rattle.model.specs.AutomataTable.{readAutomata}
@@ -27,10 +28,10 @@ Inv-loop s shape first next clocks vars events e n₀ n =
 abbrev μ-loop : tie.MeasureT-loop
 μ-loop s shape first next clocks vars events e n₀ n = 65536 - n
 
-few-edges : (c : tie.Start Inv-loop μ-loop) → c .args .e < 384
+few-edges : (c : tie.Start Inv-loop μ-loop) → c .args .e < mostEdges
 few-edges c = omega (arith, c .pre .2, most-edges (now (c .args .s)) (c .args .shape) (c .pre .0 .shape))
 
-small : (c : tie.Start Inv-loop μ-loop) → firstClock (c .args .shape) ≤ 14536
+small : (c : tie.Start Inv-loop μ-loop) → firstClock (c .args .shape) ≤ tableRecords
 small c = let f = few-records (now (c .args .s)) (c .args .shape) (c .pre .0 .shape) in omega arith
 
 add-n : tie.Need-add-n Inv-loop μ-loop
@@ -77,7 +78,7 @@ returns c =
 enum-known-holding : tie.Need-enum-known-holding Inv-loop μ-loop
 enum-known-holding c = search needs
 
-inside : (c : tie.Then1 Inv-loop μ-loop) → c .before .before .before .before .before .before .loop .n < 14536
+inside : (c : tie.Then1 Inv-loop μ-loop) → c .before .before .before .before .before .before .loop .n < tableRecords
 inside c = let i = c .before .before .before .before .before in omega (arith, place i, small (i .before .before .before .before .before))
 
 in-index : (c : tie.Then1 Inv-loop μ-loop) → c .before .before .before .before .before .before .loop .n < length (now (c .before .before .before .before .before .before .before .before .before .before .args .next))

@@ -9,6 +9,7 @@ use borrow.Author.Needs.{needs}
 use denote.Ref.{now}
 use lib.Dec.{eqb}
 use lib.ListN.{length, getD}
+use Rattle.model.specs.Limits.{tableRecords}
 use Rattle.prelude.specs.Lists.{keep}
 use Rattle.records.specs.Refusal.{Out, fault, _>>=_}
 use Rattle.model.specs.AutomataTable.{readAutomata}
@@ -36,7 +37,7 @@ abbrev μ-loop : tie.MeasureT-loop
 abbrev reading : (c : tie.Start Inv-loop μ-loop) → ℕ → Out Bool
 reading c = edgeOpen (readAutomata (now (c .args .s))) (bareRun (now (c .args .clocks)) (now (c .args .vars)) (c .args .events))
 
-small : (c : tie.Start Inv-loop μ-loop) → firstLiteral (c .args .shape) ≤ 14536
+small : (c : tie.Start Inv-loop μ-loop) → firstLiteral (c .args .shape) ≤ tableRecords
 small c = let f = few-records (now (c .args .s)) (c .args .shape) (c .pre .0 .shape) in omega arith
 
 few-locations : (c : tie.Else1 Inv-loop μ-loop) → c .before .before .before .before .args .location < 128
@@ -117,7 +118,7 @@ returns-2 c =
 enum-known-t : tie.Need-enum-known-t Inv-loop μ-loop
 enum-known-t c = search needs
 
-inside : (c : tie.After-known-told2 Inv-loop μ-loop) → c .before .before .before .before .before .loop .n < 14536
+inside : (c : tie.After-known-told2 Inv-loop μ-loop) → c .before .before .before .before .before .loop .n < tableRecords
 inside c = let i = c .before .before .before .before in omega (arith, place i, small (i .before .before .before .before .before .before .before .before))
 
 in-index : (c : tie.After-known-told2 Inv-loop μ-loop) → c .before .before .before .before .before .loop .n < length (now (c .before .before .before .before .before .before .before .before .before .before .before .before .args .next))

@@ -4,6 +4,8 @@ use Prim.Native.Nat.{_+_, _-_, _<_}
 use native.Mathlib.Omega.{arith}
 use denote.Ref.{now}
 use lib.ListN.{length}
+use Rattle.automata_steps.specs.Index.{tableKeys}
+use Rattle.model.specs.Limits.{tableRecords}
 use Rattle.automata_steps.proofs.IndexLinked.{Filling, filling-none, filling-more, filling-done}
 use Rattle.automata_steps.proofs.index.link.Statement.{statement}
 use Rattle.automata_steps.proofs.index.link.Tie as tie
@@ -34,13 +36,13 @@ own c =
     let l = c .before .before .before .loop in
     omega (arith, c .owner-of .ensures, a .pre .own (l .n - 1) (omega (arith, c .before .if1 .taken)) (omega (arith, l .inv .below, c .before .if1 .taken)))
 
-place : (c : tie.After-owner-of Inv-loop μ-loop) → (c .before .before .before .loop .n - 1 < 14536) × (c .before .before .before .loop .n - 1 < length (c .before .before .before .loop .next))
+place : (c : tie.After-owner-of Inv-loop μ-loop) → (c .before .before .before .loop .n - 1 < tableRecords) × (c .before .before .before .loop .n - 1 < length (c .before .before .before .loop .next))
 place c =
     let a = c .before .before .before .before .before .before in
     let l = c .before .before .before .loop in
     (omega (arith, l .inv .below, a .pre .space .0, c .before .if1 .taken), omega (arith, l .inv .below, l .inv .numbers, a .pre .space .1, c .before .if1 .taken))
 
-slot : (c : tie.After-owner-of Inv-loop μ-loop) → c .before .before .before .before .before .before .args .span .base + c .owner-of .result < 896
+slot : (c : tie.After-owner-of Inv-loop μ-loop) → c .before .before .before .before .before .before .args .span .base + c .owner-of .result < tableKeys
 slot c = omega (arith, own c, c .before .before .before .before .before .before .pre .room)
 
 add-key : tie.Need-add-key Inv-loop μ-loop

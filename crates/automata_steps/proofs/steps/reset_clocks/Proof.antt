@@ -4,6 +4,7 @@ use Prim.Native.Nat.{_+_, _-_, _≤_, _<_}
 use native.Mathlib.Omega.{arith}
 use denote.Ref.{now}
 use lib.ListN.{length}
+use Rattle.model.specs.Limits.{mostClocks, tableRecords}
 use Rattle.prelude.specs.Owned.{of}
 use Rattle.model.specs.AutomataTable.{readAutomata}
 use Rattle.model.specs.Automata.{reset}
@@ -23,7 +24,7 @@ Inv-loop s shape next start e clocks₀ n₀ clocks n =
 abbrev μ-loop : tie.MeasureT-loop
 μ-loop s shape next start e clocks₀ n₀ clocks n = 65536 - n
 
-small : (c : tie.Start Inv-loop μ-loop) → firstReset (c .args .shape) + c .args .shape .resets ≤ 14536
+small : (c : tie.Start Inv-loop μ-loop) → firstReset (c .args .shape) + c .args .shape .resets ≤ tableRecords
 small c = few-records (now (c .args .s)) (c .args .shape) (c .pre .0 .shape)
 
 loop-holds : tie.Need-loop-holds Inv-loop μ-loop
@@ -40,12 +41,12 @@ place c = let a = c .before .before .before .before in walk-at (small a) (c .bef
 clock-of-requires : tie.Need-clock-of-requires Inv-loop μ-loop
 clock-of-requires c κs = (c .before .before .before .before .pre .0, place c .0, place c .1)
 
-few-clocks : (c : tie.After-clock-of Inv-loop μ-loop) → c .clock-of .result < 256
+few-clocks : (c : tie.After-clock-of Inv-loop μ-loop) → c .clock-of .result < mostClocks
 few-clocks c =
     let a = c .before .before .before .before .before in
     omega (arith, c .clock-of .ensures .1, most-clocks (now (a .args .s)) (a .args .shape) (a .pre .0 .shape))
 
-inside : (c : tie.After-clock-of Inv-loop μ-loop) → c .before .before .loop .n < 14536
+inside : (c : tie.After-clock-of Inv-loop μ-loop) → c .before .before .loop .n < tableRecords
 inside c = omega (arith, place (c .before), small (c .before .before .before .before .before))
 
 cast-k : tie.Need-cast-k Inv-loop μ-loop

@@ -8,6 +8,7 @@ use borrow.Author.Needs.{needs}
 use borrow.Author.Tests.{lt-ltb, le-ltb}
 use denote.Ref.{now}
 use lib.ListN.{length, getD}
+use Rattle.model.specs.Limits.{mostEdges, tableRecords}
 use Rattle.records.specs.Refusal.{Out, fault}
 use Rattle.prelude.specs.Owned.{of}
 use Rattle.model.specs.Runs.{World, deeds}
@@ -17,7 +18,7 @@ use Rattle.automata_files.proofs.PlacesRead.{most-edges, edge-is}
 use Rattle.machines.specs.Chains.{earliest}
 use Rattle.machines.specs.Answers.{reasonOf}
 use Rattle.machines.specs.Worlds.{worldIn, worldAfter, runIn}
-use Rattle.automata_steps.specs.Index.{ownerIn, ownedBy}
+use Rattle.automata_steps.specs.Index.{ownerIn, ownedBy, effectKeys}
 use Rattle.automata_steps.proofs.IndexWalk.{Walk, walk-from, walk-at, walk-to, walk-ends, walk-done, upTo, Ahead, ahead-first, ahead-second, rises}
 use Rattle.model.proofs.TranslationClocks.{length-reset}
 use Rattle.automata_steps.proofs.IndexRecords.{few-records, updates-of}
@@ -33,13 +34,13 @@ Inv-loop s shape first next automaton locations clocks vars₀ events e reset ra
 abbrev μ-loop : tie.MeasureT-loop
 μ-loop s shape first next automaton locations clocks vars₀ events e reset raised₀ n₀ vars raised n = 65536 - n
 
-few-edges : (c : tie.Start Inv-loop μ-loop) → c .args .e < 384
+few-edges : (c : tie.Start Inv-loop μ-loop) → c .args .e < mostEdges
 few-edges c = omega (arith, c .pre .3, most-edges (now (c .args .s)) (c .args .shape) (c .pre .0 .shape))
 
-small : (c : tie.Start Inv-loop μ-loop) → firstReset (c .args .shape) + c .args .shape .resets ≤ 14536
+small : (c : tie.Start Inv-loop μ-loop) → firstReset (c .args .shape) + c .args .shape .resets ≤ tableRecords
 small c = few-records (now (c .args .s)) (c .args .shape) (c .pre .0 .shape)
 
-few-updates : (c : tie.Start Inv-loop μ-loop) → firstReset (c .args .shape) ≤ 14536
+few-updates : (c : tie.Start Inv-loop μ-loop) → firstReset (c .args .shape) ≤ tableRecords
 few-updates c = omega (arith, small c)
 
 -- the place in the chain as the updates see it
@@ -69,9 +70,9 @@ loop-holds : tie.Need-loop-holds Inv-loop μ-loop
 loop-holds c =
     let a = c .before .before .before .before in
     let x = a .args in
-    let h : Ahead (ownedBy (now (x .s)) (x .e)) (firstReset (x .shape)) (firstReset (x .shape) + x .shape .resets) (getD (now (x .first)) (512 + x .e) 0)
+    let h : Ahead (ownedBy (now (x .s)) (x .e)) (firstReset (x .shape)) (firstReset (x .shape) + x .shape .resets) (getD (now (x .first)) (effectKeys + x .e) 0)
     = record { since = firstUpdate (x .shape); early = omega arith; at = a .pre .1 .effects .first-of (x .e) (few-edges a) } in (
-      walk-from (few-updates a) (worldIn (now (x .vars)) (x .events)) _ (seen a (getD (now (x .first)) (512 + x .e) 0) h)
+      walk-from (few-updates a) (worldIn (now (x .vars)) (x .events)) _ (seen a (getD (now (x .first)) (effectKeys + x .e) 0) h)
           (λ i q c. deeds (readAutomata (now (x .s)) .nodes) (readAutomata (now (x .s)) .variables) (updates-of (now (x .s)) (x .shape) (a .pre .0 .shape) (x .e) i) (worldIn (now (x .vars)) (x .events) q c)),
       h,
     )
@@ -147,7 +148,7 @@ returns c =
 enum-known-x : tie.Need-enum-known-x Inv-loop μ-loop
 enum-known-x c = search needs
 
-inside : (c : tie.In-loop Inv-loop μ-loop) → c .before .loop .n < 14536
+inside : (c : tie.In-loop Inv-loop μ-loop) → c .before .loop .n < tableRecords
 inside c = omega (arith, here c, few-updates (start c))
 
 cast-n-2 : tie.Need-cast-n-2 Inv-loop μ-loop
