@@ -11,6 +11,7 @@ use charts::tables::fill_actions;
 use charts::tables::fill_rows;
 use libc::STDIN_FILENO;
 use machines::answers::Ending;
+use messages::files::refuse_set;
 use messages::input::Form;
 use messages::input::argument;
 use messages::input::arguments;
@@ -120,7 +121,7 @@ fn play(
 // The file is checked once.
 fn play_file(s: &[u8]) {
     match check(s) {
-        Checked::Refused(w) => tell_refusal(w),
+        Checked::Refused(w) => refuse_set(s, w),
         Checked::Accepted(shape) => {
             let empty = [256u16; 16];
             let mut rows = [empty; 128];
