@@ -1,4 +1,6 @@
 // A refused file told: its number and meaning, and behind them what the file seems to be where that is not what was wanted.
+ghost use mathlib.Core.Path.{_≡_};
+ghost use Rattle.messages.specs.Files.{kindSeen, seenAs};
 use crate::input::Form;
 use crate::words::say;
 use libc::STDERR_FILENO;
@@ -13,15 +15,26 @@ pub enum Seen {
     Neither,
 }
 
-pub fn seen_as(s: &[u8]) -> Seen {
+// By the kind of its first record.
+fn kind_seen(kind: u8) -> Seen
+    ensures { λ r. ⌜ r ≡ kindSeen kind ⌝ }
+{
+    if (1 <= kind) & (kind <= 6) {
+        return Seen::Set;
+    }
+    if (33 <= kind) & (kind <= 41) {
+        return Seen::Table;
+    }
+    Seen::Neither
+}
+
+pub fn seen_as(s: &[u8]) -> Seen
+    ensures { λ r. ⌜ r ≡ seenAs (now (s .entry)) ⌝ }
+{
     if s.len() == 0 {
         return Seen::Empty;
     }
-    match records::byte_at(s, 0) {
-        1..=6 => Seen::Set,
-        33..=41 => Seen::Table,
-        _ => Seen::Neither,
-    }
+    kind_seen(records::byte_at(s, 0))
 }
 
 fn note_set(form: Form) {

@@ -6,6 +6,7 @@ ghost use lib.ListN.{length};
 ghost use Rattle.io.specs.Counts.{Counts};
 ghost use Rattle.records.specs.Bytes.{byte};
 ghost use Rattle.records.specs.RefusalOf.{refusalOf};
+ghost use Rattle.messages.specs.Files.{isDash};
 ghost use Rattle.messages.specs.LongFiles.{lastKindIn, longRefusal};
 use crate::files::Seen;
 use crate::files::seen_as;
@@ -181,7 +182,9 @@ fn refuse_full(fd: i32, name: &[u8], buf: &mut [u8], form: Form) {
 }
 
 // Whether a name is - alone.
-pub fn is_dash(name: &[u8]) -> bool {
+pub fn is_dash(name: &[u8]) -> bool
+    ensures { λ r. ⌜ r ≡ isDash (now (name .entry)) ⌝ }
+{
     (name.len() == 1) & (records::byte_at(name, 0) == b'-')
 }
 
