@@ -8,29 +8,35 @@ ghost use Rattle.compare.specs.Masks.{masksIn};
 use libc::STDERR_FILENO;
 use libc::STDIN_FILENO;
 use libc::STDOUT_FILENO;
+use messages::files::refuse_set;
 use messages::input::Form;
 use messages::input::argument;
 use messages::input::arguments;
 use messages::input::fill;
 use messages::input::read_file;
-use messages::words::tell_refusal;
+use messages::words::print;
 use records::sizes::FILE_ROOM;
 use records::sizes::LONGEST_TABLE;
 use twins::Verdict;
 
+// Whether it was written; else that is told.
+fn print_number(n: usize) -> bool {
+    if !io::print_decimal(STDOUT_FILENO, n as u64) {
+        os::fail(b"standard output");
+        return false;
+    }
+    true
+}
+
 // Whether they were alike: what was compared, and how many calls were made.
-fn tell(what: &[u8], verdict: Verdict) -> bool {
+fn tell(s: &[u8], what: &[u8], verdict: Verdict) -> bool {
     match verdict {
         Verdict::Refused(w) => {
-            tell_refusal(w);
+            refuse_set(s, w);
             false
         }
         Verdict::Alike(n) => {
-            io::write_all(STDOUT_FILENO, what);
-            io::write_all(STDOUT_FILENO, b": alike, ");
-            io::print_decimal(STDOUT_FILENO, n as u64);
-            io::write_all(STDOUT_FILENO, b" calls\n");
-            true
+            print(what) && print(b": alike, ") && print_number(n) && print(b" calls\n")
         }
         Verdict::Differ(k) => {
             io::write_all(STDERR_FILENO, what);
@@ -48,17 +54,17 @@ fn compare_masks(s: &[u8], masks: &[u32]) {
     let kinds = [0u8; 65536];
     let cycles = twins::compare(s, b"", masks, &mut twin);
     let by_cycles = cycles.verdict;
-    if !tell(b"cycles", by_cycles) {
+    if !tell(s, b"cycles", by_cycles) {
         return;
     }
     let turns = twins::compare(s, &kinds, masks, &mut twin);
     let by_turns = turns.verdict;
-    if !tell(b"turns", by_turns) {
+    if !tell(s, b"turns", by_turns) {
         return;
     }
     let played = twins::compare_plays(s, masks, &mut twin);
     let by_plays = played.verdict;
-    tell(b"long run", by_plays);
+    tell(s, b"long run", by_plays);
 }
 
 // As many masks as there are whole ones in the bytes, and room; answers how many.

@@ -6,14 +6,15 @@ ghost use lib.ListN.{length};
 ghost use Rattle.records.specs.Wrote.{Wrote};
 ghost use Rattle.lead_back.specs.Path.{numbers};
 use libc::STDERR_FILENO;
+use messages::files::refuse_set;
 use messages::input::Form;
 use messages::input::argument;
 use messages::input::arguments;
 use messages::input::fill;
+use messages::input::open_input;
 use messages::input::read_file;
 use messages::texts::row_into;
 use messages::words::print;
-use messages::words::tell_refusal;
 use paths::Led;
 use records::sizes::FILE_ROOM;
 
@@ -39,7 +40,7 @@ fn print_rows(rows: &[u32], count: usize)
 
 fn lead(s: &[u8], path: &[u16], rows: &mut [u32]) {
     match calls::sets::path_back(s, path, rows) {
-        Led::Refused(w) => tell_refusal(w),
+        Led::Refused(w) => refuse_set(s, w),
         Led::Rows(n) => print_rows(rows, n),
     }
 }
@@ -90,7 +91,7 @@ fn is_path(name: &[u8], size: usize) -> bool {
 
 // One byte more than the longest path is asked for.
 fn lead_file(s: &[u8], name: &[u8]) {
-    let fd = os::open_read(name);
+    let fd = open_input(name);
     if fd < 0 {
         os::fail(name);
         return;

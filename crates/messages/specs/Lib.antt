@@ -1,2 +1,3 @@
+pub mod Files
 pub mod LongFiles
 pub mod Texts

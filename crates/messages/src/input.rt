@@ -1,4 +1,4 @@
-// Arguments and files: a file named by an argument, read whole; one that is longer than any set or table is refused as it is read.
+// Arguments and files: a file named by an argument, - for standard input, read whole; one that is longer than any set or table is refused as it is read.
 ghost use Prim.Native.Nat.{_≤_};
 ghost use mathlib.Core.Path.{_≡_};
 ghost use lib.Dec.{leb};
@@ -6,9 +6,13 @@ ghost use lib.ListN.{length};
 ghost use Rattle.io.specs.Counts.{Counts};
 ghost use Rattle.records.specs.Bytes.{byte};
 ghost use Rattle.records.specs.RefusalOf.{refusalOf};
+ghost use Rattle.messages.specs.Files.{isDash};
 ghost use Rattle.messages.specs.LongFiles.{lastKindIn, longRefusal};
-use crate::words::tell_refusal;
+use crate::files::Seen;
+use crate::files::seen_as;
+use crate::files::tell_file;
 use libc::STDERR_FILENO;
+use libc::STDIN_FILENO;
 use records::refusals::Refusal;
 
 // So many bytes were read; where a read failed there may be more.
@@ -144,7 +148,7 @@ fn long_refusal(size: usize, kind: u8) -> Refusal
 }
 
 // A set with more than the first part, which is more than the most of all kinds together: it is read on, as refusals 1 and 2 depend on its end.
-fn refuse_long(fd: i32, name: &[u8], buf: &mut [u8]) {
+fn refuse_long(fd: i32, name: &[u8], form: Form, seen: Seen, buf: &mut [u8]) {
     let mut kind = last_kind(buf, 1);
     let mut left = u64::MAX;
     while 0 < left {
@@ -155,7 +159,7 @@ fn refuse_long(fd: i32, name: &[u8], buf: &mut [u8]) {
         }
         kind = part.kind;
         if part.size < buf.len() {
-            tell_refusal(long_refusal(part.size, kind));
+            tell_file(long_refusal(part.size, kind), form, seen);
             return;
         }
         left -= 1;
@@ -169,18 +173,34 @@ fn refuse_full(fd: i32, name: &[u8], buf: &mut [u8], form: Form) {
         Form::Table => true,
         Form::Either => is_table(buf),
     };
+    let seen = seen_as(buf);
     if table {
-        tell_refusal(Refusal::BadTable);
+        tell_file(Refusal::BadTable, form, seen);
     } else {
-        refuse_long(fd, name, buf);
+        refuse_long(fd, name, form, seen, buf);
     }
+}
+
+// Whether a name is - alone.
+pub fn is_dash(name: &[u8]) -> bool
+    ensures { λ r. ⌜ r ≡ isDash (now (name .entry)) ⌝ }
+{
+    (name.len() == 1) & (records::byte_at(name, 0) == b'-')
+}
+
+// Opens a file for reading, by its name; - is standard input.
+pub fn open_input(name: &[u8]) -> i32 {
+    if is_dash(name) {
+        return STDIN_FILENO;
+    }
+    os::open_read(name)
 }
 
 // Reads a file into a buffer that is longer than any set or table. Where it is missing, unreadable or fills the buffer, that is told, and it counts as failed.
 pub fn read_file(name: &[u8], buf: &mut [u8], form: Form) -> BytesRead
     ensures { λ r. ⌜ Counts (r .size) (now (buf .exit)) ⌝ }
 {
-    let fd = os::open_read(name);
+    let fd = open_input(name);
     if fd < 0 {
         os::fail(name);
         return nothing();

@@ -1,8 +1,11 @@
-// A refusal of a file that is named, told on standard error: its number and meaning, with the first record that breaks the rule where one does by itself.
+// A refusal of a file that is named, told on standard error: its number and meaning, with the first record that breaks the rule where one does by itself, and what the file is where it is neither a set nor a table.
 use findings::Found;
 use findings::Rule;
 use findings::find;
 use libc::STDERR_FILENO;
+use messages::files::note;
+use messages::files::seen_as;
+use messages::input::Form;
 use messages::words::say;
 use records::refusals::Refusal;
 use records::refusals::refusal_number;
@@ -21,6 +24,13 @@ fn tell_record(s: &[u8], rule: Rule, words: &[u8]) -> bool {
     }
 }
 
+// The line's end, after what the file seems to be where that is neither.
+fn end_line(s: &[u8]) {
+    let seen = seen_as(s);
+    note(Form::Either, seen);
+    io::write_all(STDERR_FILENO, b"\n");
+}
+
 pub fn tell_set(s: &[u8], w: Refusal) {
     say(b"refusal ", refusal_number(w));
     match w {
@@ -31,7 +41,7 @@ pub fn tell_set(s: &[u8], w: Refusal) {
         _ => false,
     }
     ;
-    io::write_all(STDERR_FILENO, b"\n");
+    end_line(s);
 }
 
 // What is told of 11 is the first of 2, 4 and 5 that a record breaks.
@@ -42,5 +52,5 @@ pub fn tell_table(s: &[u8]) {
             tell_record(s, Rule::TableCodes, b": a code or range broken");
         }
     }
-    io::write_all(STDERR_FILENO, b"\n");
+    end_line(s);
 }

@@ -11,6 +11,7 @@ use charts::runs::Run;
 use charts::runs::start;
 use libc::STDIN_FILENO;
 use machines::answers::Ending;
+use messages::files::refuse_set;
 use messages::input::Form;
 use messages::input::argument;
 use messages::input::arguments;
@@ -122,7 +123,7 @@ fn play(s: &[u8], shape: Shape, rows: &Rows, ends: &Ends, first: &ActionHeads, n
 // The file is checked once.
 fn play_file(s: &[u8]) {
     match check(s) {
-        Checked::Refused(w) => tell_refusal(w),
+        Checked::Refused(w) => refuse_set(s, w),
         Checked::Accepted(shape) => {
             let empty = [256u16; PRIORITIES];
             let mut rows = [empty; STATES];

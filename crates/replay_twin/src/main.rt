@@ -10,6 +10,7 @@ use automata_files::check;
 use automata_steps::index::index_of;
 use libc::STDIN_FILENO;
 use machines::answers::Ending;
+use messages::files::refuse_table;
 use messages::input::Form;
 use messages::input::argument;
 use messages::input::arguments;
@@ -106,7 +107,7 @@ fn play(s: &[u8], shape: Shape, first: &TableHeads, next: &[u16])
 // The file is checked once.
 fn play_file(s: &[u8]) {
     match check(s) {
-        Checked::Refused(w) => tell_refusal(w),
+        Checked::Refused(w) => refuse_table(s, w),
         Checked::Accepted(shape) => {
             let mut first = [65535u16; TABLE_KEYS];
             let mut next = [65535u16; TABLE_RECORDS];

@@ -1,6 +1,6 @@
 //! Writes calls of the programs `check_file`, `lead_back`, `list`, `replay_twin` and `translate`: of each its arguments, its files, standard
-//! input, and what the program is to print and to write, with what its message on standard error starts with and the exit
-//! status. The first argument is the folder that gets a folder for each program, and in that one for each call. Written are
+//! input, and what the program is to print and to write, with what its message on standard error starts with, what that says of
+//! a file of the wrong kind, and the exit status. The first argument is the folder that gets a folder for each program, and in that one for each call. Written are
 //! the stored calls; with a second argument, so many generated ones of each kind of file.
 
 use simulator::assemble::*;
@@ -39,10 +39,19 @@ struct Expected {
     status: u8,
 }
 
-/// A program: its name, the words that it is called with, the names of its first file and of its path, and what it does.
+/// What a program wants its first file to be.
+enum Wanted {
+    Set,
+    Table,
+    Either,
+}
+
+/// A program: its name, the words that it is called with, what it wants its first file to be, the names of that and of its
+/// path, and what it does.
 struct Program {
     name: &'static str,
     words: &'static [&'static str],
+    wanted: Wanted,
     file: &'static str,
     input: &'static str,
     answer: fn(&[u8], &[u8]) -> Expected,
@@ -52,6 +61,7 @@ const PROGRAMS: [Program; 5] = [
     Program {
         name: "check_file",
         words: &["file.bin"],
+        wanted: Wanted::Either,
         file: "file.bin",
         input: "input.bin",
         answer: checked,
@@ -59,14 +69,23 @@ const PROGRAMS: [Program; 5] = [
     Program {
         name: "lead_back",
         words: &["set.bin", "path.bin"],
+        wanted: Wanted::Set,
         file: "set.bin",
         input: "path.bin",
         answer: led_back,
     },
-    Program { name: "list", words: &["file.bin"], file: "file.bin", input: "input.bin", answer: listed },
+    Program {
+        name: "list",
+        words: &["file.bin"],
+        wanted: Wanted::Either,
+        file: "file.bin",
+        input: "input.bin",
+        answer: listed,
+    },
     Program {
         name: "replay_twin",
         words: &["twin.bin"],
+        wanted: Wanted::Table,
         file: "twin.bin",
         input: "input.bin",
         answer: twin_replayed,
@@ -74,6 +93,7 @@ const PROGRAMS: [Program; 5] = [
     Program {
         name: "translate",
         words: &["set.bin", "twin.bin"],
+        wanted: Wanted::Set,
         file: "set.bin",
         input: "input.bin",
         answer: translated,
@@ -159,6 +179,11 @@ fn damaged(at: usize, byte: u8) -> Vec<u8> {
     set
 }
 
+/// Text, which is neither a set nor a table.
+fn text(len: usize) -> Vec<u8> {
+    b"neither a chart set nor a table ".iter().copied().cycle().take(len).collect()
+}
+
 /// The same calls for every program, with an input that each takes.
 fn common(input: &[u8]) -> Vec<Call> {
     vec![
@@ -167,6 +192,9 @@ fn common(input: &[u8]) -> Vec<Call> {
         call("empty_set", Vec::new(), input),
         call("refused_set", equal_priorities(), input),
         call("oversized_set", charts_of(LARGEST + 16), input),
+        call("text", text(64), input),
+        call("text_of_odd_length", text(45), input),
+        call("zeros", vec![0; 32], input),
     ]
 }
 
@@ -188,6 +216,11 @@ fn damaged_twin(at: usize, byte: u8) -> Vec<u8> {
 
 fn masks(list: &[u32]) -> Vec<u8> {
     list.iter().flat_map(|mask| mask.to_le_bytes()).collect()
+}
+
+/// Longer than what the programs read at once.
+fn long_table() -> Vec<u8> {
+    [33].into_iter().chain([0; 15]).cycle().take(LONG + 5).collect()
 }
 
 fn check_calls() -> Vec<Call> {
@@ -214,7 +247,8 @@ fn check_calls() -> Vec<Call> {
             ("table_stray_byte", damaged_twin(15, 1)),
             ("table_code", damaged_twin(4 * 16 + 6, 2)),
             ("table_named_nothing", damaged_twin(2, 3)),
-            ("long_table", [33].into_iter().chain([0; 15]).cycle().take(LONG + 5).collect()),
+            ("long_table", long_table()),
+            ("long_text", text(LONG + 64)),
         ]
         .map(|(name, file)| call(name, file, &[])),
     );
@@ -239,6 +273,7 @@ fn path_calls() -> Vec<Call> {
         .map(|(name, path)| call(name, chart_sets::zero_watch(), &path)),
     );
     calls.push(call("relay", chart_sets::relay(), &path(&relay)));
+    calls.push(call("a_table", twin_of(&chart_sets::zero_watch()), &path(&watched)));
     calls.push(call("broken_and_refused", equal_priorities(), &path(&[9])));
     calls
 }
@@ -289,6 +324,8 @@ fn list_calls() -> Vec<Call> {
             ("empty_set", Vec::new()),
             ("refused_set", equal_priorities()),
             ("oversized_set", charts_of(LARGEST + 16)),
+            ("text", text(64)),
+            ("zeros", vec![0; 32]),
             ("unordered", damaged(0, 7)),
             ("stray_byte", damaged(15, 1)),
             ("code", damaged(4 * 16 + 1, 17)),
@@ -307,6 +344,10 @@ fn twin_calls() -> Vec<Call> {
         call("no_masks", twin_of(&chart_sets::zero_watch()), &[]),
         call("partial_mask", twin_of(&chart_sets::zero_watch()), &with_rest(watched.clone(), &[1, 0, 0])),
         call("a_set", chart_sets::zero_watch(), &watched),
+        call("empty_table", Vec::new(), &watched),
+        call("text", text(64), &watched),
+        call("zeros", vec![0; 32], &watched),
+        call("long_set", charts_of(LONG + 5), &watched),
         call("refused_table", damaged_twin(2, 3), &watched),
         call("none_open", damaged_twin(4 * 16 + 2, 1), &watched),
         call("two_open", damaged_twin(16 * 16 + 1, 1), &watched),
@@ -325,6 +366,9 @@ fn translate_calls() -> Vec<Call> {
             ("winch", chart_sets::winch()),
             ("relay", chart_sets::relay()),
             ("action_order", chart_sets::action_order()),
+            ("a_table", twin_of(&chart_sets::zero_watch())),
+            ("long_table", long_table()),
+            ("long_text", text(LONG + 64)),
         ]
         .map(|(name, set)| call(name, set, &[])),
     );
@@ -348,6 +392,17 @@ fn table_counts(table: &[u8]) -> String {
 /// A table by its first record's kind, else a set.
 fn is_table(file: &[u8]) -> bool {
     file.first().is_some_and(|kind| *kind >= 33)
+}
+
+/// What is said behind the refusal of a file that is not of the kind that is wanted, by its first byte.
+fn note(file: &[u8], wanted: &Wanted) -> &'static str {
+    match (file.first(), wanted) {
+        (None, _) => "the file is empty",
+        (Some(33..=41), Wanted::Set) => "an automata table: replay-twin plays it, check and list read it",
+        (Some(1..=6), Wanted::Table) => "a chart set: replay plays it, translate makes its twin",
+        (Some(1..=6 | 33..=41), _) => "",
+        _ => "neither a chart set nor an automata table",
+    }
 }
 
 /// What is printed of a file that is accepted; else its refusal.
@@ -437,7 +492,14 @@ fn write_call(folder: &Path, program: &Program, file: &Option<Vec<u8>>, input: &
         None => Expected::unread(program.file),
         Some(file) => (program.answer)(file, input),
     };
+    let note = match file {
+        Some(file) if expected.status == 1 => note(file, &program.wanted),
+        _ => "",
+    };
     fs::create_dir_all(folder)?;
+    if !note.is_empty() {
+        fs::write(folder.join("expected.note"), format!("{note}\n"))?;
+    }
     if let Some(file) = file {
         fs::write(folder.join(program.file), file)?;
     }

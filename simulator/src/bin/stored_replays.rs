@@ -1,5 +1,5 @@
 //! Writes the stored replays: of each a set, masks, and what the replay program is to print, with the number that
-//! its message on standard error starts with and the exit status. The first argument is the folder that gets a
+//! its message on standard error starts with, what that says of a file that is no set, and the exit status. The first argument is the folder that gets a
 //! folder for each.
 
 use simulator::assemble::*;
@@ -8,7 +8,9 @@ use simulator::deeds::Deed;
 use simulator::operators::*;
 use simulator::records::{ENTRY, EXIT, ON_TRANSITION};
 use simulator::replay::replay;
+use simulator::translation::twin;
 use simulator::variables::Variable;
+use simulator::ChartSet;
 use std::path::Path;
 use std::{env, fs, io};
 
@@ -150,7 +152,13 @@ fn sets() -> Vec<(&'static str, Vec<u8>, Vec<u8>)> {
         ("oversized_odd", charts_of(31_872 + 1), watched.clone()),
         ("long_set", charts_of(LONG), watched.clone()),
         ("long_odd", charts_of(LONG + 5), watched.clone()),
-        ("long_unordered", long_unordered(), watched),
+        ("long_unordered", long_unordered(), watched.clone()),
+        (
+            "a_table",
+            twin(&ChartSet::read(&chart_sets::zero_watch()).expect("an accepted set")),
+            watched.clone(),
+        ),
+        ("text", b"neither a chart set nor a table\n".to_vec(), watched),
     ]
 }
 
@@ -167,6 +175,16 @@ fn expected(set: &Option<Vec<u8>>, input: &[u8]) -> (String, String) {
             let played = replay(set, input);
             (played.lines, played.refusal.map_or(String::new(), |number| format!("{number}\n")))
         }
+    }
+}
+
+/// What is said behind the refusal of a file that is no set, by its first byte.
+fn note(set: &Option<Vec<u8>>) -> &'static str {
+    match set.as_ref().map(|set| set.first()) {
+        None | Some(Some(1..=6)) => "",
+        Some(None) => "the file is empty",
+        Some(Some(33..=41)) => "an automata table: replay-twin plays it, check and list read it",
+        Some(Some(_)) => "neither a chart set nor an automata table",
     }
 }
 
@@ -187,6 +205,9 @@ fn write_case(folder: &Path, set: &Option<Vec<u8>>, input: &[u8]) -> io::Result<
     }
     fs::write(folder.join("masks.bin"), input)?;
     fs::write(folder.join("expected.out"), lines)?;
+    if !note(set).is_empty() {
+        fs::write(folder.join("expected.note"), format!("{}\n", note(set)))?;
+    }
     fs::write(folder.join("expected.status"), expected_status(set, &message))?;
     fs::write(folder.join("expected.err"), message)
 }

@@ -12,8 +12,8 @@ path-back-requires c κs = search needs
 enum-known-w : tie.Need-enum-known-w
 enum-known-w c = search needs
 
-tell-refusal-requires : tie.Need-tell-refusal-requires
-tell-refusal-requires c κs = search needs
+refuse-set-requires : tie.Need-refuse-set-requires
+refuse-set-requires c κs = search needs
 
 enum-known-n : tie.Need-enum-known-n
 enum-known-n c = search needs
@@ -43,7 +43,7 @@ lead-spec =
     (tie.spec
     path-back-requires
     enum-known-w
-    tell-refusal-requires
+    refuse-set-requires
     enum-known-n
     print-rows-requires
     same-length

@@ -13,8 +13,8 @@ check-requires c κs = search needs
 enum-known-w : tie.Need-enum-known-w
 enum-known-w c = search needs
 
-tell-refusal-requires : tie.Need-tell-refusal-requires
-tell-refusal-requires c κs = search needs
+refuse-set-requires : tie.Need-refuse-set-requires
+refuse-set-requires c κs = search needs
 
 enum-known-shape : tie.Need-enum-known-shape
 enum-known-shape c = search needs
@@ -48,7 +48,7 @@ play-file-spec =
     (tie.spec
     check-requires
     enum-known-w
-    tell-refusal-requires
+    refuse-set-requires
     enum-known-shape
     fill-rows-requires
     fill-actions-requires

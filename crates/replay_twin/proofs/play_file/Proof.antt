@@ -14,8 +14,8 @@ check-requires c κs = search needs
 enum-known-w : tie.Need-enum-known-w
 enum-known-w c = search needs
 
-tell-refusal-requires : tie.Need-tell-refusal-requires
-tell-refusal-requires c κs = search needs
+refuse-table-requires : tie.Need-refuse-table-requires
+refuse-table-requires c κs = search needs
 
 enum-known-shape : tie.Need-enum-known-shape
 enum-known-shape c = search needs
@@ -49,7 +49,7 @@ play-file-spec =
     (tie.spec
     check-requires
     enum-known-w
-    tell-refusal-requires
+    refuse-table-requires
     enum-known-shape
     slice-aggregate-index-of
     index-of-requires

@@ -14,8 +14,8 @@ translate-requires c κs = search needs
 enum-known-w : tie.Need-enum-known-w
 enum-known-w c = search needs
 
-tell-refusal-requires : tie.Need-tell-refusal-requires
-tell-refusal-requires c κs = search needs
+refuse-set-requires : tie.Need-refuse-set-requires
+refuse-set-requires c κs = search needs
 
 enum-known-n : tie.Need-enum-known-n
 enum-known-n c = search needs
@@ -55,7 +55,7 @@ translate-into-spec =
     (tie.spec
     translate-requires
     enum-known-w
-    tell-refusal-requires
+    refuse-set-requires
     enum-known-n
     slice-reshare-prefix-write-twin
     slice-aggregate-write-twin

@@ -6,10 +6,10 @@ use Rattle.messages.proofs.input.refuse_long.Statement.{statement}
 use Rattle.messages.proofs.input.refuse_long.Tie as tie
 
 abbrev Inv-loop : tie.InvT-loop
-Inv-loop fd name buf₀ kind₀ left₀ buf kind left = length buf ≡ length buf₀
+Inv-loop fd name form seen buf₀ kind₀ left₀ buf kind left = length buf ≡ length buf₀
 
 abbrev μ-loop : tie.MeasureT-loop
-μ-loop fd name buf₀ kind₀ left₀ buf kind left = left
+μ-loop fd name form seen buf₀ kind₀ left₀ buf kind left = left
 
 last-kind-requires : tie.Need-last-kind-requires Inv-loop μ-loop
 last-kind-requires c κs = search needs
@@ -32,8 +32,8 @@ returns c = search needs
 long-refusal-requires : tie.Need-long-refusal-requires Inv-loop μ-loop
 long-refusal-requires c κs = search needs
 
-tell-refusal-requires : tie.Need-tell-refusal-requires Inv-loop μ-loop
-tell-refusal-requires c κs = search needs
+tell-file-requires : tie.Need-tell-file-requires Inv-loop μ-loop
+tell-file-requires c κs = search needs
 
 same-length-2 : tie.Need-same-length-2 Inv-loop μ-loop
 same-length-2 c = search needs
@@ -69,7 +69,7 @@ refuse-long-spec =
     same-length
     returns
     long-refusal-requires
-    tell-refusal-requires
+    tell-file-requires
     same-length-2
     returns-2
     sub-left
