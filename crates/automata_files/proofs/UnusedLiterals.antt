@@ -9,8 +9,8 @@ use lib.Dec.{leb, ltb, eqb}
 use Rattle.prelude.specs.Lists.{caseOf}
 use Rattle.prelude.proofs.Loops.{and-one}
 use Rattle.model.specs.ChartFile.{zeroBytes, unusedAreZero}
-use Rattle.chart_files.proofs.RecordLoops.{unused-one, unused-two}
-use Rattle.chart_files.proofs.UnusedWords.{joined}
+use Rattle.record_tests.proofs.RecordLoops.{unused-one, unused-two}
+use Rattle.record_tests.proofs.UnusedWords.{joined}
 
 abbrev literalRanges : List (ℕ × List (ℕ × ℕ))
 literalRanges = (0, (5, 7) ∷ []) ∷ (1, (6, 7) ∷ []) ∷ (2, (5, 5) ∷ []) ∷ []

@@ -5,9 +5,9 @@ ghost use mathlib.Core.List.{[], _∷_};
 ghost use Rattle.prelude.specs.Lists.{caseOf};
 ghost use Rattle.model.specs.ChartFile.{isEvent};
 ghost use Rattle.model.specs.AutomataFile.{literalInCode, tableInCode};
-use chart_files::codes::deed_in_code;
-use chart_files::codes::node_in_code;
-use chart_files::codes::variable_in_code;
+use record_tests::codes::deed_in_code;
+use record_tests::codes::node_in_code;
+use record_tests::codes::variable_in_code;
 use records::byte_at;
 use records::sizes::LAST_EVENT;
 

@@ -4,12 +4,12 @@ ghost use Prim.Native.Nat.{_≤_};
 ghost use lib.ListN.{length};
 ghost use Rattle.model.specs.ChartFile.{unusedAreZero};
 ghost use Rattle.model.specs.AutomataFile.{unusedLiteral, unusedUpdate, unusedInTable};
-use chart_files::unused::byte_zero;
-use chart_files::unused::four_zero;
-use chart_files::unused::from_eight_zero;
-use chart_files::unused::from_four_zero;
-use chart_files::unused::node_clean;
-use chart_files::unused::two_zero;
+use record_tests::unused::byte_zero;
+use record_tests::unused::four_zero;
+use record_tests::unused::from_eight_zero;
+use record_tests::unused::from_four_zero;
+use record_tests::unused::node_clean;
+use record_tests::unused::two_zero;
 use records::byte_at;
 
 // An event stands at 5, a clock at 6. An unknown code leaves none unused.

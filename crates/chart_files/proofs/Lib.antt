@@ -1,8 +1,6 @@
 -- What the proofs of several functions use, and the laws that crates above cite.
 pub mod Places
 pub mod PlacesRead
-pub mod RecordLoops
-pub mod UnusedWords
 pub mod NamesFramed
 pub mod StructureInitials
 pub mod Tallies

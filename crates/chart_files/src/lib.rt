@@ -5,18 +5,17 @@ ghost use Rattle.records.specs.Bytes.{records};
 ghost use Rattle.model.specs.ChartFile.{unused, unusedAreZero, inCode};
 ghost use Rattle.chart_files.specs.Shape.{IsShape, IsShaped, IsChecked};
 
-pub mod codes;
 pub mod fields;
 pub mod names;
 pub mod structure;
 pub mod timing;
-pub mod unused;
 pub mod uses;
 
-use codes::in_code;
 use expressions::sorts::test_nodes;
 use fields::node_records;
 use names::all_named;
+use record_tests::codes::in_code;
+use record_tests::unused::record_clean;
 use records::Framing;
 use records::frame_of;
 use records::refusals::Refusal;
@@ -24,7 +23,6 @@ use records::sizes::NODES;
 use records::sizes::SET_LIMITS;
 use structure::structured;
 use timing::all_ticking;
-use unused::record_clean;
 use uses::nodes_fit;
 
 // How many records a framed chart file has of each kind, from kind 1 on.

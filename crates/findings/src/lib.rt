@@ -45,8 +45,8 @@ fn passes(rule: Rule, r: &[u8]) -> bool
     let kind = byte_at(r, 0);
     match rule {
         Rule::SetKinds => (1 <= kind) & (kind <= 6),
-        Rule::SetBytes => chart_files::unused::record_clean(r),
-        Rule::SetCodes => chart_files::codes::in_code(r),
+        Rule::SetBytes => record_tests::unused::record_clean(r),
+        Rule::SetCodes => record_tests::codes::in_code(r),
         Rule::SetTicks => ticks(r),
         Rule::TableKinds => (33 <= kind) & (kind <= 41),
         Rule::TableBytes => automata_files::unused::record_clean(r),

@@ -16,7 +16,7 @@ use Rattle.records.proofs.Records.{recordAt, getD-records, length-records}
 use Rattle.prelude.proofs.Counts.{count-le}
 use Rattle.records.proofs.FramingLaws.{kind-record}
 use Rattle.prelude.proofs.Numbers.{count-append}
-use Rattle.list.specs.Listing.{numberOf}
+use Rattle.listing.specs.Listing.{numberOf}
 
 pub number-le : (s : List ℕ) (k n : ℕ) → numberOf s k n ≤ n
 number-le s k n = omega (arith, count-le (λ r. eqb (kind r) k) (take n (records s)), length-take n (records s))

@@ -6,7 +6,7 @@ use Prim.Native.Nat.{ℕ, _-_, _/_}
 use lib.ListN.{length}
 use Rattle.model.specs.ChartFile.{unusedAreZero}
 use Rattle.model.specs.AutomataFile.{unusedInTable, tableInCode}
-use Rattle.chart_files.proofs.RecordLoops.{part-is, part-long, Flagged, flagged-none, flagged-more, flagged-all}
+use Rattle.record_tests.proofs.RecordLoops.{part-is, part-long, Flagged, flagged-none, flagged-more, flagged-all}
 use borrow.Author.Needs.{needs}
 use Rattle.automata_files.proofs.all_sound.Statement.{statement}
 use Rattle.automata_files.proofs.all_sound.Tie as tie

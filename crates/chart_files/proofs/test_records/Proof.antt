@@ -5,7 +5,7 @@ use mathlib.Core.List.{List}
 use Prim.Native.Nat.{ℕ, _-_, _/_}
 use lib.ListN.{length}
 use Rattle.model.specs.ChartFile.{unused, unusedAreZero, inCode}
-use Rattle.chart_files.proofs.RecordLoops.{part-is, part-long, Flagged, flagged-none, flagged-more, flagged-all}
+use Rattle.record_tests.proofs.RecordLoops.{part-is, part-long, Flagged, flagged-none, flagged-more, flagged-all}
 use borrow.Author.Needs.{needs}
 use Rattle.chart_files.proofs.test_records.Statement.{statement}
 use Rattle.chart_files.proofs.test_records.Tie as tie

@@ -2,16 +2,17 @@
 use Prim.Native.Nat.{_*_, _-_, _≤_, _<_}
 use native.Mathlib.Omega.{arith}
 use borrow.Author.Needs.{needs}
+use Rattle.model.specs.Limits.{tableRecords}
 use Rattle.records.specs.Bytes.{byte}
 use Rattle.list.proofs.Counting.{Counted, counted-none, counted-more, number-le}
 use Rattle.list.proofs.list.Statement.{statement}
 use Rattle.list.proofs.list.Tie as tie
 
 abbrev Inv-loop : tie.InvT-loop
-Inv-loop s counts₀ n₀ counts n = (n ≤ 16384) × Counted s n counts
+Inv-loop s counts₀ n₀ counts n = (n ≤ tableRecords) × Counted s n counts
 
 abbrev μ-loop : tie.MeasureT-loop
-μ-loop s counts₀ n₀ counts n = 16384 - n
+μ-loop s counts₀ n₀ counts n = tableRecords - n
 
 -- a byte is below 256
 low : (c : tie.After-shared-slice-known2 Inv-loop μ-loop) → byte (c .before .before .before .before .before .args .s .now) (16 * c .before .before .before .loop .n) < 256

@@ -25,20 +25,25 @@ every-new d age h = sym (ap (λ b. cond b 0 ((age - 1) % d + 1)) (eq-eqb age 0 h
 every-old : (d age : ℕ) → (age ≡ 0 → ⊥) → (age - 1) % d + 1 ≡ clockFor every d age
 every-old d age h = sym (ap (λ b. cond b 0 ((age - 1) % d + 1)) (ne-eqb age 0 h))
 
-add-top : tie.Need-add-top
-add-top c = search needs
+top-requires : tie.Need-top-requires
+top-requires c κs = search needs
+
+-- an after-clock's top
+high : (c : tie.After-top) → let a = c .before .before .args in c .top .result ≡ top after (a .ticks)
+high c = c .top .ensures ∙ ap (λ b. top (timingIf b) (c .before .before .args .ticks)) (c .before .if1 .taken)
 
 returns : tie.Need-returns
 returns c =
-    let a = c .before .before .args in
-    after-young (a .ticks) (a .age) (omega arith)
-    ∙ ap (λ b. clockFor (timingIf b) (a .ticks) (a .age)) (sym (c .before .if1 .taken))
+    let a = c .before .before .before .args in
+    after-young (a .ticks) (a .age) (omega (arith, c .if2 .taken, high (c .before)))
+    ∙ ap (λ b. clockFor (timingIf b) (a .ticks) (a .age)) (sym (c .before .before .if1 .taken))
 
 returns-2 : tie.Need-returns-2
 returns-2 c =
-    let a = c .before .before .args in
-    after-old (a .ticks) (a .age) (omega arith)
-    ∙ ap (λ b. clockFor (timingIf b) (a .ticks) (a .age)) (sym (c .before .if1 .taken))
+    let a = c .before .before .before .args in
+    high (c .before)
+    ∙ after-old (a .ticks) (a .age) (omega (arith, c .if2 .left, high (c .before)))
+    ∙ ap (λ b. clockFor (timingIf b) (a .ticks) (a .age)) (sym (c .before .before .if1 .taken))
 
 returns-3 : tie.Need-returns-3
 returns-3 c =
@@ -67,4 +72,4 @@ returns-4 c =
 pub clock-for-spec : {M : Type 1} → statement M
 clock-for-spec =
     tie.close
-    (tie.spec add-top returns returns-2 returns-3 sub-result rem-result add-result returns-4)
+    (tie.spec top-requires returns returns-2 returns-3 sub-result rem-result add-result returns-4)

@@ -4,7 +4,7 @@ use mathlib.Core.Bool.{_&&_, _||_}
 use native.Mathlib.Omega.{arith}
 use lib.Dec.{leb, ltb, eqb}
 use Rattle.records.specs.Bytes.{byte}
-use Rattle.chart_files.proofs.UnusedWords.{joined}
+use Rattle.record_tests.proofs.UnusedWords.{joined}
 use Rattle.automata_files.proofs.UnusedLiterals.{literal-unused}
 use borrow.Author.Needs.{needs}
 use Rattle.automata_files.proofs.unused.literal_clean.Statement.{statement}

@@ -8,8 +8,8 @@ use Rattle.prelude.specs.Lists.{all, caseOf}
 use Rattle.model.specs.ChartFile.{unusedVariable, unusedNode, unusedAreZero}
 use Rattle.model.specs.AutomataFile.{unusedLiteral, unusedUpdate}
 use Rattle.prelude.proofs.Maps.{entry}
-use Rattle.chart_files.proofs.RecordLoops.{unused-one, unused-two}
-use Rattle.chart_files.proofs.UnusedWords.{joined}
+use Rattle.record_tests.proofs.RecordLoops.{unused-one, unused-two}
+use Rattle.record_tests.proofs.UnusedWords.{joined}
 use borrow.Author.Needs.{needs}
 use Rattle.automata_files.proofs.unused.record_clean.Statement.{statement}
 use Rattle.automata_files.proofs.unused.record_clean.Tie as tie

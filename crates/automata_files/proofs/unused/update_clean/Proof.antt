@@ -4,7 +4,7 @@ use mathlib.Core.Bool.{not, _&&_, _||_}
 use lib.Dec.{eqb}
 use Rattle.prelude.specs.Lists.{all}
 use Rattle.records.specs.Bytes.{byte}
-use Rattle.chart_files.proofs.UnusedWords.{deed-unused}
+use Rattle.record_tests.proofs.UnusedWords.{deed-unused}
 use borrow.Author.Needs.{needs}
 use Rattle.automata_files.proofs.unused.update_clean.Statement.{statement}
 use Rattle.automata_files.proofs.unused.update_clean.Tie as tie

@@ -1,0 +1,77 @@
+// The lines of a chart set's records, without their ends.
+ghost use Prim.Native.Nat.{_<_, _^_};
+ghost use Rattle.records.specs.Bytes.{byte, two as twoBytes};
+ghost use Rattle.model.specs.ChartSet.{readTransition};
+ghost use Rattle.listing.specs.Parts.{WroteNear};
+ghost use Rattle.listing.specs.Sets.{chartText, stateText, triggerText, transitionText, ownerText, actionText};
+use super::fields::one;
+use super::fields::put_deed;
+use super::fields::put_guard;
+use super::fields::two;
+use super::texts::put_measured;
+use super::texts::put_named;
+use super::texts::put_word;
+use chart_files::fields::deed_by;
+use records::byte_at;
+use records::u16_at;
+use records::u32_at;
+
+pub fn put_chart(out: &mut [u8], i: u32, r: &[u8]) -> usize
+    ensures { λ n. ⌜ WroteNear 256 (now (out .entry)) 0 (chartText i (twoBytes (now (r .entry)) 2)) (now (out .exit)) n ⌝ }
+{
+    let next = put_named(out, 0, b"chart ", i);
+    put_named(out, next, b": initial state ", two(r, 2))
+}
+
+pub fn put_state(out: &mut [u8], i: u32, r: &[u8]) -> usize
+    ensures { λ n. ⌜ WroteNear 256 (now (out .entry)) 0 (stateText i (byte (now (r .entry)) 1)) (now (out .exit)) n ⌝ }
+{
+    let next = put_named(out, 0, b"state ", i);
+    put_named(out, next, b": chart ", one(r, 1))
+}
+
+fn put_trigger(out: &mut [u8], at: usize, r: &[u8]) -> usize
+    requires { ⌜ at < 2 ^ 18 ⌝ }
+    ensures { λ n. ⌜ WroteNear 52 (now (out .entry)) at (triggerText (readTransition (now (r .entry)) .trigger)) (now (out .exit)) n ⌝ }
+{
+    match byte_at(r, 6) {
+        1 => put_named(out, at, b", event ", one(r, 7)),
+        2 => put_measured(out, at, b", after ", u32_at(r, 8), b" ms"),
+        3 => put_measured(out, at, b", every ", u32_at(r, 8), b" ms"),
+        _ => put_word(out, at, b", always"),
+    }
+}
+
+pub fn put_transition(out: &mut [u8], i: u32, r: &[u8]) -> usize
+    ensures { λ n. ⌜ WroteNear 256 (now (out .entry)) 0 (transitionText i (readTransition (now (r .entry)))) (now (out .exit)) n ⌝ }
+{
+    let source = put_named(out, 0, b"transition ", i);
+    let target = put_named(out, source, b": state ", two(r, 2));
+    let priority = put_named(out, target, b" to state ", two(r, 4));
+    let trigger = put_named(out, priority, b", priority ", one(r, 1));
+    let guard = put_trigger(out, trigger, r);
+    put_guard(out, guard, u16_at(r, 12))
+}
+
+fn put_owner(out: &mut [u8], at: usize, r: &[u8]) -> usize
+    requires { ⌜ at < 2 ^ 18 ⌝ }
+    ensures { λ n. ⌜ WroteNear 32 (now (out .entry)) at (ownerText (byte (now (r .entry)) 1) (twoBytes (now (r .entry)) 2)) (now (out .exit)) n ⌝ }
+{
+    match byte_at(r, 1) {
+        1 => put_named(out, at, b": entry of state ", two(r, 2)),
+        2 => put_named(out, at, b": exit of state ", two(r, 2)),
+        _ => put_named(out, at, b": transition ", two(r, 2)),
+    }
+}
+
+pub fn put_action(out: &mut [u8], i: u32, r: &[u8]) -> usize
+    ensures { λ n. ⌜ WroteNear 256 (now (out .entry)) 0 (actionText i (now (r .entry))) (now (out .exit)) n ⌝ }
+{
+    let owner = put_named(out, 0, b"action ", i);
+    let deed = put_owner(out, owner, r);
+    put_deed(
+        out,
+        deed,
+        deed_by(byte_at(r, 4), byte_at(r, 5), u16_at(r, 6)),
+    )
+}

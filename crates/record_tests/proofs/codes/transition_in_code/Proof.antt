@@ -1,0 +1,46 @@
+-- `codes::transition_in_code` meets its contract: its fields are those of the record. Assumes nothing.
+use mathlib.Core.Path.{_∙_}
+use mathlib.Core.Bool.{true, _&&_}
+use mathlib.Core.List.{[], _∷_}
+use lib.Dec.{leb}
+use Rattle.prelude.specs.Lists.{caseOf}
+use Rattle.model.specs.ChartFile.{isEvent, isDuration}
+use borrow.Author.Needs.{needs}
+use Rattle.record_tests.proofs.codes.transition_in_code.Statement.{statement}
+use Rattle.record_tests.proofs.codes.transition_in_code.Tie as tie
+
+byte-at-requires : tie.Need-byte-at-requires
+byte-at-requires c κs = search needs
+
+byte-at-requires-2 : tie.Need-byte-at-requires-2
+byte-at-requires-2 c κs = search needs
+
+byte-at-requires-3 : tie.Need-byte-at-requires-3
+byte-at-requires-3 c κs = search needs
+
+u32-at-requires : tie.Need-u32-at-requires
+u32-at-requires c κs = search needs
+
+trigger-in-code-requires : tie.Need-trigger-in-code-requires
+trigger-in-code-requires c κs = search needs
+
+returns : tie.Need-returns
+returns c =
+    let p = c .before .before .before .before .byte-at .ensures in
+    let k = c .before .before .before .byte-at2 .ensures in
+    let e = c .before .before .byte-at3 .ensures in
+    let ms = c .before .u32-at .ensures in
+    λ i.
+    ((leb 1 (p i) && leb (p i) 16) && leb (k i) 3)
+    && (c .trigger-in-code .ensures ∙ (λ j. caseOf (k j) ((1, isEvent (e j)) ∷ (2, isDuration (ms j)) ∷ (3, isDuration (ms j)) ∷ []) true)) i
+
+pub transition-in-code-spec : {M : Type 1} → statement M
+transition-in-code-spec =
+    tie.close
+    (tie.spec
+    byte-at-requires
+    byte-at-requires-2
+    byte-at-requires-3
+    u32-at-requires
+    trigger-in-code-requires
+    returns)
