@@ -1,6 +1,7 @@
 // Whether a set's run and its twin's are alike.
 ghost use mathlib.Core.Path.{_≡_};
 ghost use Prim.Native.Nat.{_≤_, _<_};
+ghost use Rattle.model.specs.Limits.{mostCharts};
 ghost use Rattle.model.specs.Correspondence.{clockFor};
 ghost use Rattle.automata_steps.specs.Accepted.{Accepted};
 ghost use Rattle.timings.specs.Growth.{timingIf};
@@ -42,7 +43,7 @@ fn variables_alike(variables: Variables, others: Variables) -> bool
 }
 
 fn places_alike(charts: u16, states: Places, locations: Places) -> bool
-    requires { ⌜ charts ≤ 8 ⌝ }
+    requires { ⌜ charts ≤ mostCharts ⌝ }
     ensures { λ r. ⌜ r ≡ placesAlike charts states locations ⌝ }
 {
     let mut c: u16 = 0;

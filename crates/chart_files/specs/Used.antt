@@ -3,6 +3,7 @@ use mathlib.Core.Bool.{Bool}
 use mathlib.Core.List.{List}
 use Prim.Native.Nat.{ℕ}
 use lib.ListN.{replicate}
+use Rattle.model.specs.Limits.{mostNodes}
 use Rattle.prelude.specs.Lists.{all, gather, upto}
 use Rattle.expressions.specs.Nodes.{Node, nodeAt}
 use Rattle.expressions.specs.Sorts.{sortOf, isNumber, isTruth}
@@ -30,7 +31,7 @@ module _ (s : List ℕ) (sh : Shape) where
   assignedUse = gather assignedAt (upto (sh .actions))
 
   abbrev pub allUses : List ℕ
-  allUses = addUses (addUses (addUses (replicate 1024 0) operandUse) guardUse) assignedUse
+  allUses = addUses (addUses (addUses (replicate mostNodes 0) operandUse) guardUse) assignedUse
 
 module _ (node : ℕ → Node) where
   abbrev pub truths : List ℕ → Bool

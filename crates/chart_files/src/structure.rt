@@ -5,6 +5,7 @@ ghost use mathlib.Core.List.{map, _++_};
 ghost use Prim.Native.Nat.{_+_, _*_, _≤_, _<_};
 ghost use lib.Dec.{ltb};
 ghost use lib.ListN.{length, getD};
+ghost use Rattle.model.specs.Limits.{mostOwned};
 ghost use Rattle.prelude.specs.Lists.{all, upto};
 ghost use Rattle.records.specs.Bytes.{records};
 ghost use Rattle.expressions.specs.Uses.{addUses};
@@ -267,7 +268,7 @@ fn owner_at(s: &[u8], shape: Shape, i: u16) -> usize
 
 // No owner comes more than eight times, from what is counted on.
 fn owners_within(s: &[u8], shape: Shape, counts: &mut [u8]) -> bool
-    ensures { λ r. ⌜ (r ≡ noneAbove 8 (now (counts .entry)) (map (ownerAt (now (s .entry)) shape) (upto (shape .actions)))) × (now (counts .exit) ≡ tally 8 (now (counts .entry)) (map (ownerAt (now (s .entry)) shape) (upto (shape .actions)))) ⌝ }
+    ensures { λ r. ⌜ (r ≡ noneAbove mostOwned (now (counts .entry)) (map (ownerAt (now (s .entry)) shape) (upto (shape .actions)))) × (now (counts .exit) ≡ tally mostOwned (now (counts .entry)) (map (ownerAt (now (s .entry)) shape) (upto (shape .actions)))) ⌝ }
 {
     let n = shape.actions;
     let mut i = 0;

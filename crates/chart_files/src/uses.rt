@@ -4,6 +4,7 @@ ghost use mathlib.Core.Bool.{true};
 ghost use Prim.Native.Nat.{_≤_};
 ghost use lib.Dec.{eqb};
 ghost use lib.ListN.{length, getD, replicate};
+ghost use Rattle.model.specs.Limits.{mostNodes};
 ghost use Rattle.prelude.specs.Lists.{all, upto};
 ghost use Rattle.records.specs.Bytes.{records};
 ghost use Rattle.expressions.specs.Nodes.{nodeOf, nodeAt};
@@ -129,7 +130,7 @@ fn all_once(uses: &[u8], size: u16) -> bool
 
 // Of a framed file whose codes and ranges are kept, by what `test_nodes` found of its nodes; `uses` has those as operands.
 pub fn nodes_fit(s: &[u8], shape: Shape, found: u8, uses: &mut [u8]) -> bool
-    requires { ⌜ IsShape (now s) shape × (all file.inCode (records (now s)) ≡ true) × (found ≡ verdictOf (nodeAt (nodePart (now s) shape)) (shape .nodes) (shape .variables)) × (now uses ≡ addUses (replicate 1024 0) (operandUse (now s) shape)) ⌝ }
+    requires { ⌜ IsShape (now s) shape × (all file.inCode (records (now s)) ≡ true) × (found ≡ verdictOf (nodeAt (nodePart (now s) shape)) (shape .nodes) (shape .variables)) × (now uses ≡ addUses (replicate mostNodes 0) (operandUse (now s) shape)) ⌝ }
     ensures { λ r. ⌜ (r ≡ file.nodesFit (readCharts (now (s .entry)))) × (now (uses .exit) ≡ allUses (now (s .entry)) shape) ⌝ }
 {
     let guards = guards_fit(s, shape, uses);

@@ -3,9 +3,10 @@ use mathlib.Core.Path.{_≡_}
 use mathlib.Core.Logic.{_⊎_}
 use mathlib.Core.Bool.{Bool, cond, _&&_}
 use mathlib.Core.List.{List, [], _∷_, map}
-use Prim.Native.Nat.{ℕ, _+_, _-_, _≤_, _<_, min, max}
+use Prim.Native.Nat.{ℕ, _+_, _*_, _-_, _≤_, _<_, min, max}
 use lib.Dec.{eqb}
 use lib.ListN.{length, getD}
+use Rattle.model.specs.Limits.{mostStates, mostTransitions, mostPriorities}
 use Rattle.prelude.specs.Lists.{keep, upto, caseOf}
 use Rattle.records.specs.Refusal.{Out, _>>=_}
 use Rattle.model.specs.Runs.{World, deeds}
@@ -30,7 +31,7 @@ rowEntry t = min 256 t
 
 -- "array of arrays, 128 rows of 16 transition numbers": a row for each state, with a place for each priority, 1 to 16, in order
 abbrev pub HasRows : ChartSet → List (List ℕ) → Type 0
-HasRows cs rows = (st j : ℕ) → st < 128 → j < 16 → getD (getD rows st []) j 0 ≡ rowEntry (slotAt cs st (j + 1))
+HasRows cs rows = (st j : ℕ) → st < mostStates → j < mostPriorities → getD (getD rows st []) j 0 ≡ rowEntry (slotAt cs st (j + 1))
 
 unfoldable pub highest : (ℕ → ℕ) → List ℕ → ℕ
 highest f [] = 0
@@ -42,15 +43,25 @@ rowEnd cs st = highest (λ u. cond (eqb (transition cs u .source) st) (transitio
 
 -- of each row its end: no place from there on names a transition
 pub record HasEnds (cs : ChartSet) (rows : List (List ℕ)) (ends : List ℕ) : Type 0 where
-  pub exact : (st : ℕ) → st < 128 → getD ends st 0 ≡ rowEnd cs st
-  pub short : (st : ℕ) → st < 128 → getD ends st 0 ≤ 16
-  pub empty : (st j : ℕ) → st < 128 → getD ends st 0 ≤ j → j < 16 → getD (getD rows st []) j 0 ≡ 256
+  pub exact : (st : ℕ) → st < mostStates → getD ends st 0 ≡ rowEnd cs st
+  pub short : (st : ℕ) → st < mostStates → getD ends st 0 ≤ mostPriorities
+  pub empty : (st j : ℕ) → st < mostStates → getD ends st 0 ≤ j → j < mostPriorities → getD (getD rows st []) j 0 ≡ 256
 
 -- ---- actions
 
--- An action's key: of a state's entry the state's number, of its exit 128 more, of a transition 256 more.
+-- where the keys of exit actions begin, and those of transitions; how many keys there are
+abbrev pub exitKeys : ℕ
+exitKeys = mostStates
+
+abbrev pub crossingKeys : ℕ
+crossingKeys = 2 * mostStates
+
+abbrev pub actionKeys : ℕ
+actionKeys = 2 * mostStates + mostTransitions
+
+-- An action's key: of a state's entry the state's number, of its exit `exitKeys` more, of a transition `crossingKeys` more.
 abbrev pub keyFor : ℕ → ℕ → ℕ
-keyFor place owner = caseOf place ((2, 128 + owner) ∷ (3, 256 + owner) ∷ []) owner
+keyFor place owner = caseOf place ((2, exitKeys + owner) ∷ (3, crossingKeys + owner) ∷ []) owner
 
 abbrev pub keyAt : List ℕ → Shape → ℕ → ℕ
 keyAt s sh a = keyFor (placeAt s sh a) (actionAt s sh a .0)
@@ -68,9 +79,9 @@ deedsOfThree s sh leaving crossing entering w = deedsOf s sh leaving w >>= λ w�
 
 -- of each key its first action, and of each action the next of its key
 pub record HasActions (s : List ℕ) (sh : Shape) (first next : List ℕ) : Type 0 where
-  pub first-of : (key : ℕ) → key < 512 → getD first key 0 ≡ earliest (keyed s sh key) 0 (sh .actions)
+  pub first-of : (key : ℕ) → key < actionKeys → getD first key 0 ≡ earliest (keyed s sh key) 0 (sh .actions)
   pub next-of : (a : ℕ) → a < sh .actions → getD next a 0 ≡ earliest (keyed s sh (keyAt s sh a)) (a + 1) (sh .actions - (a + 1))
 
 -- owners that a key can tell apart: of so many states and transitions
 abbrev pub KeyedOwner : ℕ → ℕ → Type 0
-KeyedOwner place owner = ((place ≡ 1) × (owner < 128)) ⊎ (((place ≡ 2) × (owner < 128)) ⊎ ((place ≡ 3) × (owner < 256)))
+KeyedOwner place owner = ((place ≡ 1) × (owner < mostStates)) ⊎ (((place ≡ 2) × (owner < mostStates)) ⊎ ((place ≡ 3) × (owner < mostTransitions)))

@@ -2,7 +2,7 @@
 ghost use mathlib.Core.Path.{_≡_};
 ghost use Prim.Native.Nat.{_<_};
 ghost use Rattle.chart_steps.specs.Accepted.{Accepted};
-ghost use Rattle.chart_steps.specs.Tables.{keyFor, keyAt, KeyedOwner};
+ghost use Rattle.chart_steps.specs.Tables.{keyFor, keyAt, KeyedOwner, actionKeys};
 use chart_files::Shape;
 use chart_files::fields::owner_of;
 use chart_files::fields::place_of;
@@ -22,7 +22,7 @@ fn key_for(place: u8, owner: u16) -> u16
 
 pub fn key_of(s: &[u8], shape: Shape, a: u16) -> u16
     requires { ⌜ Accepted (now s) shape × (a < shape .actions) ⌝ }
-    ensures { λ r. ⌜ (r ≡ keyAt (now (s .entry)) shape a) × (r < 512) ⌝ }
+    ensures { λ r. ⌜ (r ≡ keyAt (now (s .entry)) shape a) × (r < actionKeys) ⌝ }
 {
     key_for(place_of(s, shape, a), owner_of(s, shape, a))
 }

@@ -6,7 +6,7 @@ ghost use Rattle.model.specs.ChartSet.{readCharts};
 ghost use Rattle.chart_files.specs.Places.{firstAction, actionAt};
 ghost use Rattle.machines.specs.Worlds.{worldIn, worldBy, IsCode};
 ghost use Rattle.chart_steps.specs.Accepted.{Accepted};
-ghost use Rattle.chart_steps.specs.Tables.{HasActions, deedsOfThree};
+ghost use Rattle.chart_steps.specs.Tables.{HasActions, deedsOfThree, actionKeys};
 use super::values::values_of;
 use chart_files::Shape;
 use chart_files::fields::first_variable;
@@ -46,7 +46,7 @@ pub fn do_deeds(
     vars: &mut Variables,
     events: u32,
 ) -> u64
-    requires { ⌜ Accepted (now s) shape × HasActions (now s) shape (now first) (now next) × (leaving < 512) × (crossing < 512) × (entering < 512) ⌝ }
+    requires { ⌜ Accepted (now s) shape × HasActions (now s) shape (now first) (now next) × (leaving < actionKeys) × (crossing < actionKeys) × (entering < actionKeys) ⌝ }
     ensures { λ r. ⌜ ((p c : ℕ) → worldBy r (now (vars .exit)) p c ≡ deedsOfThree (now (s .entry)) shape leaving crossing entering (worldIn (now (vars .entry)) events p c)) × IsCode r ⌝ }
 {
     let mut present = events;

@@ -1,6 +1,7 @@
 // A chart's turn.
 ghost use mathlib.Core.Path.{_≡_};
 ghost use Prim.Native.Nat.{ℕ, _+_, _-_, _≤_, _<_};
+ghost use Rattle.model.specs.Limits.{mostCharts};
 ghost use Rattle.expressions.specs.Answers.{truthOf};
 ghost use Rattle.model.specs.Runs.{taken};
 ghost use Rattle.model.specs.ChartSet.{readCharts};
@@ -118,7 +119,7 @@ fn follow(
     vars: &mut Variables,
     events: u32,
 ) -> u64
-    requires { ⌜ Accepted (now s) shape × HasActions (now s) shape (now first) (now next) × (chart < 8) × (t < shape .transitions) ⌝ }
+    requires { ⌜ Accepted (now s) shape × HasActions (now s) shape (now first) (now next) × (chart < mostCharts) × (t < shape .transitions) ⌝ }
     ensures { λ r. ⌜ ((p c : ℕ) → movedBy r (taken t) (now (states .exit)) (now (ages .exit)) (now (vars .exit)) p c ≡ followed (readCharts (now (s .entry))) chart (runIn (now (states .entry)) (now (ages .entry)) (now (vars .entry)) events p c) (some t)) × IsCode r ⌝ }
 {
     let after = do_actions(s, shape, first, next, t, vars, events);

@@ -2,9 +2,10 @@
 ghost use mathlib.Core.Path.{_≡_};
 ghost use Prim.Native.Nat.{_+_, _<_, max};
 ghost use lib.ListN.{drop, replicate};
+ghost use Rattle.model.specs.Limits.{mostStates, mostActions, mostPriorities};
 ghost use Rattle.model.specs.ChartSet.{readCharts};
 ghost use Rattle.chart_steps.specs.Accepted.{Accepted};
-ghost use Rattle.chart_steps.specs.Tables.{HasRows, HasEnds, HasActions, slotAt};
+ghost use Rattle.chart_steps.specs.Tables.{HasRows, HasEnds, HasActions, slotAt, actionKeys};
 use super::actions::key_of;
 use super::transitions::source_of;
 use chart_files::Shape;
@@ -22,7 +23,7 @@ fn higher(a: u8, b: u8) -> u8
 
 // Of each state its leaving transitions, by priority, in rows of none, which is 256: a number of two unlike bytes is put by plain stores, and one of two like bytes by one instruction repeated for each byte. And the highest priority of each.
 pub fn fill_rows(s: &[u8], shape: Shape, rows: &mut Rows, ends: &mut Ends)
-    requires { ⌜ Accepted (now s) shape × (now rows ≡ replicate 128 (replicate 16 256)) × (now ends ≡ replicate 128 0) ⌝ }
+    requires { ⌜ Accepted (now s) shape × (now rows ≡ replicate mostStates (replicate mostPriorities 256)) × (now ends ≡ replicate mostStates 0) ⌝ }
     ensures { λ _. ⌜ HasRows (readCharts (now (s .entry))) (now (rows .exit)) × HasEnds (readCharts (now (s .entry))) (now (rows .exit)) (now (ends .exit)) ⌝ }
 {
     let mut t = shape.transitions;
@@ -38,7 +39,7 @@ pub fn fill_rows(s: &[u8], shape: Shape, rows: &mut Rows, ends: &mut Ends)
 
 // The transition at a place of a state's row; 65535 is none.
 pub fn slot_of(s: &[u8], shape: Shape, rows: &Rows, state: u16, place: usize) -> u16
-    requires { ⌜ Accepted (now s) shape × HasRows (readCharts (now s)) (now rows) × (state < shape .states) × (place < 16) ⌝ }
+    requires { ⌜ Accepted (now s) shape × HasRows (readCharts (now s)) (now rows) × (state < shape .states) × (place < mostPriorities) ⌝ }
     ensures { λ r. ⌜ r ≡ slotAt (readCharts (now (s .entry))) state (place + 1) ⌝ }
 {
     let i = state as usize;
@@ -48,7 +49,7 @@ pub fn slot_of(s: &[u8], shape: Shape, rows: &Rows, state: u16, place: usize) ->
 
 // From the last action down, so that each finds the one behind it.
 pub fn fill_actions(s: &[u8], shape: Shape, first: &mut ActionHeads, next: &mut ActionLinks)
-    requires { ⌜ Accepted (now s) shape × (now first ≡ replicate 512 65535) × (now next ≡ replicate 512 65535) ⌝ }
+    requires { ⌜ Accepted (now s) shape × (now first ≡ replicate actionKeys 65535) × (now next ≡ replicate mostActions 65535) ⌝ }
     ensures { λ _. ⌜ HasActions (now (s .entry)) shape (now (first .exit)) (now (next .exit)) × (drop (shape .actions) (now (next .exit)) ≡ drop (shape .actions) (now (next .entry))) ⌝ }
 {
     let mut a = shape.actions;

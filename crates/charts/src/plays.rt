@@ -3,6 +3,7 @@ ghost use mathlib.Core.Path.{_≡_};
 ghost use Prim.Native.Nat.{ℕ, _+_, _-_, _≤_, _<_};
 ghost use lib.Dec.{T};
 ghost use lib.ListN.{length, getD};
+ghost use Rattle.model.specs.Limits.{mostCharts};
 ghost use Rattle.prelude.specs.Lists.{mapFrom};
 ghost use Rattle.records.specs.Refusal.{val};
 ghost use Rattle.model.specs.Outcome.{settled};
@@ -57,7 +58,7 @@ enum Progress {
 
 // Time passes once the charts' turns are taken, whose events these are, unless one of them faulted.
 fn time_after(charts: u16, ages: &mut Ages, events: u64) -> Progress
-    requires { ⌜ (charts ≤ 8) × (events ≤ 4_294_967_295 → (k : ℕ) → k < charts → getD (now ages) k 0 < 4_294_967_295) ⌝ }
+    requires { ⌜ (charts ≤ mostCharts) × (events ≤ 4_294_967_295 → (k : ℕ) → k < charts → getD (now ages) k 0 < 4_294_967_295) ⌝ }
     ensures { λ r. ⌜ ((q : model-run) → ranTo r q ≡ endedBy events q) × (events ≤ 4_294_967_295 → now (ages .exit) ≡ mapFrom 0 (aged charts) (now (ages .entry))) × (4_294_967_295 < events → now (ages .exit) ≡ now (ages .entry)) ⌝ }
 {
     if 4294967295 < events {

@@ -3,6 +3,7 @@ ghost use mathlib.Core.Path.{_≡_};
 ghost use Prim.Native.Nat.{ℕ, _≤_, _<_};
 ghost use lib.Dec.{leb};
 ghost use lib.ListN.{length, getD};
+ghost use Rattle.model.specs.Limits.{mostCharts};
 ghost use Rattle.prelude.specs.Lists.{all, upto, mapFrom};
 ghost use Rattle.model.specs.Runs.{start as started, possible, checked, give as model-give, timePassed, restZero};
 ghost use Rattle.model.specs.ChartSet.{ChartSet, readCharts};
@@ -37,7 +38,7 @@ pub struct Run {
 
 // No age is over the count of cycles.
 fn ages_possible(charts: u16, ages: Ages, cycles: u32) -> bool
-    requires { ⌜ charts ≤ 8 ⌝ }
+    requires { ⌜ charts ≤ mostCharts ⌝ }
     ensures { λ r. ⌜ r ≡ all (λ k. leb (getD ages k 0) cycles) (upto charts) ⌝ }
 {
     let mut k: u16 = 0;
@@ -125,7 +126,7 @@ pub fn give(mut run: Run, events: u32) -> Run
 
 // In place: a copy of the ages would be read back wider than it was written.
 pub fn grow_ages(charts: u16, ages: &mut Ages)
-    requires { ⌜ charts ≤ 8 ⌝ }
+    requires { ⌜ charts ≤ mostCharts ⌝ }
     requires { ⌜ ((k : ℕ) → k < charts → getD (now ages) k 0 < 4294967295) ⌝ }
     ensures { λ _. ⌜ now (ages .exit) ≡ mapFrom 0 (aged charts) (now (ages .entry)) ⌝ }
 {
@@ -140,7 +141,7 @@ pub fn grow_ages(charts: u16, ages: &mut Ages)
 
 // Position n + 1 empties the events and adds 1 to each chart's age and to the count of cycles.
 pub fn time_passed(charts: u16, mut run: Run) -> Run
-    requires { ⌜ charts ≤ 8 ⌝ }
+    requires { ⌜ charts ≤ mostCharts ⌝ }
     requires { ⌜ AgesPossible charts (runOf run) ⌝ }
     ensures { λ r. ⌜ ((cs : ChartSet) → length (cs .initial) ≡ charts → runOf r ≡ timePassed (machine cs) (runOf run)) ⌝ }
 {

@@ -3,6 +3,7 @@
 use mathlib.Core.List.{List, map}
 use Prim.Native.Nat.{ℕ, _+_, _*_, _^_, _≤_, _<_}
 use lib.ListN.{length, take, drop}
+use Rattle.model.specs.Limits.{mostVariables}
 use Rattle.prelude.specs.Lists.{upto}
 use Rattle.records.specs.Bytes.{byte, two, two±}
 use Rattle.expressions.specs.Nodes.{Node, nodeAt}
@@ -45,6 +46,6 @@ module _ (s : List ℕ) (v : Values) where
 
   -- their records are in the file, and a run has a place for each variable
   pub record HasValues : Type 0 where
-    pub few : v .variables ≤ 64
+    pub few : v .variables ≤ mostVariables
     pub early : v .first < 2 ^ 20
     pub room : 16 * (v .first + v .variables + v .nodes) ≤ length s

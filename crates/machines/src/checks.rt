@@ -4,6 +4,7 @@ ghost use mathlib.Core.Bool.{cond, not, _&&_, _||_};
 ghost use mathlib.Core.List.{[]};
 ghost use Prim.Native.Nat.{_+_, _≤_};
 ghost use lib.Dec.{leb, ltb, eqb};
+ghost use Rattle.model.specs.Limits.{mostCharts};
 ghost use Rattle.prelude.specs.Lists.{padded};
 ghost use Rattle.model.specs.Runs.{inBounds, placesPossible, variablesPossible, restZero, restZeroValues, checkedBy};
 ghost use Rattle.machines.specs.Files.{initialsIn, homeIn, homesIn, variableIn, variablesIn, HasValues};
@@ -23,7 +24,7 @@ use records::sizes::Variables;
 use records::u16_at;
 
 fn position_possible(parts: u16, position: u32) -> bool
-    requires { ⌜ parts ≤ 8 ⌝ }
+    requires { ⌜ parts ≤ mostCharts ⌝ }
     ensures { λ r. ⌜ r ≡ (leb 1 position && leb position (parts + 1)) ⌝ }
 {
     (1 <= position) & (position <= (parts as u32) + 1)
@@ -48,7 +49,7 @@ fn events_possible(position: u32, events: u32) -> bool
 
 // What can be said of position, count and events without the file.
 fn counts_possible(parts: u16, events: u32, position: u32, cycles: u32) -> bool
-    requires { ⌜ parts ≤ 8 ⌝ }
+    requires { ⌜ parts ≤ mostCharts ⌝ }
     ensures { λ r. ⌜ r ≡ countsPossible parts (worldIn [] events position cycles) ⌝ }
 {
     position_possible(parts, position)
@@ -92,7 +93,7 @@ fn place_possible(s: &[u8], parts: u16, places: u16, part: u16, place: u16) -> b
 
 // Each part is in a place of its own.
 fn places_possible(s: &[u8], parts: u16, places: u16, at: Places) -> bool
-    requires { ⌜ parts ≤ 8 ⌝ }
+    requires { ⌜ parts ≤ mostCharts ⌝ }
     ensures { λ r. ⌜ r ≡ placesPossible parts (homesIn (now (s .entry)) parts places) at ⌝ }
 {
     let mut c: u16 = 0;
@@ -141,7 +142,7 @@ pub fn shared_possible(
     position: u32,
     cycles: u32,
 ) -> bool
-    requires { ⌜ parts ≤ 8 ⌝ }
+    requires { ⌜ parts ≤ mostCharts ⌝ }
     requires { ⌜ HasValues (now s) values ⌝ }
     ensures { λ r. ⌜ r ≡ sharedPossible parts (homesIn (now (s .entry)) parts places) (variablesIn (now (s .entry)) values) at (worldIn variables events position cycles) ⌝ }
 {
@@ -182,8 +183,8 @@ pub fn events_given(events: u32, position: u32, present: u32) -> u32
 
 // Of each part its initial place.
 pub fn initial_places(s: &[u8], parts: u16) -> Places
-    requires { ⌜ parts ≤ 8 ⌝ }
-    ensures { λ r. ⌜ r ≡ padded 8 0 (initialsIn (now (s .entry)) parts) ⌝ }
+    requires { ⌜ parts ≤ mostCharts ⌝ }
+    ensures { λ r. ⌜ r ≡ padded mostCharts 0 (initialsIn (now (s .entry)) parts) ⌝ }
 {
     let mut at = [0u16; CHARTS];
     let mut c: u16 = 0;

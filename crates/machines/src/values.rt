@@ -3,6 +3,7 @@ ghost use mathlib.Core.Path.{_≡_};
 ghost use mathlib.Core.List.{map};
 ghost use Prim.Native.Nat.{_+_, _*_, _^_, _<_};
 ghost use lib.IntN.{pos};
+ghost use Rattle.model.specs.Limits.{mostVariables};
 ghost use Rattle.records.specs.Bytes.{two±};
 ghost use Rattle.prelude.specs.Lists.{upto, padded};
 ghost use Rattle.expressions.specs.Nodes.{nodeOf};
@@ -68,7 +69,7 @@ pub fn bound_within(s: &[u8], values: Values, v: u8, k: usize) -> i16
 // The variables of a fresh run.
 pub fn start_values(s: &[u8], values: Values) -> Variables
     requires { ⌜ HasValues (now s) values ⌝ }
-    ensures { λ r. ⌜ r ≡ padded 64 (pos 0) (map (λ v. variableIn (now (s .entry)) values v .start) (upto (values .variables))) ⌝ }
+    ensures { λ r. ⌜ r ≡ padded mostVariables (pos 0) (map (λ v. variableIn (now (s .entry)) values v .start) (upto (values .variables))) ⌝ }
 {
     let mut made = [0i16; VARIABLES];
     let mut v: u16 = 0;

@@ -10,4 +10,3 @@ pub mod Numbers
 pub mod Gathered
 pub mod Filled
 pub mod Behind
-pub mod AllRead

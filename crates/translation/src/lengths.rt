@@ -2,6 +2,8 @@
 ghost use mathlib.Core.Path.{_≡_};
 ghost use Prim.Native.Nat.{_+_};
 ghost use lib.ListN.{length, replicate};
+ghost use Rattle.chart_steps.specs.Tables.{actionKeys};
+ghost use Rattle.model.specs.Limits.{mostStates};
 ghost use Rattle.model.specs.ChartSet.{readCharts};
 ghost use Rattle.model.specs.Translation.{twin, twinBytes};
 ghost use Rattle.chart_steps.specs.Accepted.{Accepted};
@@ -20,7 +22,7 @@ use twin_records::clocks::clocks_in;
 use twin_records::fields::trigger_of;
 
 fn count_actions(s: &[u8], shape: Shape, counts: &mut ActionHeads)
-    requires { ⌜ Accepted (now s) shape × (now counts ≡ replicate 512 0) ⌝ }
+    requires { ⌜ Accepted (now s) shape × (now counts ≡ replicate actionKeys 0) ⌝ }
     ensures { λ _. ⌜ CountsActions (now (s .entry)) shape (now (counts .exit)) ⌝ }
 {
     let mut a: u16 = 0;
@@ -34,7 +36,7 @@ fn count_actions(s: &[u8], shape: Shape, counts: &mut ActionHeads)
 // Literals and clocks. Of two transitions that leave a state one is a must-not of the other, so each is counted with those before it that leave its
 // state; its own literal and the idle edge's make two.
 fn count_tests(s: &[u8], shape: Shape, resets: &mut [u16; STATES]) -> usize
-    requires { ⌜ Accepted (now s) shape × (now resets ≡ replicate 128 0) ⌝ }
+    requires { ⌜ Accepted (now s) shape × (now resets ≡ replicate mostStates 0) ⌝ }
     ensures { λ r. ⌜ (r ≡ length (twin (readCharts (now (s .entry))) .literals) + length (twin (readCharts (now (s .entry))) .clocks)) × CountsResets (readCharts (now (s .entry))) (now (resets .exit)) ⌝ }
 {
     let mut leaving = [0u16; STATES];

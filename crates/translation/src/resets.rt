@@ -3,6 +3,7 @@ ghost use mathlib.Core.Path.{_≡_};
 ghost use mathlib.Core.List.{map};
 ghost use Prim.Native.Nat.{_<_, _^_};
 ghost use lib.ListN.{drop, replicate};
+ghost use Rattle.model.specs.Limits.{mostStates, mostTransitions};
 ghost use Rattle.prelude.specs.Lists.{gather, upto};
 ghost use Rattle.model.specs.ChartSet.{readCharts};
 ghost use Rattle.model.specs.Translation.{from-transition, transitionCount, clocksOf, clocksLeaving, resetsOf};
@@ -28,7 +29,7 @@ pub fn fill_leaving(
     first: &mut [u16; STATES],
     next: &mut [u16; TRANSITIONS],
 )
-    requires { ⌜ Accepted (now s) shape × (now first ≡ replicate 128 65535) × (now next ≡ replicate 256 65535) ⌝ }
+    requires { ⌜ Accepted (now s) shape × (now first ≡ replicate mostStates 65535) × (now next ≡ replicate mostTransitions 65535) ⌝ }
     ensures { λ _. ⌜ HasLeaving (readCharts (now (s .entry))) (now (first .exit)) (now (next .exit)) × (drop (transitionCount (readCharts (now (s .entry)))) (now (next .exit)) ≡ drop (transitionCount (readCharts (now (s .entry)))) (now (next .entry))) ⌝ }
 {
     let mut t = shape.transitions;

@@ -9,7 +9,7 @@ ghost use Rattle.model.specs.Translation.{from-transition, transitionCount, upd
 ghost use Rattle.chart_files.specs.Parts.{deedFor};
 ghost use Rattle.chart_files.specs.Places.{actionAt};
 ghost use Rattle.chart_steps.specs.Accepted.{Accepted};
-ghost use Rattle.chart_steps.specs.Tables.{keyed, HasActions};
+ghost use Rattle.chart_steps.specs.Tables.{keyed, HasActions, actionKeys};
 ghost use Rattle.twin_records.specs.Texts.{recordText, updateTexts, Puts};
 use chart_files::Shape;
 use chart_files::fields::Deed;
@@ -43,7 +43,7 @@ fn put_deeds(
     edge: u16,
     key: u16,
 ) -> usize
-    requires { ⌜ Accepted (now s) shape × HasActions (now s) shape (now first) (now next) × (key < 512) × (at < 2 ^ 61) ⌝ }
+    requires { ⌜ Accepted (now s) shape × HasActions (now s) shape (now first) (now next) × (key < actionKeys) × (at < 2 ^ 61) ⌝ }
     ensures { λ r. ⌜ Puts (now (out .entry)) at (updateTexts edge (map (λ a. actionAt (now (s .entry)) shape a .1) (keep (keyed (now (s .entry)) shape key) (upto (shape .actions))))) (now (out .exit)) r (2 ^ 20) ⌝ }
 {
     let mut place = at;

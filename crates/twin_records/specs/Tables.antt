@@ -3,26 +3,27 @@ use mathlib.Core.Path.{_≡_}
 use mathlib.Core.List.{List, map}
 use Prim.Native.Nat.{ℕ, _<_}
 use lib.ListN.{length, getD}
+use Rattle.model.specs.Limits.{mostStates, mostTransitions}
 use Rattle.prelude.specs.Lists.{count, upto, padded}
 use Rattle.model.specs.ChartSet.{ChartSet, transition}
 use Rattle.model.specs.Translation.{clockOf, clocksLeaving}
 use Rattle.machines.specs.Chains.{Chained}
 use Rattle.chart_files.specs.declared.Shape.{Shape}
-use Rattle.chart_steps.specs.Tables.{keyed}
+use Rattle.chart_steps.specs.Tables.{keyed, actionKeys}
 
 abbrev pub HasClocks : ChartSet → List ℕ → Type 0
-HasClocks cs clocks = clocks ≡ padded 256 0 (map (clockOf cs) (upto (length (cs .transitions))))
+HasClocks cs clocks = clocks ≡ padded mostTransitions 0 (map (clockOf cs) (upto (length (cs .transitions))))
 
 abbrev pub sourceOf : ChartSet → ℕ → ℕ
 sourceOf cs t = transition cs t .source
 
 -- of each state its first leaving transition, and of each transition the next that leaves the same state
 abbrev pub HasLeaving : ChartSet → List ℕ → List ℕ → Type 0
-HasLeaving cs first next = Chained (sourceOf cs) 128 (length (cs .transitions)) first next
+HasLeaving cs first next = Chained (sourceOf cs) mostStates (length (cs .transitions)) first next
 
 -- how many actions each key has, and how many clocks each state's leaving transitions have: entering it resets them
 abbrev pub CountsActions : List ℕ → Shape → List ℕ → Type 0
-CountsActions s sh counts = (key : ℕ) → key < 512 → getD counts key 0 ≡ count (keyed s sh key) (upto (sh .actions))
+CountsActions s sh counts = (key : ℕ) → key < actionKeys → getD counts key 0 ≡ count (keyed s sh key) (upto (sh .actions))
 
 abbrev pub CountsResets : ChartSet → List ℕ → Type 0
-CountsResets cs counts = (st : ℕ) → st < 128 → getD counts st 0 ≡ length (clocksLeaving cs st)
+CountsResets cs counts = (st : ℕ) → st < mostStates → getD counts st 0 ≡ length (clocksLeaving cs st)

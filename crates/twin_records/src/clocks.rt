@@ -3,6 +3,7 @@ ghost use mathlib.Core.Path.{_≡_};
 ghost use mathlib.Core.List.{map};
 ghost use Prim.Native.Nat.{_≤_, _<_, _^_};
 ghost use lib.ListN.{length, replicate};
+ghost use Rattle.model.specs.Limits.{mostTransitions};
 ghost use Rattle.prelude.specs.Lists.{gather};
 ghost use Rattle.model.specs.ChartSet.{readCharts};
 ghost use Rattle.model.specs.AutomataTable.{writeClock};
@@ -33,7 +34,7 @@ pub fn clocks_in(trigger: Trigger) -> u16
 
 // Of each transition the number of clocks before its own.
 pub fn fill_clocks(s: &[u8], shape: Shape, clocks: &mut [u16; TRANSITIONS])
-    requires { ⌜ IsShape (now s) shape × (now clocks ≡ replicate 256 0) ⌝ }
+    requires { ⌜ IsShape (now s) shape × (now clocks ≡ replicate mostTransitions 0) ⌝ }
     ensures { λ _. ⌜ HasClocks (readCharts (now (s .entry))) (now (clocks .exit)) ⌝ }
 {
     let mut count: u16 = 0;

@@ -11,7 +11,7 @@ use Rattle.model.specs.Limits.{mostClocks}
 use Rattle.automata_files.specs.declared.Shape.{Shape}
 use Rattle.automata_files.proofs.PlacesRead.{most-clocks}
 use Rattle.automata.specs.RunOf.{topAt}
-use Rattle.prelude.proofs.AllRead.{Read, read-none, read-more, read-all}
+use Rattle.prelude.proofs.Loops.{Flagged, flagged-none, flagged-more, flagged-all}
 use Rattle.automata.proofs.runs.clocks_possible.Statement.{statement}
 use Rattle.automata.proofs.runs.clocks_possible.Tie as tie
 
@@ -19,13 +19,13 @@ abbrev inside : List ℕ → Shape → List ℕ → ℕ → Bool
 inside s sh clocks k = leb (getD clocks k 0) (topAt s sh k)
 
 abbrev Inv-loop : tie.InvT-loop
-Inv-loop s shape clocks possible₀ k₀ possible k = Read (inside s shape clocks) (shape .clocks) possible k
+Inv-loop s shape clocks possible₀ k₀ possible k = Flagged (inside s shape clocks) (shape .clocks) possible k
 
 abbrev μ-loop : tie.MeasureT-loop
 μ-loop s shape clocks possible₀ k₀ possible k = shape .clocks - k
 
 loop-holds : tie.Need-loop-holds Inv-loop μ-loop
-loop-holds c = let a = c .before .args in read-none (inside (now (a .s)) (a .shape) (now (a .clocks))) (a .shape .clocks)
+loop-holds c = let a = c .before .args in flagged-none (inside (now (a .s)) (a .shape) (now (a .clocks))) (a .shape .clocks)
 
 cast-i : tie.Need-cast-i Inv-loop μ-loop
 cast-i c = search needs
@@ -55,13 +55,13 @@ loop-again : tie.Need-loop-again Inv-loop μ-loop
 loop-again c =
     let a = c .before .before .before .before .before .before .args in
     let l = c .before .before .before .before .loop in
-    read-more (inside (now (a .s)) (a .shape) (now (a .clocks))) (a .shape .clocks) (l .possible) (c .clock-possible .result) (l .k) (l .inv) (c .before .before .if1 .taken) (c .clock-possible .ensures)
+    flagged-more (inside (now (a .s)) (a .shape) (now (a .clocks))) (a .shape .clocks) (l .possible) (l .k) (l .inv) (c .before .before .if1 .taken) (c .clock-possible .ensures)
 
 returns : tie.Need-returns Inv-loop μ-loop
 returns c =
     let a = c .before .before .before .before .args in
     let l = c .before .before .loop in
-    read-all (inside (now (a .s)) (a .shape) (now (a .clocks))) (a .shape .clocks) (l .possible) (l .k) (l .inv) (omega (arith, c .if1 .left))
+    flagged-all (inside (now (a .s)) (a .shape) (now (a .clocks))) (a .shape .clocks) (l .possible) (l .k) (l .inv) (omega (arith, c .if1 .left))
 
 pub clocks-possible-spec : {M : Type 1} → statement M
 clocks-possible-spec =

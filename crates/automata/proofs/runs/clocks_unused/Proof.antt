@@ -6,12 +6,12 @@ use borrow.Author.Needs.{needs}
 use denote.Ref.{now}
 use lib.Dec.{eqb}
 use Rattle.model.specs.Limits.{mostClocks}
-use Rattle.prelude.proofs.AllRead.{ReadOn, read-on, read-end}
+use Rattle.prelude.proofs.Behind.{BehindBy, by-more, by-all}
 use Rattle.automata.proofs.runs.clocks_unused.Statement.{statement}
 use Rattle.automata.proofs.runs.clocks_unused.Tie as tie
 
 abbrev Inv-loop : tie.InvT-loop
-Inv-loop count clocks unused₀ k₀ unused k = ReadOn (λ x. eqb x 0) 0 count clocks unused k
+Inv-loop count clocks unused₀ k₀ unused k = BehindBy (λ x. eqb x 0) 0 count clocks unused k
 
 abbrev μ-loop : tie.MeasureT-loop
 μ-loop count clocks unused₀ k₀ unused k = mostClocks - k
@@ -35,13 +35,13 @@ loop-again : tie.Need-loop-again Inv-loop μ-loop
 loop-again c =
     let b = c .before .before .before in
     let l = c .before .before .loop in
-    read-on (λ x. eqb x 0) 0 (b .args .count) (now (b .args .clocks)) (l .unused) (l .k) (l .inv) (omega (arith, b .pre))
+    by-more (λ x. eqb x 0) 0 (b .args .count) (now (b .args .clocks)) (l .unused) (l .k) (l .inv) (omega (arith, b .pre))
 
 returns : tie.Need-returns Inv-loop μ-loop
 returns c =
     let b = c .before .before in
     let l = c .before .loop in
-    read-end (λ x. eqb x 0) 0 (b .args .count) (now (b .args .clocks)) (l .unused) (l .k) (l .inv) (omega (arith, b .pre))
+    by-all (λ x. eqb x 0) 0 (b .args .count) (now (b .args .clocks)) (l .unused) (l .k) (l .inv) (omega (arith, b .pre))
 
 pub clocks-unused-spec : {M : Type 1} → statement M
 clocks-unused-spec = tie.close (tie.spec Inv-loop μ-loop loop-holds mul-unused element-copy-out-unused add-k loop-less loop-again returns)
