@@ -4,7 +4,8 @@
 --   Records                     records/specs/Bytes             byte, two, four, two±, four±, records, ofKind
 --                               Limits                          mostCharts .. mostResets, mostPriorities, mostOwned, mostTicks, mostCycles
 --                               ChartSet, AutomataTable         readCharts, readAutomata, writeAutomata
---                               Owned                           of: what an owner has, in file order; home: the chart of a state
+--                               prelude/specs/Lists, Owned      keep, all, gather, from, ..; of: what an owner has, in file order
+--                               Owned                           home: the chart of a state
 --   Values                      expressions/specs/Nodes, Values readNode, compute, compare, number, truth
 --   A chart's turn              World                           Variable, World, Run, Deed, deed, deeds, guardHolds
 --                               Machine                         Answer, Machine, give, start

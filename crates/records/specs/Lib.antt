@@ -1,4 +1,4 @@
--- What the paper says: words about lists, the refusal table, bytes and records, refusals 1 to 3.
+-- What the paper says: the refusal table, bytes and records, refusals 1 to 3.
 pub mod Refusal
 pub mod Bytes
 pub mod Framing
