@@ -7,13 +7,13 @@ use native.Mathlib.Omega.{arith}
 use borrow.Author.Tests.{eq-eqb, ne-eqb}
 use lib.Dec.{eqb}
 use lib.ListN.{getD}
-use Rattle.automata_files.specs.declared.Shape.{Shape}
-use Rattle.automata_files.specs.Places.{edgeAt, literalAt}
-use Rattle.automata_files.specs.Known.{LiteralTriggerKnown}
-use Rattle.automata_files.proofs.PlacesRead.{most-automata}
-use Rattle.automata_files.proofs.NamedThings.{automaton-known, literal-edge-known, literal-literal-trigger-known}
+use Rattle.automata_records.specs.declared.Shape.{Shape}
+use Rattle.automata_records.specs.Places.{edgeAt, literalAt}
+use Rattle.automata_records.specs.Known.{LiteralTriggerKnown}
+use Rattle.automata_records.proofs.PlacesRead.{most-automata}
+use Rattle.automata_records.proofs.NamedThings.{automaton-known, literal-edge-known, literal-literal-trigger-known}
 use Rattle.model.specs.AutomataTable.{LiteralTrigger, clock}
-use Rattle.automata_steps.specs.Accepted.{Accepted}
+use Rattle.automata_records.specs.Accepted.{Accepted}
 use Rattle.alike.specs.Alike.{literalTriggerAlike, literalAlike}
 
 module _ (t : List ℕ) (sh : Shape) (l e a : ℕ) (p : e ≡ literalAt t sh l .0) (q : a ≡ edgeAt t sh e .automaton) where

@@ -14,8 +14,8 @@ use Rattle.model.specs.Runs.{Run, Answer, taken, idle, time, Call, one-turn, wh
 use Rattle.model.specs.AutomataTable.{LiteralTrigger, always, event, clock}
 use Rattle.model.specs.Calls.{chartSets, automataTables, turnCall, cycleCall}
 use Rattle.model.specs.Correspondence.{clockFor, lentAfter}
-use Rattle.automata_files.specs.declared.Shape.{Shape}
-use Rattle.automata_files.specs.Places.{edgeAt, literalAt, clockAt}
+use Rattle.automata_records.specs.declared.Shape.{Shape}
+use Rattle.automata_records.specs.Places.{edgeAt, literalAt, clockAt}
 
 -- ---- runs
 

@@ -3,17 +3,17 @@ ghost use mathlib.Core.Path.{_≡_};
 ghost use Prim.Native.Nat.{_≤_, _<_};
 ghost use Rattle.model.specs.Limits.{mostCharts};
 ghost use Rattle.model.specs.Correspondence.{clockFor};
-ghost use Rattle.automata_steps.specs.Accepted.{Accepted};
+ghost use Rattle.automata_records.specs.Accepted.{Accepted};
 ghost use Rattle.timings.specs.Growth.{timingIf};
 ghost use Rattle.automata.specs.RunOf as automata-run;
-ghost use Rattle.charts.specs.RunOf as charts-run;
+ghost use Rattle.chart_runs.specs.RunOf as charts-run;
 ghost use Rattle.alike.specs.Alike.{valuesAlike, variablesAlike, placesAlike, clockAlike, literalAlike, timersAlike, runsAlike};
-use automata_files::Shape;
-use automata_files::fields::LiteralTrigger;
-use automata_files::fields::automaton_of;
-use automata_files::fields::literal_edge;
-use automata_files::fields::literal_trigger_of;
-use automata_files::fields::source_of;
+use automata_records::Shape;
+use automata_records::fields::LiteralTrigger;
+use automata_records::fields::automaton_of;
+use automata_records::fields::literal_edge;
+use automata_records::fields::literal_trigger_of;
+use automata_records::fields::source_of;
 use automata_steps::fields::is_after;
 use automata_steps::fields::ticks_of;
 use records::sizes::Ages;
@@ -119,7 +119,7 @@ fn timers_alike(t: &[u8], shape: Shape, ages: Ages, locations: Places, clocks: C
     true
 }
 
-pub fn runs_alike(t: &[u8], shape: Shape, run: charts::runs::Run, twin: automata::runs::Run) -> bool
+pub fn runs_alike(t: &[u8], shape: Shape, run: chart_runs::Run, twin: automata::runs::Run) -> bool
     requires { ⌜ Accepted (now t) shape ⌝ }
     ensures { λ r. ⌜ r ≡ runsAlike (now (t .entry)) shape (charts-run.runOf run) (automata-run.runOf twin) ⌝ }
 {

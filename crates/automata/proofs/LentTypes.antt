@@ -1,8 +1,8 @@
 -- The run, the shape and what functions over values return, as the laws of functions on a lent run take them. Assumes nothing.
-use Rattle.machines.proofs.Lent.{Structure, Answering}
-use Rattle.machines.proofs.LentAnswers.{answer-type, ending-type, cycles-type}
-use Rattle.automata_files.proofs.Shape as S
-use Rattle.automata_files.proofs.Shape.Laws as S′
+use Rattle.lent_runs.proofs.Lent.{Structure, Answering}
+use Rattle.lent_runs.proofs.LentAnswers.{answer-type, ending-type, cycles-type}
+use Rattle.automata_records.proofs.Shape as S
+use Rattle.automata_records.proofs.Shape.Laws as S′
 use Rattle.automata.specs.declared.turns.Turned.{Turned}
 use Rattle.automata.specs.declared.cycles.Called.{Called}
 use Rattle.automata.specs.declared.plays.Played.{Played}

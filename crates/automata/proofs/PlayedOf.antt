@@ -17,13 +17,13 @@ use Rattle.model.specs.Calls.{automataTables}
 use Rattle.prelude.proofs.Bools.{is-true, of-true}
 use Rattle.model.proofs.ChecksPossible.{possible-fits, possible-rests}
 use Rattle.model.proofs.ChecksKeptBySteps.{table-cycle-possible}
-use Rattle.automata_files.specs.declared.Shape.{Shape}
+use Rattle.automata_records.specs.declared.Shape.{Shape}
 use Rattle.machines.specs.Playing.{stoppedAt, playCall}
 use Rattle.machines.specs.Playing as Playing
 use Rattle.machines.proofs.Turns.{cycle-refused}
 use Rattle.machines.proofs.Playing as played
 use Rattle.automata.specs.declared.plays.Played.{Played}
-use Rattle.automata_steps.specs.Accepted.{Accepted}
+use Rattle.automata_records.specs.Accepted.{Accepted}
 use Rattle.automata.specs.PlayedOf.{BetweenCycles, PlayedTo}
 use Rattle.automata.proofs.TurnOfKept.{step-kept}
 

@@ -14,15 +14,15 @@ use Rattle.model.specs.Runs.{Run, timersPossible}
 use Rattle.model.specs.AutomataTable.{Timing, after, every, readAutomata}
 use Rattle.model.specs.AutomataTable as M
 use Rattle.model.specs.Automata.{top, grown, clocksGrown, automata}
-use Rattle.automata_files.specs.declared.Shape.{Shape}
-use Rattle.automata_files.specs.Shape.{IsShape}
-use Rattle.automata_files.specs.Places.{clockAt}
-use Rattle.automata_files.proofs.PlacesRead.{most-clocks, length-clocks, clock-is}
-use Rattle.automata_files.proofs.NamedThings.{ticks-known}
+use Rattle.automata_records.specs.declared.Shape.{Shape}
+use Rattle.automata_records.specs.Shape.{IsShape}
+use Rattle.automata_records.specs.Places.{clockAt}
+use Rattle.automata_records.proofs.PlacesRead.{most-clocks, length-clocks, clock-is}
+use Rattle.automata_records.proofs.NamedThings.{ticks-known}
 use Rattle.machines.proofs.Files.{all-alike}
 use Rattle.prelude.proofs.Filled.{getD-mapFrom}
 use Rattle.machines.proofs.ChecksClauses.{all-upto}
-use Rattle.automata_steps.specs.Accepted.{Accepted}
+use Rattle.automata_records.specs.Accepted.{Accepted}
 use Rattle.timings.specs.Growth.{mostTop, turnFor, capFor}
 use Rattle.timings.proofs.GrowthBounds.{top-most}
 use Rattle.automata.specs.RunOf.{topAt, grownAt, ClocksPossible, turnAt, capAt, HasLimits}

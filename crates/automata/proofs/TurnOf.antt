@@ -7,10 +7,10 @@ use Rattle.records.specs.Refusal.{val, _>>=_}
 use Rattle.model.specs.Runs.{Run, Answer, checked, give, moved, stepped}
 use Rattle.model.specs.AutomataTable.{readAutomata}
 use Rattle.model.specs.Automata.{edgeStep, automata}
-use Rattle.automata_files.specs.declared.Shape.{Shape}
-use Rattle.automata_files.proofs.PlacesRead.{length-initial}
+use Rattle.automata_records.specs.declared.Shape.{Shape}
+use Rattle.automata_records.proofs.PlacesRead.{length-initial}
 use Rattle.machines.proofs.Turns as T
-use Rattle.automata_steps.specs.Accepted.{Accepted}
+use Rattle.automata_records.specs.Accepted.{Accepted}
 use Rattle.automata.specs.TurnOf.{Ready, clockPossibleAt}
 use Rattle.automata.proofs.RunOfClocks.{low-of}
 use Rattle.automata.proofs.TurnOfKept.{step-kept}

@@ -4,7 +4,7 @@ use Prim.Native.Nat.{ℕ, _≤_}
 use lib.Dec.{T}
 use Rattle.model.specs.Outcome.{Outcome}
 use Rattle.model.specs.Runs as M
-use Rattle.machines.specs.Answers.{cyclesOf}
+use Rattle.answers.specs.Answers.{cyclesOf}
 use Rattle.machines.specs.Playing as Playing
 use Rattle.automata.specs.declared.plays.Played.{Played}
 use Rattle.automata.specs.RunOf.{runOf}

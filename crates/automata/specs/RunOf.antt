@@ -10,10 +10,10 @@ use lib.ListN.{length, getD}
 use Rattle.model.specs.Limits.{mostCharts, mostVariables, mostClocks}
 use Rattle.model.specs.Runs.{Run}
 use Rattle.model.specs.Automata.{top, grown}
-use Rattle.automata_files.specs.declared.Shape.{Shape}
-use Rattle.automata_files.specs.Places.{clockAt}
+use Rattle.automata_records.specs.declared.Shape.{Shape}
+use Rattle.automata_records.specs.Places.{clockAt}
 use Rattle.timings.specs.Growth.{mostTop, turnFor, capFor}
-use Rattle.machines.specs.Worlds.{runIn}
+use Rattle.machines.specs.Worlds.{moment, runIn}
 use Rattle.automata.specs.declared.runs.Run as declared-run
 
 -- the places that its arrays have by their types
@@ -21,7 +21,7 @@ abbrev pub Sized : List ℕ → List ℕ → List ℤ → Type 0
 Sized at clocks vars = (length at ≡ mostCharts) × (length clocks ≡ mostClocks) × (length vars ≡ mostVariables)
 
 abbrev pub runOf : declared-run.Run → Run
-runOf r = runIn (r .locations) (r .clocks) (r .variables) (r .events) (r .position) (r .cycles)
+runOf r = runIn (r .locations) (r .clocks) (r .variables) (r .events) (moment (r .position) (r .cycles))
 
 -- clock k's top, and what a place of a run's clocks has after time passed, as the file's bytes say
 abbrev pub topAt : List ℕ → Shape → ℕ → ℕ

@@ -6,11 +6,11 @@ use lib.ListN.{length}
 use Rattle.records.specs.Refusal.{Out, val, fault, _>>=_}
 use Rattle.model.specs.Outcome.{Outcome}
 use Rattle.model.specs.Runs as M
-use Rattle.machines.specs.Answers.{reasonOf, answerOf, endingOf}
+use Rattle.answers.specs.Answers.{reasonOf, answerOf, endingOf}
 use Rattle.machines.specs.Turns as R
-use Rattle.machines.specs.declared.answers.Answer.{Answer}
-use Rattle.machines.specs.declared.answers.Ending.{Ending}
-use Rattle.automata_files.specs.declared.Shape.{Shape}
+use Rattle.answers.specs.declared.Answer.{Answer}
+use Rattle.answers.specs.declared.Ending.{Ending}
+use Rattle.automata_records.specs.declared.Shape.{Shape}
 use Rattle.timings.specs.Growth.{mostTop}
 use Rattle.automata.specs.declared.turns.Turned.{Turned}
 use Rattle.automata.specs.declared.cycles.Called.{Called}

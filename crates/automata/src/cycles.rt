@@ -8,9 +8,9 @@ ghost use Rattle.model.specs.Runs.{cycle as model-cycle};
 ghost use Rattle.model.specs.AutomataTable.{readAutomata};
 ghost use Rattle.model.specs.Automata.{automata as machine};
 ghost use Rattle.machines.specs.Turns.{after};
-ghost use Rattle.automata_steps.specs.Accepted.{Accepted};
+ghost use Rattle.automata_records.specs.Accepted.{Accepted};
 ghost use Rattle.automata_steps.specs.Index.{RoomFor};
-ghost use Rattle.machines.specs.Worlds.{runIn};
+ghost use Rattle.machines.specs.Worlds.{moment, runIn};
 ghost use Rattle.automata.specs.RunOf.{runOf, Sized, HasLimits};
 ghost use Rattle.automata_steps.specs.Prepared.{Prepared};
 ghost use Rattle.automata.specs.TurnOf.{calledOf, Ready, progressOf, ClocksLeft, cycledOf, endedOf};
@@ -18,13 +18,13 @@ use super::runs::Run;
 use super::runs::before_turn;
 use super::runs::grow;
 use super::turns::turn;
-use automata_files::Shape;
+use answers::Answer;
+use answers::Ending;
+use answers::Reason;
+use automata_records::Shape;
 use automata_steps::index::index_of;
 use automata_steps::steps::Stepped;
 use automata_steps::steps::edge_step;
-use machines::answers::Answer;
-use machines::answers::Ending;
-use machines::answers::Reason;
 use machines::checks::Before;
 use machines::checks::events_given;
 use records::sizes::Clocks;
@@ -135,8 +135,8 @@ fn automata_turns(
     cycles: u32,
 ) -> Progress
     requires { ⌜ Prepared (now s) shape (now first) (now next) ⌝ }
-    requires { ⌜ Ready shape (runIn (now locations) (now clocks) (now vars) events position cycles) ⌝ }
-    ensures { λ r. ⌜ progressOf (machine (readAutomata (now (s .entry)))) r (runIn (now (locations .exit)) (now (clocks .exit)) (now (vars .exit)) 0 (shape .automata + 1) cycles) ≡ after (machine (readAutomata (now (s .entry)))) (shape .automata + 2 - position) (runIn (now (locations .entry)) (now (clocks .entry)) (now (vars .entry)) events position cycles) ⌝ }
+    requires { ⌜ Ready shape (runIn (now locations) (now clocks) (now vars) events (moment position cycles)) ⌝ }
+    ensures { λ r. ⌜ progressOf (machine (readAutomata (now (s .entry)))) r (runIn (now (locations .exit)) (now (clocks .exit)) (now (vars .exit)) 0 (moment (shape .automata + 1) cycles)) ≡ after (machine (readAutomata (now (s .entry)))) (shape .automata + 2 - position) (runIn (now (locations .entry)) (now (clocks .entry)) (now (vars .entry)) events (moment position cycles)) ⌝ }
     ensures { λ r. ⌜ ClocksLeft (shape .clocks) (now (clocks .entry)) r (now (clocks .exit)) ⌝ }
 {
     let mut present = events;
@@ -179,10 +179,10 @@ fn cycle_or_fault(
     cycles: u32,
 ) -> Progress
     requires { ⌜ Prepared (now s) shape (now first) (now next) ⌝ }
-    requires { ⌜ Ready shape (runIn (now locations) (now clocks) (now vars) events position cycles) ⌝ }
+    requires { ⌜ Ready shape (runIn (now locations) (now clocks) (now vars) events (moment position cycles)) ⌝ }
     requires { ⌜ length (now clocks) ≡ mostClocks ⌝ }
     requires { ⌜ HasLimits (now s) shape (now turn) (now cap) ⌝ }
-    ensures { λ r. ⌜ cycledOf r (runIn (now (locations .exit)) (now (clocks .exit)) (now (vars .exit)) 0 1 (cycles + 1)) ≡ after (machine (readAutomata (now (s .entry)))) (shape .automata + 2 - position) (runIn (now (locations .entry)) (now (clocks .entry)) (now (vars .entry)) events position cycles) ⌝ }
+    ensures { λ r. ⌜ cycledOf r (runIn (now (locations .exit)) (now (clocks .exit)) (now (vars .exit)) 0 (moment 1 (cycles + 1))) ≡ after (machine (readAutomata (now (s .entry)))) (shape .automata + 2 - position) (runIn (now (locations .entry)) (now (clocks .entry)) (now (vars .entry)) events (moment position cycles)) ⌝ }
 {
     match automata_turns(
         s,
@@ -220,10 +220,10 @@ pub fn cycle_or_none(
     cycles: u32,
 ) -> Progress
     requires { ⌜ Prepared (now s) shape (now first) (now next) ⌝ }
-    requires { ⌜ Ready shape (runIn (now locations) (now clocks) (now vars) events position cycles) ⌝ }
+    requires { ⌜ Ready shape (runIn (now locations) (now clocks) (now vars) events (moment position cycles)) ⌝ }
     requires { ⌜ length (now clocks) ≡ mostClocks ⌝ }
     requires { ⌜ HasLimits (now s) shape (now turn) (now cap) ⌝ }
-    ensures { λ r. ⌜ cycledOf r (runIn (now (locations .exit)) (now (clocks .exit)) (now (vars .exit)) 0 1 (cycles + 1)) ≡ after (machine (readAutomata (now (s .entry)))) (shape .automata + 2 - position) (runIn (now (locations .entry)) (now (clocks .entry)) (now (vars .entry)) events position cycles) ⌝ }
+    ensures { λ r. ⌜ cycledOf r (runIn (now (locations .exit)) (now (clocks .exit)) (now (vars .exit)) 0 (moment 1 (cycles + 1))) ≡ after (machine (readAutomata (now (s .entry)))) (shape .automata + 2 - position) (runIn (now (locations .entry)) (now (clocks .entry)) (now (vars .entry)) events (moment position cycles)) ⌝ }
     ensures { λ r. ⌜ ((w : Reason) → r ≡ Progress.Fault w → runIn (now (locations .exit)) (now (clocks .exit)) (now (vars .exit)) ≡ runIn (now (locations .entry)) (now (clocks .entry)) (now (vars .entry))) ⌝ }
 {
     let locations_before = *locations;
@@ -272,7 +272,7 @@ pub fn cycle_after_checks(
     requires { ⌜ Prepared (now s) shape (now first) (now next) ⌝ }
     requires { ⌜ Sized (now locations) (now clocks) (now vars) ⌝ }
     requires { ⌜ HasLimits (now s) shape (now turn) (now cap) ⌝ }
-    ensures { λ r. ⌜ endedOf r (runIn (now (locations .exit)) (now (clocks .exit)) (now (vars .exit)) 0 1 (cycles + 1)) ≡ model-cycle (machine (readAutomata (now (s .entry)))) events (runIn (now (locations .entry)) (now (clocks .entry)) (now (vars .entry)) present position cycles) ⌝ }
+    ensures { λ r. ⌜ endedOf r (runIn (now (locations .exit)) (now (clocks .exit)) (now (vars .exit)) 0 (moment 1 (cycles + 1))) ≡ model-cycle (machine (readAutomata (now (s .entry)))) events (runIn (now (locations .entry)) (now (clocks .entry)) (now (vars .entry)) present (moment position cycles)) ⌝ }
 {
     match before_turn(
         s,

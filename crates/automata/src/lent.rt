@@ -5,9 +5,9 @@ ghost use Rattle.model.specs.Outcome.{settled};
 ghost use Rattle.model.specs.Runs.{start as started, turn as model-turn, cycle as model-cycle};
 ghost use Rattle.model.specs.AutomataTable.{readAutomata};
 ghost use Rattle.model.specs.Automata.{automata as machine};
-ghost use Rattle.machines.specs.Answers.{answerOf, endingOf, cyclesOf};
+ghost use Rattle.answers.specs.Answers.{answerOf, endingOf, cyclesOf};
 ghost use Rattle.machines.specs.Playing.{playing};
-ghost use Rattle.automata_steps.specs.Accepted.{Accepted};
+ghost use Rattle.automata_records.specs.Accepted.{Accepted};
 ghost use Rattle.automata.specs.RunOf.{runOf};
 ghost use Rattle.automata.specs.TurnOf.{calledOf};
 use super::cycles::Called;
@@ -15,10 +15,10 @@ use super::cycles::cycle_by_turns;
 use super::plays::play_in_place;
 use super::runs::Run;
 use super::turns::one_turn;
-use automata_files::Shape;
-use machines::answers::Answer;
-use machines::answers::Cycles;
-use machines::answers::Ending;
+use answers::Answer;
+use answers::Cycles;
+use answers::Ending;
+use automata_records::Shape;
 
 // The fresh run, in place of any.
 fn fresh(s: &[u8], shape: Shape, any: Run) -> Called

@@ -4,9 +4,9 @@ ghost use Rattle.model.specs.Outcome.{settled};
 ghost use Rattle.model.specs.AutomataTable.{readAutomata};
 ghost use Rattle.model.specs.Automata.{automata as machine};
 ghost use Rattle.machines.specs.Playing.{played, playing};
-ghost use Rattle.automata_steps.specs.Accepted.{Accepted};
+ghost use Rattle.automata_records.specs.Accepted.{Accepted};
 ghost use Rattle.automata_steps.specs.Index.{RoomFor};
-ghost use Rattle.machines.specs.Worlds.{runIn};
+ghost use Rattle.machines.specs.Worlds.{moment, runIn};
 ghost use Rattle.automata.specs.RunOf.{runOf, HasLimits};
 ghost use Rattle.automata_steps.specs.Prepared.{Prepared};
 ghost use Rattle.automata.specs.PlayedOf.{BetweenCycles, PlayedTo, playedOf};
@@ -16,10 +16,10 @@ use super::cycles::cycle_or_none;
 use super::runs::Run;
 use super::runs::limits_of;
 use super::runs::run_in;
-use automata_files::Shape;
+use answers::Cycles;
+use answers::Ending;
+use automata_records::Shape;
 use automata_steps::index::index_of;
-use machines::answers::Cycles;
-use machines::answers::Ending;
 use records::sizes::CLOCKS;
 use records::sizes::Clocks;
 use records::sizes::MOST_CYCLES;
@@ -48,7 +48,7 @@ fn further_to(
     cycles: u32,
     count: u32,
 ) -> Rest
-    ensures { λ r. ⌜ (r .count ≡ count) × (runOf (r .run) ≡ runIn locations clocks variables 0 1 cycles) ⌝ }
+    ensures { λ r. ⌜ (r .count ≡ count) × (runOf (r .run) ≡ runIn locations clocks variables 0 (moment 1 cycles)) ⌝ }
 {
     let run = Run {
         locations,

@@ -10,13 +10,13 @@ ghost use Rattle.model.specs.Runs.{start as started, possible, checked, restZer
 ghost use Rattle.model.specs.AutomataTable.{readAutomata};
 ghost use Rattle.model.specs.Automata.{automata as machine, grown};
 ghost use Rattle.timings.specs.Growth.{mostTop};
-ghost use Rattle.automata_files.specs.Shape.{IsShape};
-ghost use Rattle.automata_files.specs.Places.{clockAt};
+ghost use Rattle.automata_records.specs.Shape.{IsShape};
+ghost use Rattle.automata_records.specs.Places.{clockAt};
 ghost use Rattle.machines.specs.Checks.{beforeOf};
-ghost use Rattle.automata_steps.specs.Accepted.{Accepted};
-ghost use Rattle.machines.specs.Worlds.{runIn};
+ghost use Rattle.automata_records.specs.Accepted.{Accepted};
+ghost use Rattle.machines.specs.Worlds.{moment, runIn};
 ghost use Rattle.automata.specs.RunOf.{runOf, Sized, topAt, grownAt, ClocksPossible, turnAt, capAt, HasLimits};
-use automata_files::Shape;
+use automata_records::Shape;
 use automata_steps::fields::is_after;
 use automata_steps::fields::ticks_of;
 use automata_steps::values::values_of;
@@ -54,7 +54,7 @@ pub fn run_in(
     position: u32,
     cycles: u32,
 ) -> Run
-    ensures { λ r. ⌜ runOf r ≡ runIn (now (locations .entry)) (now (clocks .entry)) (now (vars .entry)) events position cycles ⌝ }
+    ensures { λ r. ⌜ runOf r ≡ runIn (now (locations .entry)) (now (clocks .entry)) (now (vars .entry)) events (moment position cycles) ⌝ }
 {
     let locations = *locations;
     let clocks = *clocks;
@@ -136,7 +136,7 @@ fn is_possible(
     cycles: u32,
 ) -> bool
     requires { ⌜ IsShape (now s) shape × Sized (now locations) (now clocks) (now vars) ⌝ }
-    ensures { λ r. ⌜ r ≡ possible (machine (readAutomata (now (s .entry)))) (runIn (now (locations .entry)) (now (clocks .entry)) (now (vars .entry)) events position cycles) ⌝ }
+    ensures { λ r. ⌜ r ≡ possible (machine (readAutomata (now (s .entry)))) (runIn (now (locations .entry)) (now (clocks .entry)) (now (vars .entry)) events (moment position cycles)) ⌝ }
 {
     let values = values_of(shape);
     let shared = shared_possible(
@@ -166,7 +166,7 @@ pub fn before_turn(
     events: u32,
 ) -> Before
     requires { ⌜ IsShape (now s) shape × Sized (now locations) (now clocks) (now vars) ⌝ }
-    ensures { λ r. ⌜ beforeOf r ≡ checked (machine (readAutomata (now (s .entry)))) events (runIn (now (locations .entry)) (now (clocks .entry)) (now (vars .entry)) present position cycles) ⌝ }
+    ensures { λ r. ⌜ beforeOf r ≡ checked (machine (readAutomata (now (s .entry)))) events (runIn (now (locations .entry)) (now (clocks .entry)) (now (vars .entry)) present (moment position cycles)) ⌝ }
 {
     let possible = is_possible(s, shape, locations, clocks, vars, present, position, cycles);
     decide(possible, events, position, cycles)

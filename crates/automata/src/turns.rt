@@ -7,9 +7,9 @@ ghost use Rattle.model.specs.Outcome.{settled};
 ghost use Rattle.model.specs.Runs.{stepped, turn as model-turn};
 ghost use Rattle.model.specs.AutomataTable.{readAutomata};
 ghost use Rattle.model.specs.Automata.{automata as machine};
-ghost use Rattle.automata_steps.specs.Accepted.{Accepted};
+ghost use Rattle.automata_records.specs.Accepted.{Accepted};
 ghost use Rattle.automata_steps.specs.Index.{RoomFor};
-ghost use Rattle.machines.specs.Worlds.{runIn};
+ghost use Rattle.machines.specs.Worlds.{moment, runIn};
 ghost use Rattle.automata.specs.RunOf.{runOf, Sized};
 ghost use Rattle.automata_steps.specs.Prepared.{Prepared};
 ghost use Rattle.automata.specs.TurnOf.{turnOf, takenOf, Ready};
@@ -17,11 +17,11 @@ use super::runs::Run;
 use super::runs::before_turn;
 use super::runs::pass_time;
 use super::runs::run_in;
-use automata_files::Shape;
+use answers::Answer;
+use automata_records::Shape;
 use automata_steps::index::index_of;
 use automata_steps::steps::Stepped;
 use automata_steps::steps::edge_step;
-use machines::answers::Answer;
 use machines::checks::Before;
 use machines::checks::events_given;
 use records::sizes::Clocks;
@@ -52,7 +52,7 @@ fn automaton_turn(
 ) -> Answer
     requires { ⌜ Prepared (now s) shape (now first) (now next) ⌝ }
     requires { ⌜ (1 ≤ now position) × (now position ≤ shape .automata) ⌝ }
-    ensures { λ r. ⌜ ((c : ℕ) → takenOf r (runIn (now (locations .exit)) (now (clocks .exit)) (now (vars .exit)) (now (events .exit)) (now (position .exit)) c) ≡ stepped (machine (readAutomata (now (s .entry)))) (runIn (now (locations .entry)) (now (clocks .entry)) (now (vars .entry)) (now (events .entry)) (now (position .entry)) c)) ⌝ }
+    ensures { λ r. ⌜ ((c : ℕ) → takenOf r (runIn (now (locations .exit)) (now (clocks .exit)) (now (vars .exit)) (now (events .exit)) (moment (now (position .exit)) c)) ≡ stepped (machine (readAutomata (now (s .entry)))) (runIn (now (locations .entry)) (now (clocks .entry)) (now (vars .entry)) (now (events .entry)) (moment (now (position .entry)) c))) ⌝ }
 {
     let place = *position;
     match edge_step(
@@ -89,9 +89,9 @@ fn turn_taken(
     cycles: &mut u32,
 ) -> Answer
     requires { ⌜ Prepared (now s) shape (now first) (now next) ⌝ }
-    requires { ⌜ Ready shape (runIn (now locations) (now clocks) (now vars) (now events) (now position) (now cycles)) ⌝ }
+    requires { ⌜ Ready shape (runIn (now locations) (now clocks) (now vars) (now events) (moment (now position) (now cycles))) ⌝ }
     requires { ⌜ length (now clocks) ≡ mostClocks ⌝ }
-    ensures { λ r. ⌜ takenOf r (runIn (now (locations .exit)) (now (clocks .exit)) (now (vars .exit)) (now (events .exit)) (now (position .exit)) (now (cycles .exit))) ≡ stepped (machine (readAutomata (now (s .entry)))) (runIn (now (locations .entry)) (now (clocks .entry)) (now (vars .entry)) (now (events .entry)) (now (position .entry)) (now (cycles .entry))) ⌝ }
+    ensures { λ r. ⌜ takenOf r (runIn (now (locations .exit)) (now (clocks .exit)) (now (vars .exit)) (now (events .exit)) (moment (now (position .exit)) (now (cycles .exit)))) ≡ stepped (machine (readAutomata (now (s .entry)))) (runIn (now (locations .entry)) (now (clocks .entry)) (now (vars .entry)) (now (events .entry)) (moment (now (position .entry)) (now (cycles .entry)))) ⌝ }
 {
     if *position <= (shape.automata as u32) {
         automaton_turn(
@@ -130,7 +130,7 @@ fn turn_in_place(
 ) -> Answer
     requires { ⌜ Prepared (now s) shape (now first) (now next) ⌝ }
     requires { ⌜ Sized (now locations) (now clocks) (now vars) ⌝ }
-    ensures { λ r. ⌜ takenOf r (runIn (now (locations .exit)) (now (clocks .exit)) (now (vars .exit)) (now (present .exit)) (now (position .exit)) (now (cycles .exit))) ≡ model-turn (machine (readAutomata (now (s .entry)))) events (runIn (now (locations .entry)) (now (clocks .entry)) (now (vars .entry)) (now (present .entry)) (now (position .entry)) (now (cycles .entry))) ⌝ }
+    ensures { λ r. ⌜ takenOf r (runIn (now (locations .exit)) (now (clocks .exit)) (now (vars .exit)) (now (present .exit)) (moment (now (position .exit)) (now (cycles .exit)))) ≡ model-turn (machine (readAutomata (now (s .entry)))) events (runIn (now (locations .entry)) (now (clocks .entry)) (now (vars .entry)) (now (present .entry)) (moment (now (position .entry)) (now (cycles .entry)))) ⌝ }
 {
     match before_turn(
         s,
@@ -173,7 +173,7 @@ fn settle_turn(
     cycles: u32,
     answer: Answer,
 ) -> Turned
-    ensures { λ r. ⌜ turnOf r ≡ settled (runOf lent) (takenOf answer (runIn (now (locations .entry)) (now (clocks .entry)) (now (vars .entry)) events position cycles)) ⌝ }
+    ensures { λ r. ⌜ turnOf r ≡ settled (runOf lent) (takenOf answer (runIn (now (locations .entry)) (now (clocks .entry)) (now (vars .entry)) events (moment position cycles))) ⌝ }
 {
     match answer {
         Answer::Taken(e) => {

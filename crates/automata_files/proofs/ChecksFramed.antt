@@ -10,13 +10,14 @@ use Rattle.records.specs.Refusal.{Refusal, bad-table, lowest}
 use Rattle.records.specs.RefusalOf.{refusalOf}
 use Rattle.records.specs.declared.refusals.Refusal as declared-refusal
 use Rattle.records.specs.Bytes.{records}
-use Rattle.records.specs.Framing.{framing, framingTests}
+use Rattle.framing.specs.Framing.{framing, framingTests}
 use Rattle.model.specs.AutomataTable.{readAutomata}
 use Rattle.model.specs.ChartFile.{unusedAreZero}
 use Rattle.model.specs.AutomataFile.{automataLimits, unusedInTable, tableInCode, tableNamed, clocksTick, insideAutomata, idleEdgesStay, tableNodesFit, automataRefusal}
-use Rattle.automata_files.specs.Shape.{IsShape, asTable, IsChecked}
+use Rattle.automata_records.specs.Shape.{IsShape}
+use Rattle.automata_files.specs.Checked.{asTable, IsChecked}
 use Rattle.automata_files.specs.Checks.{passes}
-use Rattle.automata_files.specs.declared.Shape.{Shape}
+use Rattle.automata_records.specs.declared.Shape.{Shape}
 use Rattle.automata_files.specs.declared.Checked.the-variants.{Accepted, Refused}
 
 -- tests that all refuse as 11

@@ -1,7 +1,2 @@
-pub mod Shape
-pub mod Places
-pub mod Parts
-pub mod Names
-pub mod Structure
-pub mod Known
+pub mod Checked
 pub mod Checks

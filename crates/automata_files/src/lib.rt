@@ -7,23 +7,24 @@ ghost use Rattle.prelude.specs.Lists.{all};
 ghost use Rattle.records.specs.Bytes.{records};
 ghost use Rattle.model.specs.ChartFile.{unusedAreZero};
 ghost use Rattle.model.specs.AutomataFile.{unusedInTable, tableInCode};
-ghost use Rattle.automata_files.specs.Shape.{IsShape, IsShaped, IsChecked};
+ghost use Rattle.automata_records.specs.Shape.{IsShape};
+ghost use Rattle.automata_files.specs.Checked.{IsShaped, IsChecked};
 ghost use Rattle.automata_files.specs.Checks.{passes};
 
 pub mod codes;
-pub mod fields;
 pub mod names;
 pub mod nodes;
 pub mod structure;
 pub mod unused;
 
+use automata_records::Shape;
+use automata_records::fields::node_records;
 use codes::in_code;
 use expressions::sorts::test_nodes;
-use fields::node_records;
+use framing::Framing;
+use framing::frame_of;
 use names::table_named;
 use nodes::table_nodes_fit;
-use records::Framing;
-use records::frame_of;
 use records::refusals::Refusal;
 use records::sizes::NODES;
 use records::sizes::TABLE_LIMITS;
@@ -32,26 +33,11 @@ use structure::idle_edges_stay;
 use structure::inside_automata;
 use unused::record_clean;
 
-// How many records a framed automata file has of each kind, from kind 33 on.
-pub struct Shape {
-    pub automata: u16,
-    pub locations: u16,
-    pub edges: u16,
-    pub literals: u16,
-    pub clocks: u16,
-    pub variables: u16,
-    pub nodes: u16,
-    pub updates: u16,
-    pub resets: u16,
-}
-
 // A file that passes is known by its shape; what is refused is refused as 11, whatever the test.
 pub enum Checked {
     Accepted(Shape),
     Refused(Refusal),
 }
-
-// The most of each kind.
 
 // Refusals 1 to 3, read for kinds 33 to 41.
 pub fn shape_of(s: &[u8]) -> Checked

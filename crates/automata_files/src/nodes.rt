@@ -9,16 +9,16 @@ ghost use Rattle.expressions.specs.Verdicts.{verdictOf};
 ghost use Rattle.expressions.specs.Uses.{addUses, allOperands};
 ghost use Rattle.model.specs.AutomataTable.{readAutomata};
 ghost use Rattle.model.specs.AutomataFile.{tableNodesFit};
-ghost use Rattle.chart_files.specs.Used.{truths, numbers};
-ghost use Rattle.automata_files.specs.Shape.{IsShape};
-ghost use Rattle.automata_files.specs.Places.{nodePart};
-ghost use Rattle.automata_files.specs.Structure.{guardAt, assignedAt};
-use super::Shape;
-use super::fields::deed_of;
-use super::fields::guard_of;
-use super::fields::node_records;
-use chart_files::uses::deed_sorted;
-use chart_files::uses::guard_sorted;
+ghost use Rattle.chart_checks.specs.Used.{truths, numbers};
+ghost use Rattle.automata_records.specs.Shape.{IsShape};
+ghost use Rattle.automata_records.specs.Places.{nodePart};
+ghost use Rattle.automata_records.specs.Structure.{guardAt, assignedAt};
+use automata_records::Shape;
+use automata_records::fields::deed_of;
+use automata_records::fields::guard_of;
+use automata_records::fields::node_records;
+use chart_checks::uses::deed_sorted;
+use chart_checks::uses::guard_sorted;
 use expressions::sorts::says_fit;
 
 fn guards_fit(s: &[u8], shape: Shape) -> bool

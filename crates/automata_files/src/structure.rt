@@ -4,16 +4,16 @@ ghost use Rattle.prelude.specs.Lists.{all, upto};
 ghost use Rattle.model.specs.Owned.{home};
 ghost use Rattle.model.specs.AutomataTable.{readAutomata};
 ghost use Rattle.model.specs.AutomataFile.{clocksTick, insideAutomata, idleEdgesStay};
-ghost use Rattle.automata_files.specs.Shape.{IsShape};
-ghost use Rattle.automata_files.specs.Structure.{clockTicks, edgeInside, initialInside, idleStays};
-use super::Shape;
-use super::fields::automaton_of;
-use super::fields::home_of;
-use super::fields::idles;
-use super::fields::initial_of;
-use super::fields::source_of;
-use super::fields::target_of;
-use super::fields::ticks_of;
+ghost use Rattle.automata_records.specs.Shape.{IsShape};
+ghost use Rattle.automata_records.specs.Structure.{clockTicks, edgeInside, initialInside, idleStays};
+use automata_records::Shape;
+use automata_records::fields::automaton_of;
+use automata_records::fields::home_of;
+use automata_records::fields::idles;
+use automata_records::fields::initial_of;
+use automata_records::fields::source_of;
+use automata_records::fields::target_of;
+use automata_records::fields::ticks_of;
 use records::sizes::MOST_TICKS;
 
 fn clock_ticks(s: &[u8], shape: Shape, k: u16) -> bool

@@ -13,13 +13,13 @@ use Rattle.prelude.specs.Owned.{of}
 use Rattle.model.specs.AutomataTable.{readAutomata, edge}
 use Rattle.model.specs.Automata.{leaving}
 use Rattle.machines.proofs.ChainsEarliest.{keep-alike}
-use Rattle.automata_files.specs.declared.Shape.{Shape}
-use Rattle.automata_files.specs.Shape.{IsShape}
-use Rattle.automata_files.specs.Places.{firstEdge, firstLiteral, firstClock, firstUpdate, firstReset, edgeIn, literalIn, updateIn, resetIn, literalAt, updateAt, resetAt}
-use Rattle.automata_files.specs.Known.{LiteralTriggerKnown, DeedKnown}
-use Rattle.automata_files.proofs.PlacesRead.{inside, most-automata, most-locations, most-edges, most-literals, most-clocks, most-variables, most-nodes, most-updates, most-resets, length-edges, literals-are, updates-are, resets-are, edge-is}
-use Rattle.automata_files.proofs.NamedThings.{source-known, literal-edge-known, literal-literal-trigger-known, update-edge-known, update-deed-known, reset-edge-known, reset-clock-known}
-use Rattle.automata_steps.specs.Accepted.{Accepted, InFile, FewRecords}
+use Rattle.automata_records.specs.declared.Shape.{Shape}
+use Rattle.automata_records.specs.Shape.{IsShape}
+use Rattle.automata_records.specs.Places.{firstEdge, firstLiteral, firstClock, firstUpdate, firstReset, edgeIn, literalIn, updateIn, resetIn, literalAt, updateAt, resetAt}
+use Rattle.automata_records.specs.Known.{LiteralTriggerKnown, DeedKnown}
+use Rattle.automata_records.proofs.PlacesRead.{inside, most-automata, most-locations, most-edges, most-literals, most-clocks, most-variables, most-nodes, most-updates, most-resets, length-edges, literals-are, updates-are, resets-are, edge-is}
+use Rattle.automata_records.proofs.NamedThings.{source-known, literal-edge-known, literal-literal-trigger-known, update-edge-known, update-deed-known, reset-edge-known, reset-clock-known}
+use Rattle.automata_records.specs.Accepted.{Accepted, InFile, FewRecords}
 use Rattle.automata_steps.specs.Index.{ownerIn, ownedBy, RoomFor}
 use Rattle.automata_steps.proofs.IndexOwned.{of-owner, of-source}
 

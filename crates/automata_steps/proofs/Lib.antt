@@ -6,4 +6,3 @@ pub mod IndexOwned
 pub mod IndexRecords
 pub mod StepOfOpen
 pub mod StepOf
-pub mod AcceptedByCheck

@@ -10,26 +10,27 @@ use Rattle.prelude.specs.Owned.{of}
 use Rattle.model.specs.Runs.{Variable, World, Run, Answer, taken, Deed, deed, deeds, guardHolds}
 use Rattle.model.specs.AutomataTable.{LiteralTrigger, always, event, clock, Literal, Automata, edge}
 use Rattle.model.specs.Automata.{literalTriggerHolds, literalHolds, reads, opens, theOne, reset, leaving, openEdges, edgeStep}
+use Rattle.machines.specs.Worlds.{Moment}
 use Rattle.automata_steps.specs.StepOf.{bareRun, theOpen, entered, takeEdge}
 
--- ---- updates: record n says the deed act n, and the world goes by position and count
+-- ---- updates: record n says the deed act n, and the world goes by the moment
 
 module _ (nodes : List Node) (variables : List Variable) (act : ℕ → Deed) where
-  abbrev pub doOn : List ℕ → (ℕ → ℕ → World) → ℕ → ℕ → Out World
-  doOn ns w = λ q c. deeds nodes variables (map act ns) (w q c)
+  abbrev pub doOn : List ℕ → (Moment → World) → Moment → Out World
+  doOn ns w = λ m. deeds nodes variables (map act ns) (w m)
 
-  module _ (n : ℕ) (w : ℕ → ℕ → World) where
-    one : (rest : List ℕ) (q c : ℕ) → doOn (n ∷ rest) w q c ≡ (deed nodes variables (act n) (w q c) >>= deeds nodes variables (map act rest))
+  module _ (n : ℕ) (w : Moment → World) where
+    one : (rest : List ℕ) (m : Moment) → doOn (n ∷ rest) w m ≡ (deed nodes variables (act n) (w m) >>= deeds nodes variables (map act rest))
     unfolding deeds
-    one rest q c = refl
+    one rest m = refl
 
-    pub do-fault : (f : Refusal) → ((q c : ℕ) → fault f ≡ deed nodes variables (act n) (w q c)) → (rest : List ℕ) → doOn (n ∷ rest) w ≡ (λ q c. fault f)
-    do-fault f d rest = λ i q c. (one rest q c ∙ ap (λ o. o >>= deeds nodes variables (map act rest)) (sym (d q c))) i
+    pub do-fault : (f : Refusal) → ((m : Moment) → fault f ≡ deed nodes variables (act n) (w m)) → (rest : List ℕ) → doOn (n ∷ rest) w ≡ (λ m. fault f)
+    do-fault f d rest = λ i m. (one rest m ∙ ap (λ o. o >>= deeds nodes variables (map act rest)) (sym (d m))) i
 
-    pub do-more : (w′ : ℕ → ℕ → World) → ((q c : ℕ) → val (w′ q c) ≡ deed nodes variables (act n) (w q c)) → (rest : List ℕ) → doOn (n ∷ rest) w ≡ doOn rest w′
-    do-more w′ d rest = λ i q c. (one rest q c ∙ ap (λ o. o >>= deeds nodes variables (map act rest)) (sym (d q c))) i
+    pub do-more : (w′ : Moment → World) → ((m : Moment) → val (w′ m) ≡ deed nodes variables (act n) (w m)) → (rest : List ℕ) → doOn (n ∷ rest) w ≡ doOn rest w′
+    do-more w′ d rest = λ i m. (one rest m ∙ ap (λ o. o >>= deeds nodes variables (map act rest)) (sym (d m))) i
 
-  pub do-none : (w : ℕ → ℕ → World) → doOn [] w ≡ (λ q c. val (w q c))
+  pub do-none : (w : Moment → World) → doOn [] w ≡ (λ m. val (w m))
   unfolding deeds
   do-none w = refl
 

@@ -8,9 +8,9 @@ use Rattle.records.specs.Refusal.{Refusal, Out, val, fault, _>>=_, choose}
 use Rattle.model.specs.Runs.{Run}
 use Rattle.model.specs.AutomataTable.{Literal, Automata, readAutomata}
 use Rattle.model.specs.Automata.{conditionHolds, literalHolds, reads, opens, theOne}
-use Rattle.automata_files.specs.declared.Shape.{Shape}
-use Rattle.automata_files.specs.Shape.{IsShape}
-use Rattle.automata_files.specs.Places.{firstEdge, firstLiteral}
+use Rattle.automata_records.specs.declared.Shape.{Shape}
+use Rattle.automata_records.specs.Shape.{IsShape}
+use Rattle.automata_records.specs.Places.{firstEdge, firstLiteral}
 use Rattle.automata_steps.specs.declared.edges.Tally.{Tally}
 use Rattle.automata_steps.specs.declared.edges.Tally.the-variants.{Nothing}
 use Rattle.automata_steps.specs.declared.edges.Counted as declared-counted

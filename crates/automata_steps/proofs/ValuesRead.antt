@@ -4,9 +4,9 @@ use mathlib.Core.List.{List}
 use Prim.Native.Nat.{ℕ}
 use native.Mathlib.Omega.{arith}
 use Rattle.model.specs.AutomataTable.{readAutomata}
-use Rattle.automata_files.specs.declared.Shape.{Shape}
-use Rattle.automata_files.specs.Shape.{IsShape}
-use Rattle.automata_files.proofs.PlacesRead.{inside, most-automata, most-locations, most-edges, most-literals, most-clocks, most-variables, homes-are, variables-are, nodes-are}
+use Rattle.automata_records.specs.declared.Shape.{Shape}
+use Rattle.automata_records.specs.Shape.{IsShape}
+use Rattle.automata_records.proofs.PlacesRead.{inside, most-automata, most-locations, most-edges, most-literals, most-clocks, most-variables, homes-are, variables-are, nodes-are}
 use Rattle.machines.specs.declared.values.Values.{Values}
 use Rattle.machines.specs.Files.{homesIn, variablesIn, nodesIn, HasValues}
 use Rattle.automata_steps.specs.Values.{valuesOf}

@@ -9,8 +9,8 @@ use lib.ListN.{length, getD}
 use Rattle.model.specs.Limits.{mostStates, mostEdges, tableRecords}
 use Rattle.records.specs.Bytes.{two}
 use Rattle.machines.specs.Chains.{earliest}
-use Rattle.automata_files.specs.declared.Shape.{Shape}
-use Rattle.automata_files.specs.Places.{firstEdge, firstLiteral, firstClock, firstUpdate, firstReset}
+use Rattle.automata_records.specs.declared.Shape.{Shape}
+use Rattle.automata_records.specs.Places.{firstEdge, firstLiteral, firstClock, firstUpdate, firstReset}
 use Rattle.automata_steps.specs.declared.index.Span.{Span}
 
 -- An edge's source, and the edge of a literal, of an update and of a reset, stand in the same bytes of the record.

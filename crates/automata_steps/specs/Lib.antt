@@ -1,4 +1,3 @@
-pub mod Accepted
 pub mod Values
 pub mod Index
 pub mod StepOf

@@ -10,20 +10,20 @@ use Rattle.prelude.specs.Owned.{of}
 use Rattle.model.specs.Runs.{World, Run, Answer, taken, deeds}
 use Rattle.model.specs.AutomataTable.{Automata, edge}
 use Rattle.model.specs.Automata.{literalHolds, reads, opens, theOne, leaving, reset}
-use Rattle.machines.specs.Answers.{reasonOf}
+use Rattle.answers.specs.Answers.{reasonOf}
 use Rattle.automata_steps.specs.declared.edges.Tally.{Tally}
 use Rattle.automata_steps.specs.declared.edges.Tally.the-variants.{Nothing, One, Many}
 use Rattle.automata_steps.specs.declared.edges.Counted as declared-counted
 use Rattle.automata_steps.specs.declared.edges.Choice as declared-choice
 use Rattle.automata_steps.specs.declared.steps.Stepped.{Stepped}
 use Rattle.automata_steps.specs.declared.steps.Stepped.the-variants.{Taken, Fault}
-use Rattle.machines.specs.Worlds.{runIn}
+use Rattle.machines.specs.Worlds.{Moment, moment, runIn}
 
 -- ---- open edges
 
 -- clocks, variables and events, which is all that a literal looks at
 abbrev pub bareRun : List ℕ → List ℤ → ℕ → Run
-bareRun clocks vars events = runIn [] clocks vars events 0 0
+bareRun clocks vars events = runIn [] clocks vars events (moment 0 0)
 
 abbrev pub edgeOpen : Automata → Run → ℕ → Out Bool
 edgeOpen au r e = reads (literalHolds au r) (of e (au .literals))
@@ -80,7 +80,7 @@ abbrev pub FaultKeeps : Stepped → List ℕ → List ℕ → List ℕ → List 
 FaultKeeps (Taken e events) at₀ clocks₀ at clocks = Unit
 FaultKeeps (Fault w) at₀ clocks₀ at clocks = (at ≡ at₀) × (clocks ≡ clocks₀)
 
--- the turn by what is in the places after it; it leaves position and count as they are
-abbrev pub steppedOf : Stepped → List ℕ → List ℕ → List ℤ → ℕ → ℕ → Out (Answer × Run)
-steppedOf (Taken e events) at clocks vars position cycles = val (taken e, runIn at clocks vars events position cycles)
-steppedOf (Fault w) at clocks vars position cycles = fault (reasonOf w)
+-- the turn by what is in the places after it; it leaves the moment as it is
+abbrev pub steppedOf : Stepped → List ℕ → List ℕ → List ℤ → Moment → Out (Answer × Run)
+steppedOf (Taken e events) at clocks vars m = val (taken e, runIn at clocks vars events m)
+steppedOf (Fault w) at clocks vars m = fault (reasonOf w)

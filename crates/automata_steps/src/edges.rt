@@ -7,17 +7,17 @@ ghost use lib.Dec.{eqb};
 ghost use Rattle.expressions.specs.Answers.{truthOf};
 ghost use Rattle.expressions.specs.Answers as expressions-answers;
 ghost use Rattle.model.specs.AutomataTable.{readAutomata};
-ghost use Rattle.automata_files.specs.Places.{edgeAt};
-ghost use Rattle.machines.specs.Answers.{reasonOf};
-ghost use Rattle.automata_steps.specs.Accepted.{Accepted};
+ghost use Rattle.automata_records.specs.Places.{edgeAt};
+ghost use Rattle.answers.specs.Answers.{reasonOf};
+ghost use Rattle.automata_records.specs.Accepted.{Accepted};
 ghost use Rattle.automata_steps.specs.Index.{HasIndex};
 ghost use Rattle.automata_steps.specs.StepOf.{bareRun, edgeOpen, tallyOf, oneOpen, countedOf, theOpen, choiceOf, TallyIn, CountedIn, ChoiceIn};
 use super::fields::automaton_of;
 use super::fields::first_edge;
 use super::literals::literal_holds;
-use automata_files::Shape;
-use expressions::arithmetic::Truth;
-use machines::answers::Reason;
+use answers::Reason;
+use automata_records::Shape;
+use expressions::outcomes::Truth;
 use records::sizes::Clocks;
 use records::sizes::LITERAL_KEYS;
 use records::sizes::TableHeads;
@@ -40,12 +40,12 @@ pub enum Choice {
     Failed(Reason),
 }
 
-fn read_fault(w: expressions::arithmetic::Reason) -> Reason
+fn read_fault(w: expressions::outcomes::Reason) -> Reason
     ensures { λ r. ⌜ reasonOf r ≡ expressions-answers.valueReasonOf w ⌝ }
 {
     match w {
-        expressions::arithmetic::Reason::Range => Reason::Range,
-        expressions::arithmetic::Reason::Divisor => Reason::Divisor,
+        expressions::outcomes::Reason::Range => Reason::Range,
+        expressions::outcomes::Reason::Divisor => Reason::Divisor,
     }
 }
 

@@ -2,11 +2,11 @@
 ghost use mathlib.Core.Path.{_≡_};
 ghost use Prim.Native.Nat.{_+_, _*_, _<_};
 ghost use Rattle.records.specs.Bytes.{byte, two};
-ghost use Rattle.automata_files.specs.Shape.{IsShape};
-ghost use Rattle.automata_files.specs.Places.{firstEdge, firstLiteral, firstClock, firstUpdate, firstReset, literalIn, edgeAt, clockAt};
-ghost use Rattle.automata_steps.specs.Accepted.{InFile, FewRecords};
+ghost use Rattle.automata_records.specs.Shape.{IsShape};
+ghost use Rattle.automata_records.specs.Places.{firstEdge, firstLiteral, firstClock, firstUpdate, firstReset, literalIn, edgeAt, clockAt};
+ghost use Rattle.automata_records.specs.Accepted.{InFile, FewRecords};
 ghost use Rattle.timings.specs.Growth.{timingIf};
-use automata_files::Shape;
+use automata_records::Shape;
 
 // The number of a kind's first record.
 pub fn first_edge(shape: Shape) -> u16

@@ -1,13 +1,13 @@
 // The index that turns read, made once for a table: a location's edges, an edge's literals, and its updates and resets, are found without a search.
 ghost use mathlib.Core.Path.{_≡_};
-ghost use Rattle.automata_steps.specs.Accepted.{Accepted, InFile};
+ghost use Rattle.automata_records.specs.Accepted.{Accepted, InFile};
 ghost use Rattle.automata_steps.specs.Index.{ownerIn, HasIndex, KeepsUnchained, RoomFor, Blank, Linkable, Links};
 use super::fields::first_edge;
 use super::fields::first_literal;
 use super::fields::first_reset;
 use super::fields::first_update;
 use super::fields::two_of;
-use automata_files::Shape;
+use automata_records::Shape;
 use records::sizes::EDGE_OWNERS;
 use records::sizes::EFFECT_KEYS;
 use records::sizes::LITERAL_KEYS;

@@ -6,10 +6,10 @@ ghost use Rattle.prelude.specs.Owned.{of};
 ghost use Rattle.model.specs.Runs.{deed};
 ghost use Rattle.model.specs.AutomataTable.{readAutomata};
 ghost use Rattle.model.specs.Automata.{reset, edgeStep};
-ghost use Rattle.automata_files.specs.Places.{firstUpdate, firstReset, updateIn, resetIn};
+ghost use Rattle.automata_records.specs.Places.{firstUpdate, firstReset, updateIn, resetIn};
 ghost use Rattle.machines.specs.Chains.{earliest};
-ghost use Rattle.machines.specs.Worlds.{worldIn, worldAfter, runIn};
-ghost use Rattle.automata_steps.specs.Accepted.{Accepted};
+ghost use Rattle.machines.specs.Worlds.{Moment, worldIn, worldAfter, runIn};
+ghost use Rattle.automata_records.specs.Accepted.{Accepted};
 ghost use Rattle.automata_steps.specs.Index.{ownedBy, NextOf, HasIndex, RoomFor};
 ghost use Rattle.automata_steps.specs.StepOf.{takeEdge, steppedOf, FaultKeeps};
 use super::edges::Choice;
@@ -19,8 +19,8 @@ use super::fields::first_reset;
 use super::fields::target_of;
 use super::fields::two_of;
 use super::values::values_of;
-use automata_files::Shape;
-use machines::answers::Reason;
+use answers::Reason;
+use automata_records::Shape;
 use machines::deeds::Done;
 use machines::deeds::do_deed;
 use machines::deeds::done_by;
@@ -39,7 +39,7 @@ pub enum Stepped {
 // The deed of the update that is record n.
 fn do_update(s: &[u8], shape: Shape, n: u16, vars: &mut Variables, events: u32) -> Done
     requires { ⌜ Accepted (now s) shape × (firstUpdate shape ≤ n) × (n < firstReset shape) ⌝ }
-    ensures { λ r. ⌜ ((p c : ℕ) → worldAfter r (now (vars .exit)) p c ≡ deed (readAutomata (now (s .entry)) .nodes) (readAutomata (now (s .entry)) .variables) (updateIn (now (s .entry)) n .1) (worldIn (now (vars .entry)) events p c)) ⌝ }
+    ensures { λ r. ⌜ ((m : Moment) → worldAfter r (now (vars .exit)) m ≡ deed (readAutomata (now (s .entry)) .nodes) (readAutomata (now (s .entry)) .variables) (updateIn (now (s .entry)) n .1) (worldIn (now (vars .entry)) events m)) ⌝ }
 {
     let code = byte_of(s, n, 1);
     let x = byte_of(s, n, 4);
@@ -82,7 +82,7 @@ fn take_edge(
     e: u16,
 ) -> Stepped
     requires { ⌜ Accepted (now s) shape × HasIndex (now s) shape (now first) (now next) × (automaton < 8) × (e < shape .edges) ⌝ }
-    ensures { λ r. ⌜ ((p c : ℕ) → steppedOf r (now (locations .exit)) (now (clocks .exit)) (now (vars .exit)) p c ≡ takeEdge (readAutomata (now (s .entry))) automaton (runIn (now (locations .entry)) (now (clocks .entry)) (now (vars .entry)) events p c) e) ⌝ }
+    ensures { λ r. ⌜ ((m : Moment) → steppedOf r (now (locations .exit)) (now (clocks .exit)) (now (vars .exit)) m ≡ takeEdge (readAutomata (now (s .entry))) automaton (runIn (now (locations .entry)) (now (clocks .entry)) (now (vars .entry)) events m) e) ⌝ }
     ensures { λ _. ⌜ length (now (clocks .exit)) ≡ length (now (clocks .entry)) ⌝ }
     ensures { λ r. ⌜ FaultKeeps r (now (locations .entry)) (now (clocks .entry)) (now (locations .exit)) (now (clocks .exit)) ⌝ }
 {
@@ -119,7 +119,7 @@ pub fn edge_step(
     requires { ⌜ Accepted (now s) shape ⌝ }
     requires { ⌜ HasIndex (now s) shape (now first) (now next) ⌝ }
     requires { ⌜ automaton < shape .automata ⌝ }
-    ensures { λ r. ⌜ ((p c : ℕ) → steppedOf r (now (locations .exit)) (now (clocks .exit)) (now (vars .exit)) p c ≡ edgeStep (readAutomata (now (s .entry))) automaton (runIn (now (locations .entry)) (now (clocks .entry)) (now (vars .entry)) events p c)) ⌝ }
+    ensures { λ r. ⌜ ((m : Moment) → steppedOf r (now (locations .exit)) (now (clocks .exit)) (now (vars .exit)) m ≡ edgeStep (readAutomata (now (s .entry))) automaton (runIn (now (locations .entry)) (now (clocks .entry)) (now (vars .entry)) events m)) ⌝ }
     ensures { λ _. ⌜ length (now (clocks .exit)) ≡ length (now (clocks .entry)) ⌝ }
     ensures { λ r. ⌜ FaultKeeps r (now (locations .entry)) (now (clocks .entry)) (now (locations .exit)) (now (clocks .exit)) ⌝ }
 {

@@ -1,7 +1,7 @@
 // Where a table's variables and nodes stand.
 ghost use mathlib.Core.Path.{_≡_};
 ghost use Rattle.automata_steps.specs.Values.{valuesOf};
-use automata_files::Shape;
+use automata_records::Shape;
 use machines::values::Values;
 
 pub fn values_of(shape: Shape) -> Values

@@ -16,7 +16,7 @@ use denote.Enum.Declared as ED
 use denote.Enum.Laws as EL
 use Rattle.records.specs.Refusal.{Refusal}
 use Rattle.model.specs.Calls.{Format}
-use Rattle.machines.proofs.Lent.{Structure, Enumeration, struct-row, struct-val, struct-field-laws, enum-row, enum-val, enum-field-laws}
+use Rattle.lent_runs.proofs.Lent.{Structure, Enumeration, struct-row, struct-val, struct-field-laws, enum-row, enum-val, enum-field-laws}
 
 -- the case of E that a refusal of B is answered by
 pub record Refusing (B E : Enumeration) : Type 2 where

@@ -42,8 +42,8 @@ use Rattle.records.specs.Refusal.{Out, fault, unless-refused}
 use Rattle.model.specs.Outcome.{Outcome, settled}
 use Rattle.model.specs.Runs.{Run, Machine}
 use Rattle.model.specs.Calls.{Format}
-use Rattle.machines.proofs.Lent.{Structure, Enumeration, struct-row, struct-mir, struct-val, enum-row, enum-mir, enum-val}
-use Rattle.machines.proofs.LentAlone.{lent-ended, lent-clauses}
+use Rattle.lent_runs.proofs.Lent.{Structure, Enumeration, struct-row, struct-mir, struct-val, enum-row, enum-mir, enum-val}
+use Rattle.lent_runs.proofs.LentAlone.{lent-ended, lent-clauses}
 use Rattle.calls.proofs.Gate.{Checking, Refusing, parts, checked, checked-mir, checked-laws, checked-val, accepted, not-accepted, cases, made, shape-is, refusal-is, Reading}
 
 -- the run's type, the shape's, the refusals' and the answer's, what the check answers, and the answer's case for a refusal

@@ -3,11 +3,11 @@ use mathlib.Core.Path.{refl}
 use denote.Enum.Laws as EL
 use Rattle.records.proofs.refusals.Refusal as B
 use Rattle.records.proofs.refusals.Refusal.Laws as B′
-use Rattle.machines.specs.declared.answers.Answer.the-variants as answers
-use Rattle.machines.specs.declared.answers.Ending.the-variants as endings
-use Rattle.machines.specs.declared.answers.Cycles.the-variants as counts
-use Rattle.machines.proofs.Lent.{Enumeration}
-use Rattle.machines.proofs.LentAnswers.{answer-type, ending-type, cycles-type}
+use Rattle.answers.specs.declared.Answer.the-variants as answers
+use Rattle.answers.specs.declared.Ending.the-variants as endings
+use Rattle.answers.specs.declared.Cycles.the-variants as counts
+use Rattle.lent_runs.proofs.Lent.{Enumeration}
+use Rattle.lent_runs.proofs.LentAnswers.{answer-type, ending-type, cycles-type}
 use Rattle.calls.proofs.Gate.{Refusing}
 
 abbrev pub refusal-type : Enumeration

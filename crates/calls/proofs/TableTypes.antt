@@ -3,9 +3,9 @@ use mathlib.Core.Path.{refl, sym}
 use Rattle.records.specs.RefusalOf.{refusalOf}
 use Rattle.model.specs.Calls.{automataTables}
 use Rattle.automata_files.specs.declared.Checked.{Checked}
-use Rattle.automata_files.specs.Shape.{IsChecked}
+use Rattle.automata_files.specs.Checked.{IsChecked}
 use Rattle.automata_files.proofs.Checked as K
-use Rattle.automata_steps.specs.Accepted.{Accepted}
+use Rattle.automata_records.specs.Accepted.{Accepted}
 use Rattle.automata.proofs.LentTypes.{shape-type}
 use Rattle.calls.proofs.Gate.{Checking, Reading}
 use Rattle.calls.proofs.RefusedAnswers.{refusal-type}

@@ -1,15 +1,15 @@
 // Calls on automata tables.
 ghost use mathlib.Core.Path.{_≡_};
 ghost use Rattle.model.specs.Calls.{automataTables, startCall, turnCall, cycleCall};
-ghost use Rattle.machines.specs.Answers.{answerOf, endingOf, cyclesOf};
+ghost use Rattle.answers.specs.Answers.{answerOf, endingOf, cyclesOf};
 ghost use Rattle.machines.specs.Playing.{playCall};
 ghost use Rattle.automata.specs.RunOf.{runOf};
+use answers::Answer;
+use answers::Cycles;
+use answers::Ending;
 use automata::runs::Run;
 use automata_files::Checked;
 use automata_files::check;
-use machines::answers::Answer;
-use machines::answers::Cycles;
-use machines::answers::Ending;
 
 // The lent run becomes a fresh one.
 pub fn start(s: &[u8], run: &mut Run) -> Ending

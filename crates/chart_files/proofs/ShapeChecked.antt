@@ -8,12 +8,13 @@ use native.Mathlib.Omega.{arith}
 use Rattle.prelude.specs.Lists.{all}
 use Rattle.records.specs.Refusal.{Refusal, stray-byte, broken-code, dangling-number, broken-structure, broken-node, zero-ticks, lowest}
 use Rattle.records.specs.Bytes.{records}
-use Rattle.records.specs.Framing.{framing, framingTests}
+use Rattle.framing.specs.Framing.{framing, framingTests}
 use Rattle.model.specs.ChartSet.{readCharts}
 use Rattle.model.specs.ChartFile.{chartLimits, chartsRefusal, unused, unusedAreZero, inCode, allNamed, structured, nodesFit, ticking}
-use Rattle.chart_files.specs.Shape.{IsShape, IsChecked}
+use Rattle.chart_records.specs.Shape.{IsShape}
+use Rattle.chart_files.specs.Checked.{IsChecked}
 use Rattle.records.specs.RefusalOf.{refusalOf}
-use Rattle.chart_files.specs.declared.Shape.{Shape}
+use Rattle.chart_records.specs.declared.Shape.{Shape}
 use Rattle.records.specs.declared.refusals.Refusal as declared-refusal
 use Rattle.chart_files.specs.declared.Checked.the-variants.{Accepted, Refused}
 

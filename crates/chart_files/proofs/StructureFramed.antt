@@ -15,17 +15,17 @@ use Rattle.prelude.proofs.Loops.{and-assoc}
 use Rattle.model.specs.Owned.{home}
 use Rattle.model.specs.ChartSet.{Transition, readCharts, readActions}
 use Rattle.model.specs.ChartFile.{between, inCode, insideCharts, leavingState, unconditional, initialFits, prioritiesDiffer, atMostEight}
-use Rattle.chart_files.specs.declared.Shape.{Shape}
-use Rattle.chart_files.specs.Shape.{IsShape}
-use Rattle.chart_files.specs.Places.{transitionAt, placeAt, actionAt, initialAt}
-use Rattle.chart_files.specs.Names.{initialNamed, actionNamed}
+use Rattle.chart_records.specs.declared.Shape.{Shape}
+use Rattle.chart_records.specs.Shape.{IsShape}
+use Rattle.chart_records.specs.Places.{transitionAt, placeAt, actionAt, initialAt}
+use Rattle.chart_checks.specs.Names.{initialNamed, actionNamed}
 use Rattle.chart_files.specs.Tallies.{noneAbove}
 use Rattle.chart_files.specs.Structure.{insideChart, transitionFitsInitials, actionFitsInitials, leftOnce, sourceAt, pairAt, ownerAt}
 use Rattle.prelude.proofs.Maps.{all-map, count-map, keep-map, map-map, all-keep}
-use Rattle.chart_files.proofs.PlacesRead.{length-homes, length-transitions, initial-is, transitions-are, all-actions, count-actions, most-states}
+use Rattle.chart_records.proofs.PlacesRead.{length-homes, length-transitions, initial-is, transitions-are, all-actions, count-actions, most-states}
 use Rattle.prelude.proofs.Numbers.{all-at, all-by, all-alike, all-append, count-append, not-any, all-both, count-either}
 use Rattle.chart_files.proofs.StructureInitials.{marks, apart-once, idle-once, left-once}
-use Rattle.chart_files.proofs.InCode.{place-in-code}
+use Rattle.chart_checks.proofs.InCode.{place-in-code}
 use Rattle.chart_files.proofs.StructureOwners.{owners-within}
 use Rattle.chart_files.proofs.StructurePriorities.{differ-within}
 

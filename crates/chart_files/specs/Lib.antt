@@ -1,7 +1,3 @@
-pub mod Shape
-pub mod Places
-pub mod Parts
-pub mod Names
+pub mod Checked
 pub mod Tallies
 pub mod Structure
-pub mod Used

@@ -8,8 +8,8 @@ use lib.ListN.{getD}
 use Rattle.model.specs.Owned.{home}
 use Rattle.model.specs.ChartSet.{readCharts}
 use Rattle.model.specs.ChartFile.{between, unconditional}
-use Rattle.chart_files.specs.declared.Shape.{Shape}
-use Rattle.chart_files.specs.Places.{initialAt, transitionAt, placeAt, actionAt}
+use Rattle.chart_records.specs.declared.Shape.{Shape}
+use Rattle.chart_records.specs.Places.{initialAt, transitionAt, placeAt, actionAt}
 
 abbrev pub isFree : Option ℕ → Bool
 isFree none = true

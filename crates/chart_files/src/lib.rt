@@ -3,45 +3,32 @@ ghost use mathlib.Core.Path.{_≡_};
 ghost use Rattle.prelude.specs.Lists.{all};
 ghost use Rattle.records.specs.Bytes.{records};
 ghost use Rattle.model.specs.ChartFile.{unused, unusedAreZero, inCode};
-ghost use Rattle.chart_files.specs.Shape.{IsShape, IsShaped, IsChecked};
+ghost use Rattle.chart_records.specs.Shape.{IsShape};
+ghost use Rattle.chart_files.specs.Checked.{IsShaped, IsChecked};
 
-pub mod fields;
-pub mod names;
 pub mod structure;
 pub mod timing;
-pub mod uses;
 
+use chart_checks::names::all_named;
+use chart_checks::uses::nodes_fit;
+use chart_records::Shape;
+use chart_records::fields::node_records;
 use expressions::sorts::test_nodes;
-use fields::node_records;
-use names::all_named;
+use framing::Framing;
+use framing::frame_of;
 use record_tests::codes::in_code;
 use record_tests::unused::record_clean;
-use records::Framing;
-use records::frame_of;
 use records::refusals::Refusal;
 use records::sizes::NODES;
 use records::sizes::SET_LIMITS;
 use structure::structured;
 use timing::all_ticking;
-use uses::nodes_fit;
-
-// How many records a framed chart file has of each kind, from kind 1 on.
-pub struct Shape {
-    pub charts: u16,
-    pub states: u16,
-    pub transitions: u16,
-    pub variables: u16,
-    pub nodes: u16,
-    pub actions: u16,
-}
 
 // A file that passes is known by its shape.
 pub enum Checked {
     Accepted(Shape),
     Refused(Refusal),
 }
-
-// The most of each kind.
 
 // Refusals 1 to 3.
 pub fn shape_of(s: &[u8]) -> Checked

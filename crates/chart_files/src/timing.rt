@@ -3,11 +3,11 @@ ghost use mathlib.Core.Path.{_≡_};
 ghost use Rattle.prelude.specs.Lists.{all};
 ghost use Rattle.model.specs.ChartSet.{readCharts};
 ghost use Rattle.model.specs.ChartFile as F;
-ghost use Rattle.chart_files.specs.Shape.{IsShape};
-ghost use Rattle.chart_files.specs.Parts.{triggerFor};
-use super::Shape;
-use super::fields::Trigger;
-use super::fields::trigger_of;
+ghost use Rattle.chart_records.specs.Shape.{IsShape};
+ghost use Rattle.chart_records.specs.Parts.{triggerFor};
+use chart_records::Shape;
+use chart_records::fields::Trigger;
+use chart_records::fields::trigger_of;
 use timings::ticks;
 
 pub fn ticking(t: Trigger) -> bool

@@ -9,14 +9,14 @@ use native.Mathlib.Omega.{arith}
 use lib.Dec.{leb, ltb, eqb}
 use lib.ListN.{length, getD}
 use borrow.Author.Tests.{eq-eqb, leb-true, ltb-true, eqb-true, eqb-false, not-true, not-false}
-use Rattle.prelude.specs.Lists.{keep, all, from, upto, caseOf}
+use Rattle.prelude.specs.Lists.{keep, all, upto, caseOf}
 use Rattle.records.specs.Bytes.{byte, two, four, records, kind, ofKind}
-use Rattle.records.specs.Framing.{howMany, firstOf}
+use Rattle.framing.specs.Framing.{howMany, firstOf}
 use Rattle.records.specs.Refusal.{Refusal, odd-length, lowest}
 use Rattle.records.proofs.Records.{recordAt, byte-record}
 use Rattle.records.proofs.RoundTrips.{four-record}
 use Rattle.prelude.proofs.Counts.{and-true}
-use Rattle.records.proofs.Framed.{length-ofKind, framed-thing}
+use Rattle.framing.proofs.Framed.{length-ofKind, framed-thing}
 use Rattle.expressions.specs.Nodes.{nodeOf}
 use Rattle.expressions.specs.Sorts.{nodesNamed}
 use Rattle.model.specs.Runs.{Deed, assign, raise}
@@ -24,10 +24,10 @@ use Rattle.model.specs.ChartSet as C
 use Rattle.model.specs.ChartSet.{Transition, noTransition, readDeed, readActions, readCharts}
 use Rattle.model.specs.Charts.{ticks}
 use Rattle.model.specs.ChartFile.{between, isEvent, isDuration, transitionInCode, actionInCode, variableInCode, nodeInCode, deedInCode, inCode, chartLimits, insideCharts, initialFits, atMostEight, allNamed, actionsNamed, deedNamed, guardNamed, structured, prioritiesDiffer, ticking, chartTests}
-use Rattle.chart_files.specs.declared.Shape.{Shape}
-use Rattle.chart_files.specs.Places.{triggerBy, firstTransition, firstAction, transitionAt, placeAt, actionAt}
-use Rattle.chart_files.proofs.PlacesRead.{first-transition, first-action, transition-is, length-homes, length-transitions, length-variables, most-states, most-transitions, all-actions}
-use Rattle.chart_steps.specs.Accepted.{Accepted}
+use Rattle.chart_records.specs.declared.Shape.{Shape}
+use Rattle.chart_records.specs.Places.{triggerBy, firstTransition, firstAction, transitionAt, placeAt, actionAt}
+use Rattle.chart_records.proofs.PlacesRead.{first-transition, first-action, transition-is, length-homes, length-transitions, length-variables, most-states, most-transitions, all-actions}
+use Rattle.chart_records.specs.Accepted.{Accepted}
 use Rattle.chart_steps.specs.Tables.{KeyedOwner}
 use Rattle.machines.specs.Deeds.{Doable}
 use Rattle.chart_steps.specs.Replies.{Holdable}

@@ -8,4 +8,3 @@ pub mod TablesFilled
 pub mod StepOf
 pub mod TablesDeeds
 pub mod StepOfTurns
-pub mod AcceptedByCheck

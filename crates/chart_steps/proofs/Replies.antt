@@ -9,10 +9,10 @@ use Rattle.records.specs.Refusal.{val, choose}
 use Rattle.model.specs.Runs.{guardHolds}
 use Rattle.model.specs.ChartSet.{Trigger, readGuard, readCharts}
 use Rattle.model.specs.Charts.{triggered, transitionHolds}
-use Rattle.chart_files.specs.declared.Shape.{Shape}
-use Rattle.chart_files.specs.Shape.{IsShape}
-use Rattle.chart_files.specs.Places.{firstTransition, transitionAt}
-use Rattle.chart_files.proofs.PlacesRead.{transition-is}
+use Rattle.chart_records.specs.declared.Shape.{Shape}
+use Rattle.chart_records.specs.Shape.{IsShape}
+use Rattle.chart_records.specs.Places.{firstTransition, transitionAt}
+use Rattle.chart_records.proofs.PlacesRead.{transition-is}
 use Rattle.machines.specs.Worlds.{bareWorld}
 
 -- the trigger of transition t was found

@@ -18,12 +18,12 @@ use Rattle.prelude.specs.Owned.{of}
 use Rattle.model.specs.Runs.{World, Run, Answer, taken, idle, deeds}
 use Rattle.model.specs.ChartSet.{ChartSet, readActions, readCharts, transition}
 use Rattle.model.specs.Charts.{row, firstThat, acted, follow}
-use Rattle.chart_files.specs.declared.Shape.{Shape}
-use Rattle.chart_files.specs.Places.{transitionAt, actionAt}
-use Rattle.chart_files.proofs.PlacesRead.{transition-is, length-transitions, most-states, most-transitions}
-use Rattle.chart_steps.specs.Accepted.{Accepted}
+use Rattle.chart_records.specs.declared.Shape.{Shape}
+use Rattle.chart_records.specs.Places.{transitionAt, actionAt}
+use Rattle.chart_records.proofs.PlacesRead.{transition-is, length-transitions, most-states, most-transitions}
+use Rattle.chart_records.specs.Accepted.{Accepted}
 use Rattle.chart_steps.specs.Tables.{earliest, named, leaves, slotAt, rowEntry, keyed, deedsOf}
-use Rattle.machines.specs.Worlds.{runIn, codedFault}
+use Rattle.machines.specs.Worlds.{Moment, runIn, codedFault}
 use Rattle.chart_steps.specs.StepOf.{choiceBy, slotHolds, entered, answerBy, movedBy}
 use Rattle.machines.proofs.WorldsCodes.{coded-value, coded-fault}
 use Rattle.machines.proofs.ChainsEarliest.{keep-alike, one-found}
@@ -115,12 +115,12 @@ module _ (cs : ChartSet) (chart : ℕ) (r : Run) (t : ℕ) where
 
 -- ---- in place
 
-module _ (n : ℕ) (answer : Answer) (states ages : List ℕ) (vars : List ℤ) (position cycles : ℕ) where
-  pub moved-value : n ≤ 4_294_967_295 → movedBy n answer states ages vars position cycles ≡ val (answer, runIn states ages vars n position cycles)
-  moved-value h = ap (λ o. o >>= λ events. val (answer, runIn states ages vars events position cycles)) (coded-value n h)
+module _ (n : ℕ) (answer : Answer) (states ages : List ℕ) (vars : List ℤ) (m : Moment) where
+  pub moved-value : n ≤ 4_294_967_295 → movedBy n answer states ages vars m ≡ val (answer, runIn states ages vars n m)
+  moved-value h = ap (λ o. o >>= λ events. val (answer, runIn states ages vars events m)) (coded-value n h)
 
-  pub moved-fault : 4_294_967_295 < n → movedBy n answer states ages vars position cycles ≡ fault (codedFault n)
-  moved-fault h = ap (λ o. o >>= λ events. val (answer, runIn states ages vars events position cycles)) (coded-fault n h)
+  pub moved-fault : 4_294_967_295 < n → movedBy n answer states ages vars m ≡ fault (codedFault n)
+  moved-fault h = ap (λ o. o >>= λ events. val (answer, runIn states ages vars events m)) (coded-fault n h)
 
 -- ---- of an accepted file
 

@@ -10,10 +10,10 @@ use borrow.Author.Tests.{eq-eqb, eqb-true}
 use Rattle.prelude.specs.Lists.{keep, upto, caseOf}
 use Rattle.prelude.specs.Owned.{of}
 use Rattle.model.specs.ChartSet.{readActions}
-use Rattle.chart_files.specs.declared.Shape.{Shape}
-use Rattle.chart_files.specs.Places.{placeAt, actionAt}
-use Rattle.chart_files.proofs.PlacesRead.{of-actions}
-use Rattle.chart_steps.specs.Accepted.{Accepted}
+use Rattle.chart_records.specs.declared.Shape.{Shape}
+use Rattle.chart_records.specs.Places.{placeAt, actionAt}
+use Rattle.chart_records.proofs.PlacesRead.{of-actions}
+use Rattle.chart_records.specs.Accepted.{Accepted}
 use Rattle.machines.specs.Chains.{Chained}
 use Rattle.chart_steps.specs.Tables.{keyFor, keyAt, keyed, HasActions, KeyedOwner}
 use Rattle.machines.proofs.ChainsEarliest.{keep-alike}

@@ -11,9 +11,9 @@ use Rattle.prelude.specs.Lists.{keep, upto}
 use Rattle.records.specs.Refusal.{Refusal, Out, val, fault, _>>=_}
 use Rattle.model.specs.Runs.{World, deed, deeds}
 use Rattle.model.specs.ChartSet.{readCharts}
-use Rattle.chart_files.specs.declared.Shape.{Shape}
-use Rattle.chart_files.specs.Places.{actionAt}
-use Rattle.machines.specs.Worlds.{worldIn}
+use Rattle.chart_records.specs.declared.Shape.{Shape}
+use Rattle.chart_records.specs.Places.{actionAt}
+use Rattle.machines.specs.Worlds.{Moment, worldIn}
 use Rattle.chart_steps.specs.Tables.{keyed, deedsOf, deedsOfThree}
 
 then-val : {A : Type 0} (o : Out A) → o ≡ (o >>= λ x. val x)
@@ -49,41 +49,41 @@ module _ (s : List ℕ) (sh : Shape) (leaving crossing entering : ℕ) where
   module _ (vars₀ : List ℤ) (events₀ : ℕ) where
     -- left to do: the deeds of the list, and those of the keys behind
     abbrev pub Left : ℕ → List ℕ → List ℤ → ℕ → Type 0
-    Left k rest vars events = (p c : ℕ) → deedsOfThree s sh leaving crossing entering (worldIn vars₀ events₀ p c) ≡ (deedsIn rest (worldIn vars events p c) >>= behind k)
+    Left k rest vars events = (m : Moment) → deedsOfThree s sh leaving crossing entering (worldIn vars₀ events₀ m) ≡ (deedsIn rest (worldIn vars events m) >>= behind k)
 
     pub left-start : (rest : List ℕ) → keep (keyed s sh leaving) (upto (sh .actions)) ≡ rest → Left 0 rest vars₀ events₀
-    left-start rest e p c = ap (λ l. deedsIn l (worldIn vars₀ events₀ p c) >>= behind 0) e
+    left-start rest e m = ap (λ l. deedsIn l (worldIn vars₀ events₀ m) >>= behind 0) e
 
     module _ (k : ℕ) (rest : List ℕ) (vars : List ℤ) (events : ℕ) (left : Left k rest vars events) where
       -- a deed, and then the rest
       module _ (a : ℕ) (more : List ℕ) (one : rest ≡ a ∷ more) where
-        first-deed : (p c : ℕ) → deedsOfThree s sh leaving crossing entering (worldIn vars₀ events₀ p c)
-            ≡ ((deed (readCharts s .nodes) (readCharts s .variables) (actionAt s sh a .1) (worldIn vars events p c) >>= λ w. deedsIn more w) >>= behind k)
+        first-deed : (m : Moment) → deedsOfThree s sh leaving crossing entering (worldIn vars₀ events₀ m)
+            ≡ ((deed (readCharts s .nodes) (readCharts s .variables) (actionAt s sh a .1) (worldIn vars events m) >>= λ w. deedsIn more w) >>= behind k)
         unfolding deeds
-        first-deed p c = left p c ∙ ap (λ l. deedsIn l (worldIn vars events p c) >>= behind k) one
+        first-deed m = left m ∙ ap (λ l. deedsIn l (worldIn vars events m) >>= behind k) one
 
-        pub left-fault : (w : Refusal) → ((p c : ℕ) → fault w ≡ deed (readCharts s .nodes) (readCharts s .variables) (actionAt s sh a .1) (worldIn vars events p c)) →
-            (p c : ℕ) → fault w ≡ deedsOfThree s sh leaving crossing entering (worldIn vars₀ events₀ p c)
-        left-fault w d p c = ap (λ o. (o >>= λ w. deedsIn more w) >>= behind k) (d p c) ∙ sym (first-deed p c)
+        pub left-fault : (w : Refusal) → ((m : Moment) → fault w ≡ deed (readCharts s .nodes) (readCharts s .variables) (actionAt s sh a .1) (worldIn vars events m)) →
+            (m : Moment) → fault w ≡ deedsOfThree s sh leaving crossing entering (worldIn vars₀ events₀ m)
+        left-fault w d m = ap (λ o. (o >>= λ w. deedsIn more w) >>= behind k) (d m) ∙ sym (first-deed m)
 
         pub left-more : (vars′ : List ℤ) (events′ : ℕ) →
-            ((p c : ℕ) → val (worldIn vars′ events′ p c) ≡ deed (readCharts s .nodes) (readCharts s .variables) (actionAt s sh a .1) (worldIn vars events p c)) → Left k more vars′ events′
-        left-more vars′ events′ d p c = first-deed p c ∙ ap (λ o. (o >>= λ w. deedsIn more w) >>= behind k) (sym (d p c))
+            ((m : Moment) → val (worldIn vars′ events′ m) ≡ deed (readCharts s .nodes) (readCharts s .variables) (actionAt s sh a .1) (worldIn vars events m)) → Left k more vars′ events′
+        left-more vars′ events′ d m = first-deed m ∙ ap (λ o. (o >>= λ w. deedsIn more w) >>= behind k) (sym (d m))
 
       -- the last deed of a key is done
       module _ (none : rest ≡ []) where
-        keys-left : (p c : ℕ) → deedsOfThree s sh leaving crossing entering (worldIn vars₀ events₀ p c) ≡ behind k (worldIn vars events p c)
+        keys-left : (m : Moment) → deedsOfThree s sh leaving crossing entering (worldIn vars₀ events₀ m) ≡ behind k (worldIn vars events m)
         unfolding deeds
-        keys-left p c = left p c ∙ ap (λ l. deedsIn l (worldIn vars events p c) >>= behind k) none
+        keys-left m = left m ∙ ap (λ l. deedsIn l (worldIn vars events m) >>= behind k) none
 
         pub left-next : k ≤ 2 → (k ≡ 2 → ⊥) → (rest′ : List ℕ) → keep (keyed s sh (keyAfter (k + 1))) (upto (sh .actions)) ≡ rest′ → Left (k + 1) rest′ vars events
-        left-next h n rest′ e p c =
-            keys-left p c
+        left-next h n rest′ e m =
+            keys-left m
             ∙ go (eqb k 0) refl
-            ∙ ap (λ l. deedsIn l (worldIn vars events p c) >>= behind (k + 1)) e
+            ∙ ap (λ l. deedsIn l (worldIn vars events m) >>= behind (k + 1)) e
           where
             w : World
-            w = worldIn vars events p c
+            w = worldIn vars events m
 
             go : (b : Bool) → eqb k 0 ≡ b → behind k w ≡ (deedsOf s sh (keyAfter (k + 1)) w >>= behind (k + 1))
             go true d = subst (λ j. behind j w ≡ (deedsOf s sh (keyAfter (j + 1)) w >>= behind (j + 1))) (sym (eqb-true k 0 d)) refl
@@ -91,5 +91,5 @@ module _ (s : List ℕ) (sh : Shape) (leaving crossing entering : ℕ) where
                 let one : k ≡ 1 = omega (arith, eqb-false k 0 d) in
                 subst (λ j. behind j w ≡ (deedsOf s sh (keyAfter (j + 1)) w >>= behind (j + 1))) (sym one) (then-val (deedsOf s sh entering w))
 
-        pub left-none : k ≡ 2 → (p c : ℕ) → val (worldIn vars events p c) ≡ deedsOfThree s sh leaving crossing entering (worldIn vars₀ events₀ p c)
-        left-none e p c = sym (keys-left p c ∙ ap (λ j. behind j (worldIn vars events p c)) e)
+        pub left-none : k ≡ 2 → (m : Moment) → val (worldIn vars events m) ≡ deedsOfThree s sh leaving crossing entering (worldIn vars₀ events₀ m)
+        left-none e m = sym (keys-left m ∙ ap (λ j. behind j (worldIn vars events m)) e)

@@ -13,11 +13,11 @@ use Rattle.prelude.proofs.Counts.{impossible, and-true}
 use Rattle.model.specs.ChartSet.{ChartSet, noTransition, readCharts, transition}
 use Rattle.model.specs.Charts.{row}
 use Rattle.model.specs.ChartFile.{prioritiesDiffer}
-use Rattle.chart_files.specs.declared.Shape.{Shape}
-use Rattle.chart_files.specs.Places.{transitionAt}
+use Rattle.chart_records.specs.declared.Shape.{Shape}
+use Rattle.chart_records.specs.Places.{transitionAt}
 use Rattle.prelude.proofs.Maps.{keep-keep}
-use Rattle.chart_files.proofs.PlacesRead.{transition-is, length-transitions, most-transitions}
-use Rattle.chart_steps.specs.Accepted.{Accepted}
+use Rattle.chart_records.proofs.PlacesRead.{transition-is, length-transitions, most-transitions}
+use Rattle.chart_records.specs.Accepted.{Accepted}
 use Rattle.chart_steps.specs.Tables.{headOr, earliest, named, leaves, rowEntry, HasRows, highest, HasEnds}
 use Rattle.machines.proofs.ChainsEarliest.{keep-alike, only-one}
 use Rattle.chart_steps.proofs.Accepted.{all-kept, priority-known, differ}

@@ -4,9 +4,9 @@ use mathlib.Core.List.{List}
 use Prim.Native.Nat.{ℕ}
 use native.Mathlib.Omega.{arith}
 use Rattle.model.specs.ChartSet.{readCharts}
-use Rattle.chart_files.specs.declared.Shape.{Shape}
-use Rattle.chart_files.specs.Shape.{IsShape}
-use Rattle.chart_files.proofs.PlacesRead.{inside, most-charts, most-states, most-transitions, most-variables, homes-are, variables-are, nodes-are}
+use Rattle.chart_records.specs.declared.Shape.{Shape}
+use Rattle.chart_records.specs.Shape.{IsShape}
+use Rattle.chart_records.proofs.PlacesRead.{inside, most-charts, most-states, most-transitions, most-variables, homes-are, variables-are, nodes-are}
 use Rattle.machines.specs.declared.values.Values.{Values}
 use Rattle.machines.specs.Files.{homesIn, variablesIn, nodesIn, HasValues}
 use Rattle.chart_steps.specs.Values.{valuesOf}

@@ -1,4 +1,3 @@
-pub mod Accepted
 pub mod Values
 pub mod Tables
 pub mod Replies

@@ -2,8 +2,8 @@
 use mathlib.Core.List.{List}
 use Prim.Native.Nat.{ℕ}
 use Rattle.model.specs.ChartSet.{readCharts}
-use Rattle.chart_files.specs.declared.Shape.{Shape}
-use Rattle.chart_steps.specs.Accepted.{Accepted}
+use Rattle.chart_records.specs.declared.Shape.{Shape}
+use Rattle.chart_records.specs.Accepted.{Accepted}
 use Rattle.chart_steps.specs.Tables.{HasRows, HasEnds, HasActions}
 
 -- What is known of a set whose turns are taken: it is accepted, and its tables are its own.

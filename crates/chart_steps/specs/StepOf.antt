@@ -10,7 +10,7 @@ use Rattle.records.specs.Refusal.{Out, val, _>>=_}
 use Rattle.model.specs.Runs.{World, Run, Answer, taken, idle, moved}
 use Rattle.model.specs.ChartSet.{ChartSet}
 use Rattle.model.specs.Charts.{chartStep}
-use Rattle.machines.specs.Worlds.{coded, IsCode, runIn}
+use Rattle.machines.specs.Worlds.{Moment, coded, IsCode, runIn}
 
 -- the first transition that holds, if one does, as one number: 65,535 stands for none
 abbrev pub choiceBy : ℕ → Out (Option ℕ)
@@ -37,8 +37,8 @@ abbrev pub answerBy : ℕ → Answer
 answerBy t = cond (eqb t 65535) idle (taken t)
 
 -- turns, from the events after them as one number, the last one's answer, and the places after them
-abbrev pub movedBy : ℕ → Answer → List ℕ → List ℕ → List ℤ → ℕ → ℕ → Out (Answer × Run)
-movedBy code answer states ages vars position cycles = coded code >>= λ events. val (answer, runIn states ages vars events position cycles)
+abbrev pub movedBy : ℕ → Answer → List ℕ → List ℕ → List ℤ → Moment → Out (Answer × Run)
+movedBy code answer states ages vars m = coded code >>= λ events. val (answer, runIn states ages vars events m)
 
 -- The turns of so many charts, from one on: what the last of them answers, or what was answered before, and the run after them.
 unfoldable pub chartTurns : ChartSet → ℕ → ℕ → Answer × Run → Out (Answer × Run)

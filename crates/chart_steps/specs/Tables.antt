@@ -12,8 +12,8 @@ use Rattle.records.specs.Refusal.{Out, _>>=_}
 use Rattle.model.specs.Runs.{World, deeds}
 use Rattle.model.specs.ChartSet.{ChartSet, readCharts, transition}
 pub use Rattle.machines.specs.Chains.{headOr, earliest, named}
-use Rattle.chart_files.specs.declared.Shape.{Shape}
-use Rattle.chart_files.specs.Places.{placeAt, actionAt}
+use Rattle.chart_records.specs.declared.Shape.{Shape}
+use Rattle.chart_records.specs.Places.{placeAt, actionAt}
 
 -- ---- rows
 

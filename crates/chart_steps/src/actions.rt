@@ -1,11 +1,11 @@
 // The key of an action's owner.
 ghost use mathlib.Core.Path.{_≡_};
 ghost use Prim.Native.Nat.{_<_};
-ghost use Rattle.chart_steps.specs.Accepted.{Accepted};
+ghost use Rattle.chart_records.specs.Accepted.{Accepted};
 ghost use Rattle.chart_steps.specs.Tables.{keyFor, keyAt, KeyedOwner, actionKeys};
-use chart_files::Shape;
-use chart_files::fields::owner_of;
-use chart_files::fields::place_of;
+use chart_records::Shape;
+use chart_records::fields::owner_of;
+use chart_records::fields::place_of;
 use records::sizes::CROSSING_KEYS;
 use records::sizes::EXIT_KEYS;
 

@@ -3,13 +3,13 @@ ghost use mathlib.Core.Path.{_≡_};
 ghost use Prim.Native.Nat.{ℕ, _<_};
 ghost use Rattle.model.specs.Runs.{deed};
 ghost use Rattle.model.specs.ChartSet.{readCharts};
-ghost use Rattle.chart_files.specs.Places.{firstAction, actionAt};
-ghost use Rattle.machines.specs.Worlds.{worldIn, worldBy, IsCode};
-ghost use Rattle.chart_steps.specs.Accepted.{Accepted};
+ghost use Rattle.chart_records.specs.Places.{firstAction, actionAt};
+ghost use Rattle.machines.specs.Worlds.{Moment, worldIn, worldBy, IsCode};
+ghost use Rattle.chart_records.specs.Accepted.{Accepted};
 ghost use Rattle.chart_steps.specs.Tables.{HasActions, deedsOfThree, actionKeys};
 use super::values::values_of;
-use chart_files::Shape;
-use chart_files::fields::first_variable;
+use chart_records::Shape;
+use chart_records::fields::first_variable;
 use machines::deeds::do_deed;
 use records::sizes::ActionHeads;
 use records::sizes::ActionLinks;
@@ -25,7 +25,7 @@ fn first_action(shape: Shape) -> usize
 // The deed of action a.
 fn do_action(s: &[u8], shape: Shape, a: u16, vars: &mut Variables, events: u32) -> u64
     requires { ⌜ Accepted (now s) shape × (a < shape .actions) ⌝ }
-    ensures { λ r. ⌜ ((p c : ℕ) → worldBy r (now (vars .exit)) p c ≡ deed (readCharts (now (s .entry)) .nodes) (readCharts (now (s .entry)) .variables) (actionAt (now (s .entry)) shape a .1) (worldIn (now (vars .entry)) events p c)) × IsCode r ⌝ }
+    ensures { λ r. ⌜ ((m : Moment) → worldBy r (now (vars .exit)) m ≡ deed (readCharts (now (s .entry)) .nodes) (readCharts (now (s .entry)) .variables) (actionAt (now (s .entry)) shape a .1) (worldIn (now (vars .entry)) events m)) × IsCode r ⌝ }
 {
     let at = 16 * (first_action(shape) + (a as usize));
     let code = s[at + 4];
@@ -47,7 +47,7 @@ pub fn do_deeds(
     events: u32,
 ) -> u64
     requires { ⌜ Accepted (now s) shape × HasActions (now s) shape (now first) (now next) × (leaving < actionKeys) × (crossing < actionKeys) × (entering < actionKeys) ⌝ }
-    ensures { λ r. ⌜ ((p c : ℕ) → worldBy r (now (vars .exit)) p c ≡ deedsOfThree (now (s .entry)) shape leaving crossing entering (worldIn (now (vars .entry)) events p c)) × IsCode r ⌝ }
+    ensures { λ r. ⌜ ((m : Moment) → worldBy r (now (vars .exit)) m ≡ deedsOfThree (now (s .entry)) shape leaving crossing entering (worldIn (now (vars .entry)) events m)) × IsCode r ⌝ }
 {
     let mut present = events;
     let mut k: u8 = 0;

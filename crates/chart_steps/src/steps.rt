@@ -7,9 +7,9 @@ ghost use Rattle.model.specs.Runs.{taken};
 ghost use Rattle.model.specs.ChartSet.{readCharts};
 ghost use Rattle.model.specs.Charts.{row, firstThat, transitionHolds, acted, follow as followed, chartStep};
 ghost use mathlib.Core.Option.{some};
-ghost use Rattle.chart_steps.specs.Accepted.{Accepted};
+ghost use Rattle.chart_records.specs.Accepted.{Accepted};
 ghost use Rattle.chart_steps.specs.Tables.{HasRows, HasEnds, HasActions};
-ghost use Rattle.machines.specs.Worlds.{runIn, worldIn, worldBy, bareWorld, IsCode};
+ghost use Rattle.machines.specs.Worlds.{Moment, onward, runIn, worldIn, worldBy, bareWorld, IsCode};
 ghost use Rattle.chart_steps.specs.StepOf.{choiceBy, ChoiceOf, slotHolds, answerBy, movedBy, chartTurns};
 ghost use Rattle.chart_steps.specs.Prepared.{Prepared};
 use super::deeds::do_deeds;
@@ -17,8 +17,8 @@ use super::tables::slot_of;
 use super::transitions::holds;
 use super::transitions::source_of;
 use super::transitions::target_of;
-use chart_files::Shape;
-use expressions::arithmetic::Truth;
+use chart_records::Shape;
+use expressions::outcomes::Truth;
 use machines::deeds::fault_code;
 use records::sizes::ActionHeads;
 use records::sizes::ActionLinks;
@@ -88,7 +88,7 @@ fn do_actions(
     events: u32,
 ) -> u64
     requires { ⌜ Accepted (now s) shape × HasActions (now s) shape (now first) (now next) × (t < shape .transitions) ⌝ }
-    ensures { λ r. ⌜ ((p c : ℕ) → worldBy r (now (vars .exit)) p c ≡ acted (readCharts (now (s .entry))) t (worldIn (now (vars .entry)) events p c)) × IsCode r ⌝ }
+    ensures { λ r. ⌜ ((m : Moment) → worldBy r (now (vars .exit)) m ≡ acted (readCharts (now (s .entry))) t (worldIn (now (vars .entry)) events m)) × IsCode r ⌝ }
 {
     let leaving = EXIT_KEYS + source_of(s, shape, t);
     let crossing = CROSSING_KEYS + t;
@@ -120,7 +120,7 @@ fn follow(
     events: u32,
 ) -> u64
     requires { ⌜ Accepted (now s) shape × HasActions (now s) shape (now first) (now next) × (chart < mostCharts) × (t < shape .transitions) ⌝ }
-    ensures { λ r. ⌜ ((p c : ℕ) → movedBy r (taken t) (now (states .exit)) (now (ages .exit)) (now (vars .exit)) p c ≡ followed (readCharts (now (s .entry))) chart (runIn (now (states .entry)) (now (ages .entry)) (now (vars .entry)) events p c) (some t)) × IsCode r ⌝ }
+    ensures { λ r. ⌜ ((m : Moment) → movedBy r (taken t) (now (states .exit)) (now (ages .exit)) (now (vars .exit)) m ≡ followed (readCharts (now (s .entry))) chart (runIn (now (states .entry)) (now (ages .entry)) (now (vars .entry)) events m) (some t)) × IsCode r ⌝ }
 {
     let after = do_actions(s, shape, first, next, t, vars, events);
     if 4294967295 < after {
@@ -148,7 +148,7 @@ fn step_in_place(
     chosen: &mut u16,
 ) -> u64
     requires { ⌜ Prepared (now s) shape (now rows) (now ends) (now first) (now next) × (chart < shape .charts) ⌝ }
-    ensures { λ r. ⌜ ((p c : ℕ) → movedBy r (answerBy (now (chosen .exit))) (now (states .exit)) (now (ages .exit)) (now (vars .exit)) p c ≡ chartStep (readCharts (now (s .entry))) chart (runIn (now (states .entry)) (now (ages .entry)) (now (vars .entry)) events p c)) × IsCode r ⌝ }
+    ensures { λ r. ⌜ ((m : Moment) → movedBy r (answerBy (now (chosen .exit))) (now (states .exit)) (now (ages .exit)) (now (vars .exit)) m ≡ chartStep (readCharts (now (s .entry))) chart (runIn (now (states .entry)) (now (ages .entry)) (now (vars .entry)) events m)) × IsCode r ⌝ }
 {
     let i = chart as usize;
     let state = states[i];
@@ -192,8 +192,8 @@ pub fn turns_in_place(
     chosen: &mut u16,
 ) -> u64
     requires { ⌜ Prepared (now s) shape (now rows) (now ends) (now first) (now next) × (from ≤ to) × (to ≤ shape .charts) ⌝ }
-    ensures { λ r. ⌜ ((p c : ℕ) → movedBy r (answerBy (now (chosen .exit))) (now (states .exit)) (now (ages .exit)) (now (vars .exit)) (p + (to - from)) c
-        ≡ chartTurns (readCharts (now (s .entry))) from (to - from) (answerBy (now (chosen .entry)), runIn (now (states .entry)) (now (ages .entry)) (now (vars .entry)) events p c)) × IsCode r ⌝ }
+    ensures { λ r. ⌜ ((m : Moment) → movedBy r (answerBy (now (chosen .exit))) (now (states .exit)) (now (ages .exit)) (now (vars .exit)) (onward (to - from) m)
+        ≡ chartTurns (readCharts (now (s .entry))) from (to - from) (answerBy (now (chosen .entry)), runIn (now (states .entry)) (now (ages .entry)) (now (vars .entry)) events m)) × IsCode r ⌝ }
 {
     let mut present = events;
     let mut chart = from;

@@ -3,7 +3,7 @@ ghost use mathlib.Core.Path.{_≡_};
 ghost use Prim.Native.Nat.{_+_, _*_, _<_};
 ghost use lib.ListN.{length};
 ghost use Rattle.model.specs.Charts.{triggered};
-ghost use Rattle.chart_files.specs.Places.{triggerIn};
+ghost use Rattle.chart_records.specs.Places.{triggerIn};
 ghost use Rattle.chart_steps.specs.Replies.{Holdable};
 use machines::deeds::present;
 use records::u32_within;

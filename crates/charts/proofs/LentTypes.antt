@@ -1,13 +1,13 @@
 -- The run, the shape and what functions over values return, as the laws of functions on a lent run take them. Assumes nothing.
-use Rattle.machines.proofs.Lent.{Structure, Answering}
-use Rattle.machines.proofs.LentAnswers.{answer-type, ending-type, cycles-type}
-use Rattle.chart_files.proofs.Shape as S
-use Rattle.chart_files.proofs.Shape.Laws as S′
+use Rattle.lent_runs.proofs.Lent.{Structure, Answering}
+use Rattle.lent_runs.proofs.LentAnswers.{answer-type, ending-type, cycles-type}
+use Rattle.chart_records.proofs.Shape as S
+use Rattle.chart_records.proofs.Shape.Laws as S′
 use Rattle.charts.specs.declared.turns.Turned.{Turned}
 use Rattle.charts.specs.declared.cycles.Called.{Called}
 use Rattle.charts.specs.declared.plays.Played.{Played}
-use Rattle.charts.proofs.runs.Run as R
-use Rattle.charts.proofs.runs.Run.Laws as R′
+use Rattle.chart_runs.proofs.Run as R
+use Rattle.chart_runs.proofs.Run.Laws as R′
 use Rattle.charts.proofs.turns.Turned as T
 use Rattle.charts.proofs.cycles.Called as C
 use Rattle.charts.proofs.plays.Played as P

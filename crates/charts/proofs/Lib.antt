@@ -1,5 +1,4 @@
 -- Laws that the proofs of several functions use, and that crates above cite.
-pub mod RunOfAges
 pub mod TurnOfEnd
 pub mod TurnOfKept
 pub mod TurnOf

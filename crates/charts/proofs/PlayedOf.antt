@@ -16,14 +16,14 @@ use Rattle.model.proofs.ChecksPossible.{possible-rests, checked-possible}
 use Rattle.model.specs.ChartSet.{ChartSet, readCharts}
 use Rattle.model.specs.Charts.{chartStep, charts}
 use Rattle.model.specs.Calls.{chartSets}
-use Rattle.machines.specs.Answers.{cyclesOf}
+use Rattle.answers.specs.Answers.{cyclesOf}
 use Rattle.machines.specs.Playing.{played, stoppedAt, playing, playCall}
 use Rattle.machines.proofs.Turns.{cycle-refused}
 use Rattle.machines.proofs.Playing as P
-use Rattle.machines.specs.declared.answers.Cycles.the-variants.{Done}
+use Rattle.answers.specs.declared.Cycles.the-variants.{Done}
 use Rattle.charts.specs.declared.plays.Played.{Played}
-use Rattle.machines.specs.Worlds.{runIn}
-use Rattle.charts.specs.RunOf.{runOf}
+use Rattle.machines.specs.Worlds.{moment, runIn}
+use Rattle.chart_runs.specs.RunOf.{runOf}
 use Rattle.charts.specs.PlayedOf.{playedOf}
 use Rattle.charts.proofs.TurnOfKept.{step-kept}
 
@@ -35,15 +35,15 @@ few-played s masks r = P.few-called chartSets s masks r (count-kept (readCharts 
 
 -- ---- between two cycles
 
-module _ (cs : ChartSet) (states ages : List ℕ) (vars : List ℤ) (cycles given : ℕ) (fine : T (possible (charts cs) (runIn states ages vars 0 1 cycles))) where
-  checked-by : (b : Bool) → eqb cycles 1_000_000 ≡ b → checked (charts cs) given (runIn states ages vars 0 1 cycles) ≡ fault-if b cycles-done
-  checked-by b e = checked-possible (charts cs) given (runIn states ages vars 0 1 cycles) fine ∙ ap (λ b. fault-if b cycles-done) e
+module _ (cs : ChartSet) (states ages : List ℕ) (vars : List ℤ) (cycles given : ℕ) (fine : T (possible (charts cs) (runIn states ages vars 0 (moment 1 cycles)))) where
+  checked-by : (b : Bool) → eqb cycles 1_000_000 ≡ b → checked (charts cs) given (runIn states ages vars 0 (moment 1 cycles)) ≡ fault-if b cycles-done
+  checked-by b e = checked-possible (charts cs) given (runIn states ages vars 0 (moment 1 cycles)) fine ∙ ap (λ b. fault-if b cycles-done) e
 
   -- the count alone is asked
-  pub checked-fine : (cycles ≡ 1_000_000 → ⊥) → checked (charts cs) given (runIn states ages vars 0 1 cycles) ≡ val tt
+  pub checked-fine : (cycles ≡ 1_000_000 → ⊥) → checked (charts cs) given (runIn states ages vars 0 (moment 1 cycles)) ≡ val tt
   checked-fine n = checked-by false (ne-eqb cycles 1_000_000 n)
 
-  pub checked-last : cycles ≡ 1_000_000 → checked (charts cs) given (runIn states ages vars 0 1 cycles) ≡ fault cycles-done
+  pub checked-last : cycles ≡ 1_000_000 → checked (charts cs) given (runIn states ages vars 0 (moment 1 cycles)) ≡ fault cycles-done
   checked-last e = checked-by true (eq-eqb cycles 1_000_000 e)
 
 module _ (m : Machine) (r : Run) where

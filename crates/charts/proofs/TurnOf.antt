@@ -10,10 +10,10 @@ use lib.ListN.{getD}
 use Rattle.records.specs.Refusal.{val}
 use Rattle.model.specs.Runs.{Run, Answer, parts, timersPossible, checked, give, stepped}
 use Rattle.model.specs.ChartSet.{readCharts}
-use Rattle.model.specs.Charts.{chartStep, charts}
-use Rattle.chart_files.specs.declared.Shape.{Shape}
-use Rattle.chart_files.specs.Shape.{IsShape}
-use Rattle.chart_files.proofs.PlacesRead.{length-initial}
+use Rattle.model.specs.Charts.{charts}
+use Rattle.chart_records.specs.declared.Shape.{Shape}
+use Rattle.chart_records.specs.Shape.{IsShape}
+use Rattle.chart_records.proofs.PlacesRead.{length-initial}
 use Rattle.machines.proofs.ChecksClauses.{all-upto}
 use Rattle.machines.proofs.Turns as T
 use Rattle.charts.specs.TurnOf.{Ready}
@@ -37,6 +37,3 @@ module _ (s : List ℕ) (sh : Shape) (is : IsShape s sh) where
   ready-next r y =
       T.ready-next (charts (readCharts s)) (sh .charts) (length-initial s sh is) (Young (sh .charts)) (λ cycles k x y h f l. omega (arith, h, f l)) r y
       (step-kept (readCharts s) (r .world .position - 1) r)
-
-  pub chart-place : (r : Run) (a : Answer) (q : Run) → chartStep (readCharts s) (r .world .position - 1) r ≡ val (a, q) → q .world .position ≡ r .world .position
-  chart-place r = T.part-place (charts (readCharts s)) r (step-kept (readCharts s) (r .world .position - 1) r)

@@ -14,17 +14,17 @@ use Rattle.model.specs.Charts.{charts}
 use Rattle.model.proofs.ChecksKept.{NotTime}
 use Rattle.model.proofs.ChecksKeptBySteps.{steady-charts}
 use Rattle.model.proofs.ChartFileSound.{sound}
-use Rattle.chart_files.proofs.PlacesRead.{length-initial}
-use Rattle.chart_files.specs.declared.Shape.{Shape}
-use Rattle.machines.specs.declared.answers.Answer.{Answer}
-use Rattle.machines.specs.declared.answers.Answer.the-variants.{Taken, Idle, Time, Fault, Refused}
-use Rattle.machines.specs.Answers.{answerOf}
-use Rattle.machines.proofs.answers.Answer as declared-answer
+use Rattle.chart_records.proofs.PlacesRead.{length-initial}
+use Rattle.chart_records.specs.declared.Shape.{Shape}
+use Rattle.answers.specs.declared.Answer.{Answer}
+use Rattle.answers.specs.declared.Answer.the-variants.{Taken, Idle, Time, Fault, Refused}
+use Rattle.answers.specs.Answers.{answerOf}
+use Rattle.answers.proofs.Answer as declared-answer
 use Rattle.machines.proofs.TurnsCycle as B
-use Rattle.charts.specs.declared.runs.Run.{Run}
+use Rattle.chart_runs.specs.declared.Run.{Run}
 use Rattle.charts.specs.declared.turns.Turned.{Turned}
-use Rattle.chart_steps.specs.Accepted.{Accepted}
-use Rattle.charts.specs.RunOf.{runOf}
+use Rattle.chart_records.specs.Accepted.{Accepted}
+use Rattle.chart_runs.specs.RunOf.{runOf}
 use Rattle.charts.specs.TurnOf.{turnOf}
 
 -- an answer that is no fault, no refusal and not time's

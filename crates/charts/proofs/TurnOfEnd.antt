@@ -13,14 +13,14 @@ use Rattle.records.specs.Refusal.{Out, val, fault, _>>=_}
 use Rattle.model.specs.Runs.{Run, Answer, moved, stepped}
 use Rattle.model.specs.ChartSet.{readCharts}
 use Rattle.model.specs.Charts.{chartStep, charts}
-use Rattle.chart_files.specs.declared.Shape.{Shape}
-use Rattle.chart_files.specs.Shape.{IsShape}
-use Rattle.chart_files.proofs.PlacesRead.{length-initial}
-use Rattle.machines.specs.Worlds.{codedFault, runIn}
+use Rattle.chart_records.specs.declared.Shape.{Shape}
+use Rattle.chart_records.specs.Shape.{IsShape}
+use Rattle.chart_records.proofs.PlacesRead.{length-initial}
+use Rattle.machines.specs.Worlds.{Moment, moment, codedFault, runIn}
 use Rattle.charts.specs.declared.plays.Progress.{Progress}
 use Rattle.machines.proofs.WorldsCodes.{coded-value, coded-fault}
 use Rattle.machines.proofs.Turns.{at-part, cycle-more, cycle-stop, cycle-end}
-use Rattle.charts.specs.RunOf.{aged}
+use Rattle.chart_runs.specs.RunOf.{aged}
 use Rattle.chart_steps.specs.StepOf.{movedBy, chartTurns}
 use Rattle.charts.specs.EndedBy.{ranTo, endedBy}
 use Rattle.charts.specs.TurnOf.{Ready, after}
@@ -75,36 +75,36 @@ module _ (s : List ℕ) (sh : Shape) (is : IsShape s sh) where
           on (fault w) f = more ∙ f
           on (val z) f = (f .0, f .1, more ∙ f .2)
 
-  module _ (answer₀ : Answer) (r : Run) (ready : Ready (sh .charts) r) (code : ℕ) (answer : Answer) (states ages : List ℕ) (vars : List ℤ) (p c : ℕ)
-      (turned : movedBy code answer states ages vars p c ≡ chartTurns (readCharts s) (r .world .position - 1) (sh .charts - (r .world .position - 1)) (answer₀, r)) where
-    turned-all : CycleFrom r (movedBy code answer states ages vars p c)
+  module _ (answer₀ : Answer) (r : Run) (ready : Ready (sh .charts) r) (code : ℕ) (answer : Answer) (states ages : List ℕ) (vars : List ℤ) (m : Moment)
+      (turned : movedBy code answer states ages vars m ≡ chartTurns (readCharts s) (r .world .position - 1) (sh .charts - (r .world .position - 1)) (answer₀, r)) where
+    turned-all : CycleFrom r (movedBy code answer states ages vars m)
     turned-all =
         subst (CycleFrom r) (sym turned)
         (cycle-from (sh .charts - (r .world .position - 1)) (r .world .position - 1) (answer₀, r) ready (omega (arith, ready .begun)) (omega (arith, ready .begun, ready .within)))
 
     pub cycle-stopped : 4_294_967_295 < code → after (charts (readCharts s)) (sh .charts + 2 - r .world .position) r ≡ fault (codedFault code)
-    cycle-stopped h = subst (CycleFrom r) (moved-fault code answer states ages vars p c h) turned-all
+    cycle-stopped h = subst (CycleFrom r) (moved-fault code answer states ages vars m h) turned-all
 
     -- the charts' turns are taken, and time's is left
-    pub cycle-passed : code ≤ 4_294_967_295 → CycleFrom r (val (answer, runIn states ages vars code p c))
-    cycle-passed h = subst (CycleFrom r) (moved-value code answer states ages vars p c h) turned-all
+    pub cycle-passed : code ≤ 4_294_967_295 → CycleFrom r (val (answer, runIn states ages vars code m))
+    cycle-passed h = subst (CycleFrom r) (moved-value code answer states ages vars m h) turned-all
 
     pub cycle-young : code ≤ 4_294_967_295 → (k : ℕ) → k < sh .charts → getD ages k 0 < 4_294_967_295
     cycle-young h k l = let passed = cycle-passed h .0 in omega (arith, passed .unfinished, passed .timers k l)
 
     -- time passes, unless a turn faulted
     module _ (d : Progress) (ages′ : List ℕ) (told : (q : Run) → ranTo d q ≡ endedBy code q) (grown : code ≤ 4_294_967_295 → ages′ ≡ mapFrom 0 (aged (sh .charts)) ages) where
-      pub cycle-closed : ranTo d (runIn states ages′ vars 0 1 (c + 1)) ≡ after (charts (readCharts s)) (sh .charts + 2 - r .world .position) r
-      cycle-closed = told (runIn states ages′ vars 0 1 (c + 1)) ∙ go (ltb 4_294_967_295 code) refl
+      pub cycle-closed : ranTo d (runIn states ages′ vars 0 (moment 1 (m .cycles + 1))) ≡ after (charts (readCharts s)) (sh .charts + 2 - r .world .position) r
+      cycle-closed = told (runIn states ages′ vars 0 (moment 1 (m .cycles + 1))) ∙ go (ltb 4_294_967_295 code) refl
         where
-          go : (b : Bool) → ltb 4_294_967_295 code ≡ b → endedBy code (runIn states ages′ vars 0 1 (c + 1)) ≡ after (charts (readCharts s)) (sh .charts + 2 - r .world .position) r
+          go : (b : Bool) → ltb 4_294_967_295 code ≡ b → endedBy code (runIn states ages′ vars 0 (moment 1 (m .cycles + 1))) ≡ after (charts (readCharts s)) (sh .charts + 2 - r .world .position) r
           go true e =
               let h : 4_294_967_295 < code = ltb-true 4_294_967_295 code e in
-              ap (λ o. o >>= λ events. val (runIn states ages′ vars 0 1 (c + 1))) (coded-fault code h) ∙ sym (cycle-stopped h)
+              ap (λ o. o >>= λ events. val (runIn states ages′ vars 0 (moment 1 (m .cycles + 1)))) (coded-fault code h) ∙ sym (cycle-stopped h)
           go false e =
               let h : code ≤ 4_294_967_295 = ltb-false 4_294_967_295 code e in
               let is = length-initial s sh is in
               let passed = cycle-passed h in
-              ap (λ o. o >>= λ events. val (runIn states ages′ vars 0 1 (c + 1))) (coded-value code h)
-              ∙ ap (λ t. val (runIn states t vars 0 1 (c + 1))) (grown h ∙ ap (λ n. mapFrom 0 (aged n) ages) (sym is))
-              ∙ sym (passed .2 ∙ cycle-end (charts (readCharts s)) (sh .charts) is (runIn states ages vars code p c) (passed .1))
+              ap (λ o. o >>= λ events. val (runIn states ages′ vars 0 (moment 1 (m .cycles + 1)))) (coded-value code h)
+              ∙ ap (λ t. val (runIn states t vars 0 (moment 1 (m .cycles + 1)))) (grown h ∙ ap (λ n. mapFrom 0 (aged n) ages) (sym is))
+              ∙ sym (passed .2 ∙ cycle-end (charts (readCharts s)) (sh .charts) is (runIn states ages vars code m) (passed .1))

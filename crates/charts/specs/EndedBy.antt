@@ -2,7 +2,7 @@
 use Prim.Native.Nat.{ℕ}
 use Rattle.records.specs.Refusal.{Out, val, fault, _>>=_}
 use Rattle.model.specs.Runs.{Run}
-use Rattle.machines.specs.Answers.{reasonOf}
+use Rattle.answers.specs.Answers.{reasonOf}
 use Rattle.machines.specs.Worlds.{coded}
 use Rattle.charts.specs.declared.plays.Progress as declared-progress
 

@@ -1,4 +1,3 @@
-pub mod RunOf
 pub mod TurnOf
 pub mod PlayedOf
 pub mod EndedBy

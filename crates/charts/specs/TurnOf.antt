@@ -2,12 +2,12 @@
 use Prim.Native.Nat.{ℕ, _≤_, _<_}
 use Rattle.model.specs.Outcome.{Outcome}
 use Rattle.model.specs.Runs as M
-use Rattle.machines.specs.Answers.{answerOf, endingOf}
+use Rattle.answers.specs.Answers.{answerOf, endingOf}
 use Rattle.machines.specs.Turns as R
 pub use Rattle.machines.specs.Turns.{after, finish}
 use Rattle.charts.specs.declared.turns.Turned.{Turned}
 use Rattle.charts.specs.declared.cycles.Called.{Called}
-use Rattle.charts.specs.RunOf.{runOf}
+use Rattle.chart_runs.specs.RunOf.{runOf}
 
 -- a turn's answer, and the lent run afterwards
 abbrev pub turnOf : Turned → Outcome M.Answer M.Run

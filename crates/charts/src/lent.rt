@@ -5,19 +5,19 @@ ghost use Rattle.model.specs.Outcome.{settled};
 ghost use Rattle.model.specs.Runs.{start as started, turn as model-turn, cycle as model-cycle};
 ghost use Rattle.model.specs.ChartSet.{readCharts};
 ghost use Rattle.model.specs.Charts.{charts as machine};
-ghost use Rattle.machines.specs.Answers.{answerOf, endingOf, cyclesOf};
+ghost use Rattle.answers.specs.Answers.{answerOf, endingOf, cyclesOf};
 ghost use Rattle.machines.specs.Playing.{playing};
-ghost use Rattle.chart_steps.specs.Accepted.{Accepted};
-ghost use Rattle.charts.specs.RunOf.{runOf};
+ghost use Rattle.chart_records.specs.Accepted.{Accepted};
+ghost use Rattle.chart_runs.specs.RunOf.{runOf};
 use super::cycles::cycle_by_turns;
 use super::cycles::fresh;
 use super::plays::play_in_place;
-use super::runs::Run;
 use super::turns::one_turn;
-use chart_files::Shape;
-use machines::answers::Answer;
-use machines::answers::Cycles;
-use machines::answers::Ending;
+use answers::Answer;
+use answers::Cycles;
+use answers::Ending;
+use chart_records::Shape;
+use chart_runs::Run;
 
 // The lent run becomes a fresh one.
 pub fn start(s: &[u8], shape: Shape, run: &mut Run) -> Ending

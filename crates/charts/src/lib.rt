@@ -2,5 +2,4 @@
 pub mod cycles;
 pub mod lent;
 pub mod plays;
-pub mod runs;
 pub mod turns;

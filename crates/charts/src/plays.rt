@@ -11,23 +11,23 @@ ghost use Rattle.model.specs.Runs.{Run as model-run, possible, checked, cycle a
 ghost use Rattle.model.specs.ChartSet.{readCharts};
 ghost use Rattle.model.specs.Charts.{charts as machine};
 ghost use Rattle.machines.specs.Playing.{played, playing};
-ghost use Rattle.chart_steps.specs.Accepted.{Accepted};
-ghost use Rattle.machines.specs.Worlds.{runIn};
-ghost use Rattle.charts.specs.RunOf.{runOf, aged};
+ghost use Rattle.chart_records.specs.Accepted.{Accepted};
+ghost use Rattle.machines.specs.Worlds.{moment, runIn};
+ghost use Rattle.chart_runs.specs.RunOf.{runOf, aged};
 ghost use Rattle.charts.specs.EndedBy.{ranTo, endedBy};
 ghost use Rattle.chart_steps.specs.Prepared.{Prepared};
 ghost use Rattle.charts.specs.TurnOf.{after, finish, Ready};
 ghost use Rattle.charts.specs.PlayedOf.{playedOf};
-use super::runs::Run;
-use super::runs::before_turn;
-use super::runs::grow_ages;
-use super::runs::run_between_cycles;
-use chart_files::Shape;
+use answers::Cycles;
+use answers::Reason;
+use chart_records::Shape;
+use chart_runs::Run;
+use chart_runs::before_turn;
+use chart_runs::grow_ages;
+use chart_runs::run_between_cycles;
 use chart_steps::steps::turns_in_place;
 use chart_steps::tables::fill_actions;
 use chart_steps::tables::fill_rows;
-use machines::answers::Cycles;
-use machines::answers::Reason;
 use machines::checks::Before;
 use machines::checks::events_given;
 use machines::deeds::reason_by;
@@ -83,8 +83,8 @@ fn cycle_or_fault(
     position: u32,
     cycles: u32,
 ) -> Progress
-    requires { ⌜ Prepared (now s) shape (now rows) (now ends) (now first) (now next) × Ready (shape .charts) (runIn (now states) (now ages) (now vars) events position cycles) ⌝ }
-    ensures { λ r. ⌜ ranTo r (runIn (now (states .exit)) (now (ages .exit)) (now (vars .exit)) 0 1 (cycles + 1)) ≡ after (machine (readCharts (now (s .entry)))) (shape .charts + 2 - position) (runIn (now (states .entry)) (now (ages .entry)) (now (vars .entry)) events position cycles) ⌝ }
+    requires { ⌜ Prepared (now s) shape (now rows) (now ends) (now first) (now next) × Ready (shape .charts) (runIn (now states) (now ages) (now vars) events (moment position cycles)) ⌝ }
+    ensures { λ r. ⌜ ranTo r (runIn (now (states .exit)) (now (ages .exit)) (now (vars .exit)) 0 (moment 1 (cycles + 1))) ≡ after (machine (readCharts (now (s .entry)))) (shape .charts + 2 - position) (runIn (now (states .entry)) (now (ages .entry)) (now (vars .entry)) events (moment position cycles)) ⌝ }
 {
     let mut chosen: u16 = 65535;
     let from = (position - 1) as u16;
@@ -120,8 +120,8 @@ fn cycle_or_none(
     events: u32,
     cycles: u32,
 ) -> Progress
-    requires { ⌜ Prepared (now s) shape (now rows) (now ends) (now first) (now next) × (checked (machine (readCharts (now s))) events (runIn (now states) (now ages) (now vars) 0 1 cycles) ≡ val tt) ⌝ }
-    ensures { λ r. ⌜ finish (ranTo r (runIn (now (states .exit)) (now (ages .exit)) (now (vars .exit)) 0 1 (cycles + 1))) ≡ model-cycle (machine (readCharts (now (s .entry)))) events (runIn (now (states .entry)) (now (ages .entry)) (now (vars .entry)) 0 1 cycles) ⌝ }
+    requires { ⌜ Prepared (now s) shape (now rows) (now ends) (now first) (now next) × (checked (machine (readCharts (now s))) events (runIn (now states) (now ages) (now vars) 0 (moment 1 cycles)) ≡ val tt) ⌝ }
+    ensures { λ r. ⌜ finish (ranTo r (runIn (now (states .exit)) (now (ages .exit)) (now (vars .exit)) 0 (moment 1 (cycles + 1)))) ≡ model-cycle (machine (readCharts (now (s .entry)))) events (runIn (now (states .entry)) (now (ages .entry)) (now (vars .entry)) 0 (moment 1 cycles)) ⌝ }
     ensures { λ r. ⌜ ((w : Reason) → r ≡ Progress.Fault w → (now (states .exit) ≡ now (states .entry)) × (now (ages .exit) ≡ now (ages .entry)) × (now (vars .exit) ≡ now (vars .entry))) ⌝ }
 {
     let states_before = *states;
@@ -165,9 +165,9 @@ fn further_cycles(
     cycles: u32,
     masks: &[u32],
 ) -> u32
-    requires { ⌜ Prepared (now s) shape (now rows) (now ends) (now first) (now next) × T (possible (machine (readCharts (now s))) (runIn (now states) (now ages) (now vars) 0 1 cycles)) ⌝ }
-    ensures { λ r. ⌜ (played (machine (readCharts (now (s .entry)))) (now (masks .entry)) (runIn (now (states .entry)) (now (ages .entry)) (now (vars .entry)) 0 1 cycles) .count ≡ r)
-        × (played (machine (readCharts (now (s .entry)))) (now (masks .entry)) (runIn (now (states .entry)) (now (ages .entry)) (now (vars .entry)) 0 1 cycles) .run ≡ runIn (now (states .exit)) (now (ages .exit)) (now (vars .exit)) 0 1 (cycles + r)) ⌝ }
+    requires { ⌜ Prepared (now s) shape (now rows) (now ends) (now first) (now next) × T (possible (machine (readCharts (now s))) (runIn (now states) (now ages) (now vars) 0 (moment 1 cycles))) ⌝ }
+    ensures { λ r. ⌜ (played (machine (readCharts (now (s .entry)))) (now (masks .entry)) (runIn (now (states .entry)) (now (ages .entry)) (now (vars .entry)) 0 (moment 1 cycles)) .count ≡ r)
+        × (played (machine (readCharts (now (s .entry)))) (now (masks .entry)) (runIn (now (states .entry)) (now (ages .entry)) (now (vars .entry)) 0 (moment 1 cycles)) .run ≡ runIn (now (states .exit)) (now (ages .exit)) (now (vars .exit)) 0 (moment 1 (cycles + r))) ⌝ }
 {
     let mut done = cycles;
     let mut k: usize = 0;

@@ -6,21 +6,22 @@ ghost use Rattle.model.specs.Outcome.{settled};
 ghost use Rattle.model.specs.Runs.{stepped, turn as model-turn};
 ghost use Rattle.model.specs.ChartSet.{readCharts};
 ghost use Rattle.model.specs.Charts.{charts as machine};
-ghost use Rattle.machines.specs.Answers.{answerOf};
-ghost use Rattle.chart_steps.specs.Accepted.{Accepted};
-ghost use Rattle.charts.specs.RunOf.{runOf};
+ghost use Rattle.answers.specs.Answers.{answerOf};
+ghost use Rattle.machines.specs.Worlds.{moment};
+ghost use Rattle.chart_records.specs.Accepted.{Accepted};
+ghost use Rattle.chart_runs.specs.RunOf.{runOf};
 ghost use Rattle.chart_steps.specs.StepOf.{answerBy, movedBy};
 ghost use Rattle.chart_steps.specs.Prepared.{Prepared};
 ghost use Rattle.charts.specs.TurnOf.{turnOf, Ready};
-use super::runs::Run;
-use super::runs::before_turn;
-use super::runs::give;
-use super::runs::time_passed;
-use chart_files::Shape;
+use answers::Answer;
+use chart_records::Shape;
+use chart_runs::Run;
+use chart_runs::before_turn;
+use chart_runs::give;
+use chart_runs::time_passed;
 use chart_steps::steps::turns_in_place;
 use chart_steps::tables::fill_actions;
 use chart_steps::tables::fill_rows;
-use machines::answers::Answer;
 use machines::checks::Before;
 use machines::deeds::reason_by;
 use records::sizes::ACTION_KEYS;
@@ -63,7 +64,7 @@ fn chart_turned(
     cycles: u32,
 ) -> Turned
     requires { ⌜ position < 4_294_967_295 ⌝ }
-    ensures { λ r. ⌜ turnOf r ≡ settled (runOf lent) (movedBy after (answerBy chosen) states ages variables (position + 1) cycles) ⌝ }
+    ensures { λ r. ⌜ turnOf r ≡ settled (runOf lent) (movedBy after (answerBy chosen) states ages variables (moment (position + 1) cycles)) ⌝ }
 {
     if 4294967295 < after {
         return Turned {

@@ -7,13 +7,13 @@ ghost use Rattle.expressions.specs.Values.{number, truth};
 ghost use Rattle.expressions.specs.Sorts.{sortOf, isNumber, isTruth, nodesNamed, operandsFit};
 ghost use Rattle.expressions.specs.Uses.{addUses, allOperands};
 ghost use Rattle.expressions.specs.Answers.{valueReasonOf};
-ghost use Rattle.records.specs.Framing.{framing as framingBy, counts as countsBy, firsts as firstsBy};
-ghost use Rattle.records.specs.Frame.{framingOf, unlessRefused};
+ghost use Rattle.framing.specs.Framing.{framing as framingBy, counts as countsBy, firsts as firstsBy};
+ghost use Rattle.framing.specs.Frame.{framingOf, unlessRefused};
 ghost use Rattle.comparison.specs.Codes.{numberCode, truthCode, reasonCode, refusalCode};
-use expressions::arithmetic::Number;
-use expressions::arithmetic::Reason;
-use expressions::arithmetic::Truth;
-use records::Framing;
+use expressions::outcomes::Number;
+use expressions::outcomes::Reason;
+use expressions::outcomes::Truth;
+use framing::Framing;
 use records::sizes::Variables;
 
 fn reason_code(w: Reason) -> i64
@@ -167,7 +167,7 @@ pub extern "C" fn framing(
     ensures { λ _. ⌜ now (counts .exit) ≡ unlessRefused (framingBy first (now (most .entry)) (now (s .entry))) (countsBy first (now (most .entry)) (now (s .entry))) ⌝ }
     ensures { λ _. ⌜ now (firsts .exit) ≡ unlessRefused (framingBy first (now (most .entry)) (now (s .entry))) (firstsBy first (now (most .entry)) (now (s .entry))) ⌝ }
 {
-    let f = records::frame_of(s, first, most);
+    let f = framing::frame_of(s, first, most);
     let c = f.counts;
     *counts = c;
     let d = f.firsts;

@@ -4,7 +4,7 @@ use mathlib.Core.List.{List, [], _∷_, _++_}
 use mathlib.Core.Bool.{cond}
 use Prim.Native.Nat.{ℕ, _-_}
 use lib.ListN.{take, drop}
-use Rattle.records.specs.Framing.{wrongAmounts}
+use Rattle.framing.specs.Framing.{wrongAmounts}
 use Rattle.model.specs.ChartFile.{chartLimits, ChartFile}
 use Rattle.model.specs.AutomataFile.{automataLimits, AutomataFile}
 use Rattle.records.proofs.Tables.{Agree}

@@ -12,7 +12,8 @@ use Rattle.records.specs.Bytes.{byte, two, four±}
 use Rattle.expressions.specs.Nodes.{Node, nodeBy, nodeAt}
 use Rattle.expressions.specs.Values.{numberBy, truthBy, number, truth}
 use Rattle.expressions.specs.OperandValues.{operandNumber, operandTruth, computeOperands, compareOperands, decide}
-use Rattle.expressions.specs.Coded.{HasFields, codedNode, arithmeticOf, comparisonOf}
+use Rattle.expressions.specs.Coded.{HasFields, codedNode}
+use Rattle.arithmetic.specs.Operators.{arithmeticOf, comparisonOf}
 use Rattle.expressions.specs.declared.nodes.Fields.{Fields}
 use Rattle.expressions.proofs.Codes.{arithmetic-codes, comparison-codes, decided-codes, no-number, no-truth}
 use Rattle.expressions.proofs.Fields.{coded-at}

@@ -9,10 +9,10 @@ use lib.Dec.{T, leb, ltb, eqb}
 use lib.IntN.{ℤ, pos}
 use Rattle.prelude.specs.Lists.{caseOf}
 use Rattle.records.specs.Refusal.{Out, val}
-use Rattle.expressions.specs.Nodes.{Node, constant, variable, arithmetic, choice, comparison, negation, both, either, unknown, sum, difference, product, quotient, remainder, equal, less, at-most, nodeBy}
+use Rattle.expressions.specs.Nodes.{Node, constant, variable, arithmetic, choice, comparison, negation, both, either, unknown, nodeBy}
+use Rattle.arithmetic.specs.Operators.{sum, difference, product, quotient, remainder, equal, less, at-most, arithmeticOf, comparisonOf}
 use Rattle.expressions.specs.Values.{numberBy, truthBy}
 use Rattle.expressions.specs.OperandValues.{decide}
-use Rattle.expressions.specs.Coded.{arithmeticOf, comparisonOf}
 use Rattle.expressions.specs.Sorts.{Sort, a-number, a-truth, sortOf, isNumber, isTruth, operands, variablesOf}
 
 -- a code that no entry has

@@ -69,23 +69,7 @@ module _ (u w : List ℤ) (alike : (v : ℕ) → getD u v (pos 0) ≡ getD w v (
       let z : ℕ → Out Bool = below false (truthAt g w e) n in
       ((λ i. numberBy (λ a. p a i) (λ a. q a i) u (r i)) ∙ number-by y z (g n), (λ i. truthBy (λ a. p a i) (λ a. q a i) u (r i)) ∙ truth-by y z (g n))
 
-  -- the same values, and lookups that agree up to n, give the same at n
-  module _ (f g : ℕ → Node) (n : ℕ) (eq : (k : ℕ) → k ≤ n → f k ≡ g k) where
-    pub number-same : number f u n ≡ number g w n
-    number-same = same f g (suc n) (suc n) n (omega arith) (omega arith) eq .0
-
-    pub truth-same : truth f u n ≡ truth g w n
-    truth-same = same f g (suc n) (suc n) n (omega arith) (omega arith) eq .1
-
 module _ (vars : List ℤ) where
-  -- lookups that agree up to n give the same at n
-  module _ (f g : ℕ → Node) (n : ℕ) (eq : (k : ℕ) → k ≤ n → f k ≡ g k) where
-    pub number-alike : number f vars n ≡ number g vars n
-    number-alike = number-same vars vars (λ v. refl) f g n eq
-
-    pub truth-alike : truth f vars n ≡ truth g vars n
-    truth-alike = truth-same vars vars (λ v. refl) f g n eq
-
   -- the rule for one node, with the values of lower nodes
   module _ (node : ℕ → Node) (n : ℕ) where
     deep : (a : ℕ) → a < n → Same vars vars (λ v. refl) node node n (suc a) a

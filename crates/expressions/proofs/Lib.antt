@@ -1,6 +1,5 @@
 -- What the proofs of several functions use, and the laws that crates above cite.
-pub mod Signed
-pub mod Outcomes
+pub mod Decided
 pub mod Depth
 pub mod Codes
 pub mod Fields

@@ -4,12 +4,13 @@ use mathlib.Core.List.{List, [], _∷_}
 use Prim.Native.Nat.{ℕ}
 use lib.IntN.{ℤ}
 use Rattle.records.specs.Refusal.{Refusal, out-of-range, zero-divisor, Out, val, fault}
-use Rattle.expressions.specs.Nodes.{Node, constant, variable, arithmetic, choice, comparison, negation, both, either, unknown, Arithmetic, sum, difference, product, quotient, remainder, Comparison, equal, less, at-most}
+use Rattle.expressions.specs.Nodes.{Node, constant, variable, arithmetic, choice, comparison, negation, both, either, unknown}
+use Rattle.arithmetic.specs.Operators.{Arithmetic, sum, difference, product, quotient, remainder, Comparison, equal, less, at-most}
 use Rattle.expressions.specs.Sorts.{Sort, a-number, a-truth}
-use Rattle.expressions.specs.declared.arithmetic.Reason.{Reason}
-use Rattle.expressions.specs.declared.arithmetic.Reason.the-variants.{Range, Divisor}
-use Rattle.expressions.specs.declared.arithmetic.Number as declared-number
-use Rattle.expressions.specs.declared.arithmetic.Truth as declared-truth
+use Rattle.expressions.specs.declared.outcomes.Reason.{Reason}
+use Rattle.expressions.specs.declared.outcomes.Reason.the-variants.{Range, Divisor}
+use Rattle.expressions.specs.declared.outcomes.Number as declared-number
+use Rattle.expressions.specs.declared.outcomes.Truth as declared-truth
 use Rattle.expressions.specs.declared.nodes.Operator.{Operator}
 use Rattle.expressions.specs.declared.nodes.Operator.the-variants.{Sum, Difference, Product, Quotient, Remainder}
 use Rattle.expressions.specs.declared.nodes.Relation.{Relation}

@@ -4,7 +4,6 @@ pub mod Values
 pub mod Sorts
 -- What the code says: its enums and numbers as the paper's outcomes, and how it reads and counts.
 pub mod Answers
-pub mod Outcomes
 pub mod OperandValues
 pub mod Coded
 pub mod Verdicts

@@ -4,13 +4,8 @@ use Prim.Native.Nat.{ℕ, _*_}
 use lib.ListN.{getD, drop}
 use lib.IntN.{ℤ, pos}
 use Rattle.prelude.specs.Lists.{caseOf, Lists}
+use Rattle.arithmetic.specs.Operators.{Arithmetic, sum, difference, product, quotient, remainder, Comparison, equal, less, at-most, arithmeticCode, comparisonCode}
 use Rattle.records.specs.Bytes.{byte, two, four±, bytes2, bytes4±}
-
-pub data Arithmetic : Type 0 where
-  sum difference product quotient remainder : Arithmetic
-
-pub data Comparison : Type 0 where
-  equal less at-most : Comparison
 
 -- A node: its operator with the numbers of its operands, or with its constant, or with the number of its variable.
 pub data Node : Type 0 where
@@ -55,18 +50,6 @@ nodeOf nodes n = getD nodes n unknown
 
 abbrev pub nodeAt : List ℕ → ℕ → Node
 nodeAt s n = readNode (drop (16 * n) s)
-
-abbrev pub arithmeticCode : Arithmetic → ℕ
-arithmeticCode sum = 3
-arithmeticCode difference = 4
-arithmeticCode product = 5
-arithmeticCode quotient = 6
-arithmeticCode remainder = 7
-
-abbrev pub comparisonCode : Comparison → ℕ
-comparisonCode equal = 16
-comparisonCode less = 17
-comparisonCode at-most = 18
 
 -- bytes 1 to 15: operator, three operands, constant, and what is unnamed
 abbrev pub nodeBytes : ℕ → ℕ → ℕ → ℕ → ℤ → List ℕ

@@ -5,8 +5,10 @@ use Prim.Native.Nat.{ℕ}
 use lib.Dec.{ltb}
 use lib.IntN.{ℤ, pos}
 use Rattle.records.specs.Refusal.{Out, val, _>>=_, choose}
-use Rattle.expressions.specs.Nodes.{Node, Arithmetic, Comparison}
-use Rattle.expressions.specs.Values.{compute, compare, number, truth}
+use Rattle.expressions.specs.Nodes.{Node}
+use Rattle.arithmetic.specs.Operators.{Arithmetic, Comparison}
+use Rattle.expressions.specs.Values.{number, truth}
+use Rattle.arithmetic.specs.Arithmetic.{compute, compare}
 
 -- And, or: the first that is the truth that decides, false or true, else the second.
 abbrev pub decide : Bool → Out Bool → Out Bool → Out Bool

@@ -1,40 +1,13 @@
 -- "Values": what a node comes to, as a number and as a truth. Assumes nothing: these are definitions.
-use mathlib.Core.Bool.{Bool, true, false, cond, _&&_}
+use mathlib.Core.Bool.{Bool, true, false, cond}
 use mathlib.Core.List.{List}
-use Prim.Native.Nat.{ℕ, zero, suc, _^_}
-use lib.Dec.{ltb, eqb}
+use Prim.Native.Nat.{ℕ, zero, suc}
+use lib.Dec.{ltb}
 use lib.ListN.{getD}
-use lib.IntN.{ℤ, pos, _+ℤ_, _-ℤ_, _*ℤ_, natAbs}
-use lib.Signed.{ltZ, leZ, quotZ, remZ, mag}
-use Rattle.records.specs.Refusal.{Out, val, fault, out-of-range, zero-divisor, _>>=_, _>>_, choose, fault-if}
-use Rattle.expressions.specs.Nodes.{Node, constant, variable, arithmetic, choice, comparison, negation, both, either, unknown, Arithmetic, sum, difference, product, quotient, remainder, Comparison, equal, less, at-most}
-
--- "A number outside −2,147,483,648 to 2,147,483,647": `mag z` is z, or −(z + 1) where z is negative.
-abbrev pub inRange : ℤ → Out ℤ
-inRange z = cond (ltb (mag z) (2 ^ 31)) (val z) (fault out-of-range)
-
-abbrev pub isZero : ℤ → Bool
-isZero z = eqb (natAbs z) 0
-
--- "quotient toward zero", "remainder with the dividend's sign"
-abbrev pub quotientOf : ℤ → ℤ → ℤ
-quotientOf a b = quotZ a b
-
-abbrev pub remainderOf : ℤ → ℤ → ℤ
-remainderOf a b = remZ a b
-
--- "A number outside .. and a zero divisor are faults."
-abbrev pub compute : Arithmetic → ℤ → ℤ → Out ℤ
-compute sum a b = inRange (a +ℤ b)
-compute difference a b = inRange (a -ℤ b)
-compute product a b = inRange (a *ℤ b)
-compute quotient a b = fault-if (isZero b) zero-divisor >> inRange (quotientOf a b)
-compute remainder a b = fault-if (isZero b) zero-divisor >> inRange (remainderOf a b)
-
-abbrev pub compare : Comparison → ℤ → ℤ → Bool
-compare equal a b = leZ a b && leZ b a
-compare less a b = ltZ a b
-compare at-most a b = leZ a b
+use lib.IntN.{ℤ, pos}
+use Rattle.records.specs.Refusal.{Out, val, _>>=_, choose}
+use Rattle.arithmetic.specs.Arithmetic.{compute, compare}
+use Rattle.expressions.specs.Nodes.{Node, constant, variable, arithmetic, choice, comparison, negation, both, either, unknown}
 
 -- What a node comes to, given what its operands come to. "Operands go left to right; the first fault ends it." "The truth of a choice's first
 -- operand picks the number worked out; the other is not touched. And, or stop at the first operand that decides." A node of the other sort comes to

@@ -2,9 +2,9 @@
 ghost use mathlib.Core.Path.{_≡_};
 ghost use lib.ListN.{length};
 ghost use Rattle.findings.specs.Found.{testOf, FoundIn};
-use chart_files::Shape;
-use chart_files::fields::trigger_of;
 use chart_files::timing::ticking;
+use chart_records::Shape;
+use chart_records::fields::trigger_of;
 use records::byte_at;
 
 // Kinds that are known, refusals 4, 5 and 9 of a chart set; and what 11 asks of the first three in a table.

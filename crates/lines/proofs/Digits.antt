@@ -10,8 +10,7 @@ use lib.Dec.{ltb}
 use lib.ListN.{length, length-append}
 use lib.IntN.{ℤ, pos, negsuc}
 use lib.Signed.{mag}
-use Rattle.model.specs.Runs.{Answer, taken, idle, time}
-use Rattle.model.specs.Replay.{digits, decimal, signedDecimal, chosen, space}
+use Rattle.model.specs.Replay.{digits, decimal, signedDecimal, space}
 
 -- the last digit after those before it
 abbrev ending : ℕ → Bool → List ℕ → List ℕ
@@ -58,20 +57,8 @@ length-digits (suc d) n = ending-length n d (ltb n 10) (digits d (n / 10)) (leng
 pub length-decimal : (d n : ℕ) → d < 20 → n < 10 ^ suc d → length (decimal n) ≤ suc d
 length-decimal d n l h = subst (λ t. length t ≤ suc d) (digits-enough (19 - d) d n h (omega arith)) (length-digits (suc d) n)
 
-pub length-field : (n : ℕ) → length (space ∷ decimal n) ≤ 21
-length-field n = omega (arith, length-digits 20 n)
-
 pub fitting-field : (d n : ℕ) → d < 20 → n < 10 ^ suc d → length (space ∷ decimal n) ≤ suc (suc d)
 fitting-field d n l h = omega (arith, length-decimal d n l h)
-
-pub length-chosen : (a : Answer) → length (chosen a) ≤ 20
-length-chosen (taken t) = length-digits 20 t
-length-chosen idle = omega arith
-length-chosen time = omega arith
-
-pub length-signed : (z : ℤ) → length (signedDecimal z) ≤ 21
-length-signed (pos n) = omega (arith, length-digits 20 n)
-length-signed (negsuc n) = omega (arith, length-digits 20 (suc n))
 
 pub length-signed16 : (z : ℤ) → mag z < 2 ^ 15 → length (signedDecimal z) ≤ 6
 length-signed16 (pos n) h = omega (arith, length-decimal 4 n (omega arith) (omega arith))

@@ -1,7 +1,7 @@
 -- The text of a line: the model's, and its length. Assumes nothing.
-use mathlib.Core.Path.{_≡_, refl, sym, ap, _∙_}
+use mathlib.Core.Path.{_≡_, refl, ap, _∙_}
 use mathlib.Core.List.{List, [], _∷_, _++_, append-nil}
-use Prim.Native.Nat.{ℕ, suc, _+_, _-_, _*_, _^_, _≤_, _<_}
+use Prim.Native.Nat.{ℕ, suc, _+_, _*_, _^_, _≤_, _<_}
 use native.Mathlib.Numerals.{add-one}
 use native.Mathlib.Omega.{arith}
 use lib.ListN.{length, getD, take, length-append}
@@ -10,13 +10,11 @@ use lib.IntN.{ℤ, pos}
 use lib.Signed.{mag}
 use Rattle.prelude.specs.Lists.{gather}
 use Rattle.model.specs.ChartSet.{ChartSet}
-use Rattle.model.specs.Runs.{Run, Machine, Answer, taken, idle, time, Trace, done, stopped, turned}
+use Rattle.model.specs.Runs.{Run, Answer, taken, idle, time, Trace, done, stopped, turned}
 use Rattle.model.specs.Charts.{charts}
 use Rattle.model.specs.Replay.{decimal, signedDecimal, chosen, space, feed, turnLines, traceLines}
 use Rattle.prelude.proofs.Lists.{gather-append}
-use Rattle.lines.specs.Text.{chosenOf, variablesText, lineText, lineIn, turnText, traceText}
-use Rattle.lines.specs.declared.Chosen.{Chosen}
-use Rattle.lines.specs.declared.Chosen.the-variants.{Taken, Idle}
+use Rattle.lines.specs.Text.{variablesText, lineText, turnText, traceText}
 use Rattle.lines.proofs.Digits.{length-decimal, length-signed16}
 
 -- ---- variables
@@ -49,11 +47,6 @@ trace-text cs done = refl
 trace-text cs (stopped w) = refl
 trace-text cs (turned r₀ a r₁ t) = λ i. turn-text cs r₀ a r₁ i ++ trace-text cs t i
 
--- the turn of a part has its line
-pub chosen-text : (m : Machine) (r₀ : Run) (c : Chosen) (r₁ : Run) → turnText m r₀ (chosenOf c) r₁ ≡ lineIn m r₀ (chosenOf c) r₁
-chosen-text m r₀ (Taken t) r₁ = refl
-chosen-text m r₀ Idle r₁ = refl
-
 length-variables : (vs : List ℤ) → ((k : ℕ) → k < length vs → mag (getD vs k (pos 0)) < 2 ^ 15) → length (variablesText vs) ≤ 7 * length vs
 unfolding gather
 length-variables [] low = omega arith
@@ -61,9 +54,6 @@ length-variables (v ∷ vs) low =
     let here : length (signedDecimal v) ≤ 6 = length-signed16 v (low 0 (omega arith)) in
     let rest : length (variablesText vs) ≤ 7 * length vs = length-variables vs (λ k h. low (suc k) (omega arith)) in
     omega (arith, length-append (space ∷ signedDecimal v) (variablesText vs))
-
-pub length-chosen16 : (t : ℕ) → t < 2 ^ 16 → length (chosen (taken t)) ≤ 5
-length-chosen16 t h = length-decimal 4 t (omega arith) (omega arith)
 
 -- a line of numbers in their types' ranges, and at most 64 variables, fits 482 bytes
 module _ (cycle chart : ℕ) (a : Answer) (state : ℕ) (vs : List ℤ) where

@@ -22,6 +22,18 @@ fn put_char(out: &mut [u8], at: usize, b: u8) -> usize
     at + 1
 }
 
+pub fn put_text(out: &mut [u8], at: usize, text: &[u8]) -> usize
+    requires { ⌜ at + length (now text) < 2 ^ 62 ⌝ }
+    ensures { λ r. ⌜ Wrote (now (out .entry)) at (now (text .entry)) (now (out .exit)) r ⌝ }
+{
+    let mut i: usize = 0;
+    while i < text.len() {
+        put_byte(out, at + i, text[i]);
+        i += 1;
+    }
+    at + i
+}
+
 // The higher digits stand first.
 pub fn put_decimal(out: &mut [u8], at: usize, n: u32) -> usize
     requires { ⌜ at < 2 ^ 62 ⌝ }

@@ -14,7 +14,7 @@ use Rattle.prelude.specs.Lists.{keep, count}
 use Rattle.records.specs.Bytes.{byte, records, kind, ofKind}
 use Rattle.records.proofs.Records.{recordAt, getD-records, length-records}
 use Rattle.prelude.proofs.Counts.{count-le}
-use Rattle.records.proofs.FramingLaws.{kind-record}
+use Rattle.framing.proofs.FramingLaws.{kind-record}
 use Rattle.prelude.proofs.Numbers.{count-append}
 use Rattle.listing.specs.Listing.{numberOf}
 

@@ -1,2 +1,1 @@
-pub mod Near
 mod ListingExamples

@@ -6,7 +6,7 @@ use Rattle.prelude.specs.Lists.{padded}
 use Rattle.records.proofs.Tables.{Agree}
 use Rattle.model.specs.Replay.{Replay}
 use Rattle.examples.proofs.ExampleSets.{zeroWatch}
-use Rattle.messages.specs.Texts.{ascii}
+use Rattle.lines.specs.Ascii.{ascii}
 use Rattle.listing.specs.Listing.{lineText, listed}
 
 -- the line of the i-th of its kind, of a record's first bytes

@@ -1,4 +1,3 @@
-pub mod Parts
 pub mod Sets
 pub mod Tables
 pub mod Listing

@@ -9,7 +9,7 @@ use Rattle.expressions.specs.Nodes.{readNode}
 use Rattle.model.specs.ChartSet.{readTransition, readVariable}
 use Rattle.model.specs.AutomataTable.{readEdge, readLiteral, readClock, readUpdate, readReset}
 use Rattle.model.specs.Replay.{feed}
-use Rattle.listing.specs.Parts.{variableText, nodeText}
+use Rattle.listing_parts.specs.Parts.{variableText, nodeText}
 use Rattle.listing.specs.Sets.{chartText, stateText, transitionText, actionText}
 use Rattle.listing.specs.Tables.{automatonText, locationText, edgeText, literalText, clockText, updateText, resetText}
 

@@ -4,8 +4,8 @@ use Prim.Native.Nat.{ℕ}
 use Rattle.prelude.specs.Lists.{caseOf}
 use Rattle.records.specs.Bytes.{byte, two}
 use Rattle.model.specs.ChartSet.{Trigger, always, event, after, every, Transition, readDeed}
-use Rattle.messages.specs.Texts.{ascii}
-use Rattle.listing.specs.Parts.{named, measured, guardText, deedText}
+use Rattle.lines.specs.Ascii.{ascii}
+use Rattle.listing_parts.specs.Parts.{named, measured, guardText, deedText}
 
 -- 1
 abbrev pub chartText : ℕ → ℕ → List ℕ

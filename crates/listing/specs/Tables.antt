@@ -4,8 +4,8 @@ use mathlib.Core.List.{List, [], _++_}
 use Prim.Native.Nat.{ℕ}
 use Rattle.model.specs.Runs.{Deed}
 use Rattle.model.specs.AutomataTable.{Edge, Literal, Clock, LiteralTrigger, always, event, clock, Timing, after, every}
-use Rattle.messages.specs.Texts.{ascii}
-use Rattle.listing.specs.Parts.{named, measured, guardText, deedText}
+use Rattle.lines.specs.Ascii.{ascii}
+use Rattle.listing_parts.specs.Parts.{named, measured, guardText, deedText}
 
 -- 33
 abbrev pub automatonText : ℕ → ℕ → List ℕ

@@ -4,16 +4,15 @@ ghost use Prim.Native.Nat.{_*_, _/_, _≤_, _<_};
 ghost use lib.ListN.{length};
 ghost use Rattle.records.specs.Bytes.{byte};
 ghost use Rattle.records.specs.Wrote.{Begins};
-ghost use Rattle.listing.specs.Parts.{WroteNear};
+ghost use Rattle.listing_parts.specs.Parts.{WroteNear};
 ghost use Rattle.listing.specs.Listing.{recordText, lineText, numberOf, listed};
 
-pub mod fields;
 pub mod sets;
 pub mod tables;
-pub mod texts;
 
-use fields::put_node;
-use fields::put_variable;
+use listing_parts::fields::put_node;
+use listing_parts::fields::put_variable;
+use listing_parts::texts::put_word;
 use records::byte_at;
 use sets::put_action;
 use sets::put_chart;
@@ -26,7 +25,6 @@ use tables::put_literal;
 use tables::put_location;
 use tables::put_reset;
 use tables::put_update;
-use texts::put_word;
 
 // By the record's kind.
 fn put_fields(out: &mut [u8], i: u32, r: &[u8]) -> usize

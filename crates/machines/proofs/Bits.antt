@@ -7,7 +7,7 @@ use lib.IntN.{ℤ, pos, negsuc}
 use mir.Facts.{toZ-ofZ}
 use mir.Syntax.{w16}
 use mir.Val.{SFits, toZ, ofZ}
-use Rattle.expressions.specs.Values.{isZero}
+use Rattle.arithmetic.specs.Arithmetic.{isZero}
 
 zero-bits : {z : ℤ} → SFits w16 z → ofZ w16 z ≡ 0 → isZero z ≡ true
 zero-bits s e = ap isZero (sym (toZ-ofZ s) ∙ ap (toZ w16) e)

@@ -62,24 +62,6 @@ module _ (key : ℕ → ℕ) (keys room size : ℕ) where
           let x : b ≡ u → ⊥ = eqb-false b u d in
           getD-set-other next u b (getD first i 0) 0 x ∙ so-far .nexts b (omega arith) m n
 
-  -- a thing without a key changes nothing
-  pub chains-skip : (first next : List ℕ) (u : ℕ) → Chains first next (u + 1) → keys ≤ key u → Chains first next u
-  chains-skip first next u so-far h = record {
-    bound = omega (arith, so-far .bound);
-    long = so-far .long;
-    wide = so-far .wide;
-    firsts = λ k l.
-        so-far .firsts k l
-        ∙ sym
-        (earliest-one (withKey key k) u size (omega (arith, so-far .bound))
-        ∙ ap (λ b. cond b u (earliest (withKey key k) (u + 1) (size - (u + 1)))) (ne-eqb (key u) k (λ e. absurd (omega arith))));
-    nexts = λ b l m n. so-far .nexts b (later b l n (eqb b u) refl) m n;
-  }
-    where
-      later : (b : ℕ) → u ≤ b → key b < keys → (o : Bool) → eqb b u ≡ o → u + 1 ≤ b
-      later b l n true d = let e : key b ≡ key u = ap key (eqb-true b u d) in absurd (omega arith)
-      later b l n false d = let x : b ≡ u → ⊥ = eqb-false b u d in omega arith
-
   pub chains-made : (first next : List ℕ) → Chains first next 0 → Chained key keys size first next
   chains-made first next all-of = record {
     first-of = λ k h. all-of .firsts k h ∙ ap (earliest (withKey key k) 0) (sub-zero size);

@@ -11,9 +11,3 @@ pub mod Turns
 pub mod TurnsCycle
 pub mod Playing
 pub mod PlayingCalls
-pub mod LentWhole
-pub mod Lent
-pub mod LentAlone
-pub mod LentEvents
-pub mod LentMasks
-pub mod LentAnswers

@@ -183,8 +183,3 @@ few-called f s masks r kept n = by (f .refusal s)
     by none e = few-played (f .machine s) kept masks r n e
 
 -- ---- what was lent
-
--- a call that is refused or faults leaves it as it was
-pub lent-kept : {A L : Type 0} (l : L) (o : Out (A × L)) (w : Refusal) → settled l o .answer ≡ fault w → settled l o .lent ≡ l
-lent-kept l (val x) w e = let z : _≡_ {A = ℕ} 0 1 = cc in absurd (omega arith)
-lent-kept l (fault v) w e = refl

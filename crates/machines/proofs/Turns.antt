@@ -38,18 +38,6 @@ module _ (m : Machine) (n : ℕ) (size : parts m ≡ n) (r : Run) where
   pub at-time : n < r .world .position → stepped m r ≡ val (time, timePassed m r)
   at-time h = ap steppedBy (ap (leb (r .world .position)) size ∙ lt-leb (r .world .position) n h)
 
-  -- a part's turn from its step
-  module _ (h : r .world .position ≤ n) where
-    pub part-value : (l : Run) (a : Answer) (q : Run) → m .step (r .world .position - 1) r ≡ val (a, q) → settled l (stepped m r) ≡ record { answer = val a; lent = moved q }
-    part-value l a q e = ap (settled l) (at-part h ∙ ap (λ o. o >>= λ x. val (x .0, moved (x .1))) e)
-
-    pub part-fault : (l : Run) (w : Refusal) → m .step (r .world .position - 1) r ≡ fault w → settled l (stepped m r) ≡ record { answer = fault w; lent = l }
-    part-fault l w e = ap (settled l) (at-part h ∙ ap (λ o. o >>= λ x. val (x .0, moved (x .1))) e)
-
--- the position that a step leaves
-pub part-place : (m : Machine) (r : Run) → KeptRun r (m .step (r .world .position - 1) r) → (a : Answer) (q : Run) → m .step (r .world .position - 1) r ≡ val (a, q) → q .world .position ≡ r .world .position
-part-place m r k a q e = subst (KeptRun r) e k .0
-
 -- ---- a run that passed the checks
 
 none-failed : (a b c : Bool) → (fault-if (not a) impossible-run >> (fault-if b misplaced-events >> fault-if c cycles-done)) ≡ val (tt {0}) → (a ≡ true) × (c ≡ false)
@@ -152,19 +140,6 @@ module _ (m : Machine) where
         ∙ ap finish (ended-more k r (give given r) ∙ sym (after-more k (give given r)))
 
 -- ---- the turns of a cycle, from a run on
-
--- the turn was taken, and left a run
-pub record WentOn (o : Out (Answer × Run)) (q : Run) : Type 0 where
-  pub answer : Answer
-  pub is : o ≡ val (answer, q)
-
-pub went-on : (a : Out Answer) (q : Run) (o : Out (Answer × Run)) → val tt ≡ (a >>= λ _. val (tt {0})) → o ≡ (a >>= λ x. val (x, q)) → WentOn o q
-went-on (val x) q o t e = record { answer = x; is = e }
-went-on (fault w) q o t e = let z : _≡_ {A = ℕ} 0 1 = cc in absurd (omega arith)
-
-pub went-wrong : (a : Out Answer) (q : Run) (o : Out (Answer × Run)) (w : Refusal) → fault w ≡ (a >>= λ _. val (tt {0})) → o ≡ (a >>= λ x. val (x, q)) → o ≡ fault w
-went-wrong (val x) q o w t e = let z : _≡_ {A = ℕ} 0 1 = cc in absurd (omega arith)
-went-wrong (fault v) q o w t e = e ∙ cc
 
 module _ (m : Machine) (n : ℕ) (size : parts m ≡ n) where
   module _ (r : Run) where

@@ -15,7 +15,7 @@ use Rattle.prelude.proofs.Counts.{impossible}
 use Rattle.expressions.specs.Nodes.{Node, nodeOf}
 use Rattle.expressions.specs.Values.{number}
 use Rattle.model.specs.Runs.{Variable, noVariable, inBounds, present, World, setVar, assign, deed}
-use Rattle.machines.specs.Worlds.{worldIn}
+use Rattle.machines.specs.Worlds.{Moment, worldIn}
 
 -- ---- numbers within bounds
 
@@ -32,23 +32,23 @@ module _ (nodes : List Node) (variables : List Variable) (vars : List ℤ) (even
   abbrev fits : ℤ → Bool
   fits z = inBounds (getD variables v noVariable) z
 
-  module _ (p c : ℕ) where
+  module _ (m : Moment) where
     abbrev then-set : ℤ → Out World
-    then-set z = fault-if (not (fits z)) out-of-bounds >> val (setVar v z (worldIn vars events p c))
+    then-set z = fault-if (not (fits z)) out-of-bounds >> val (setVar v z (worldIn vars events m))
 
-    pub assign-fault : (w : Refusal) → fault w ≡ number (nodeOf nodes) vars n → fault w ≡ deed nodes variables (assign v n) (worldIn vars events p c)
+    pub assign-fault : (w : Refusal) → fault w ≡ number (nodeOf nodes) vars n → fault w ≡ deed nodes variables (assign v n) (worldIn vars events m)
     assign-fault w e = ap (λ o. o >>= then-set) e
 
     assign-by : (z : ℤ) (b : Bool) → val z ≡ number (nodeOf nodes) vars n → fits z ≡ b →
-        (fault-if (not b) out-of-bounds >> val (setVar v z (worldIn vars events p c))) ≡ deed nodes variables (assign v n) (worldIn vars events p c)
-    assign-by z b e f = ap (λ y. fault-if (not y) out-of-bounds >> val (setVar v z (worldIn vars events p c))) (sym f) ∙ ap (λ o. o >>= then-set) e
+        (fault-if (not b) out-of-bounds >> val (setVar v z (worldIn vars events m))) ≡ deed nodes variables (assign v n) (worldIn vars events m)
+    assign-by z b e f = ap (λ y. fault-if (not y) out-of-bounds >> val (setVar v z (worldIn vars events m))) (sym f) ∙ ap (λ o. o >>= then-set) e
 
     pub assign-outside : (z : ℤ) → val z ≡ number (nodeOf nodes) vars n → fits z ≡ false →
-        fault out-of-bounds ≡ deed nodes variables (assign v n) (worldIn vars events p c)
+        fault out-of-bounds ≡ deed nodes variables (assign v n) (worldIn vars events m)
     assign-outside z = assign-by z false
 
     pub assign-within : (z : ℤ) → val z ≡ number (nodeOf nodes) vars n → fits z ≡ true →
-        val (worldIn (set vars v z) events p c) ≡ deed nodes variables (assign v n) (worldIn vars events p c)
+        val (worldIn (set vars v z) events m) ≡ deed nodes variables (assign v n) (worldIn vars events m)
     assign-within z = assign-by z true
 
 -- ---- events

@@ -6,7 +6,7 @@ use Prim.Native.Nat.{ℕ, _≤_, _<_}
 use borrow.Author.Tests.{le-leb, lt-leb}
 use lib.IntN.{ℤ}
 use Rattle.records.specs.Refusal.{val, fault, _>>=_}
-use Rattle.machines.specs.Worlds.{codedFault, coded, codeOf, IsCode, worldIn, worldBy}
+use Rattle.machines.specs.Worlds.{Moment, codedFault, coded, codeOf, IsCode, worldIn, worldBy}
 
 pub coded-value : (n : ℕ) → n ≤ 4_294_967_295 → coded n ≡ val n
 coded-value n h = ap (λ b. cond b (val n) (fault (codedFault n))) (le-leb n 4_294_967_295 h)
@@ -22,9 +22,9 @@ pub one-code : (a b : ℕ) → IsCode a → IsCode b → coded a ≡ coded b →
 one-code a b x y e = sym x ∙ ap codeOf e ∙ y
 
 -- the same of events
-module _ (n : ℕ) (vars : List ℤ) (p c : ℕ) where
-  pub world-value : n ≤ 4_294_967_295 → worldBy n vars p c ≡ val (worldIn vars n p c)
-  world-value h = ap (λ o. o >>= λ events. val (worldIn vars events p c)) (coded-value n h)
+module _ (n : ℕ) (vars : List ℤ) (m : Moment) where
+  pub world-value : n ≤ 4_294_967_295 → worldBy n vars m ≡ val (worldIn vars n m)
+  world-value h = ap (λ o. o >>= λ events. val (worldIn vars events m)) (coded-value n h)
 
-  pub world-fault : 4_294_967_295 < n → worldBy n vars p c ≡ fault (codedFault n)
-  world-fault h = ap (λ o. o >>= λ events. val (worldIn vars events p c)) (coded-fault n h)
+  pub world-fault : 4_294_967_295 < n → worldBy n vars m ≡ fault (codedFault n)
+  world-fault h = ap (λ o. o >>= λ events. val (worldIn vars events m)) (coded-fault n h)

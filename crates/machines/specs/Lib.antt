@@ -1,5 +1,4 @@
 pub mod Files
-pub mod Answers
 pub mod Worlds
 pub mod Checks
 pub mod Turns

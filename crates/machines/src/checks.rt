@@ -8,7 +8,7 @@ ghost use Rattle.model.specs.Limits.{mostCharts};
 ghost use Rattle.prelude.specs.Lists.{padded};
 ghost use Rattle.model.specs.Runs.{inBounds, placesPossible, variablesPossible, restZero, restZeroValues, checkedBy};
 ghost use Rattle.machines.specs.Files.{initialsIn, homeIn, homesIn, variableIn, variablesIn, HasValues};
-ghost use Rattle.machines.specs.Worlds.{worldIn};
+ghost use Rattle.machines.specs.Worlds.{moment, worldIn};
 ghost use Rattle.machines.specs.Checks.{countsPossible, sharedPossible, beforeOf};
 use super::values::Values;
 use super::values::highest_of;
@@ -50,7 +50,7 @@ fn events_possible(position: u32, events: u32) -> bool
 // What can be said of position, count and events without the file.
 fn counts_possible(parts: u16, events: u32, position: u32, cycles: u32) -> bool
     requires { ⌜ parts ≤ mostCharts ⌝ }
-    ensures { λ r. ⌜ r ≡ countsPossible parts (worldIn [] events position cycles) ⌝ }
+    ensures { λ r. ⌜ r ≡ countsPossible parts (worldIn [] events (moment position cycles)) ⌝ }
 {
     position_possible(parts, position)
         & count_possible(position, cycles)
@@ -144,7 +144,7 @@ pub fn shared_possible(
 ) -> bool
     requires { ⌜ parts ≤ mostCharts ⌝ }
     requires { ⌜ HasValues (now s) values ⌝ }
-    ensures { λ r. ⌜ r ≡ sharedPossible parts (homesIn (now (s .entry)) parts places) (variablesIn (now (s .entry)) values) at (worldIn variables events position cycles) ⌝ }
+    ensures { λ r. ⌜ r ≡ sharedPossible parts (homesIn (now (s .entry)) parts places) (variablesIn (now (s .entry)) values) at (worldIn variables events (moment position cycles)) ⌝ }
 {
     places_possible(s, parts, places, at)
         & variables_possible(s, values, variables)

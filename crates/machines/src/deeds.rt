@@ -12,13 +12,13 @@ ghost use Rattle.model.specs.Runs.{inBounds, noVariable, present, raised, assig
 ghost use Rattle.model.specs.ChartSet.{readDeed};
 ghost use Rattle.machines.specs.Deeds.{Doable};
 ghost use Rattle.machines.specs.Files.{variablesIn, nodesIn, HasValues};
-ghost use Rattle.machines.specs.Answers.{reasonOf};
-ghost use Rattle.machines.specs.Worlds.{worldIn, worldAfter, codedFault, coded, IsCode, worldBy};
-use super::answers::Reason;
+ghost use Rattle.answers.specs.Answers.{reasonOf};
+ghost use Rattle.machines.specs.Worlds.{Moment, worldIn, worldAfter, codedFault, coded, IsCode, worldBy};
 use super::values::Values;
 use super::values::bound_within;
 use super::values::number_at;
-use expressions::arithmetic::Number;
+use answers::Reason;
+use expressions::outcomes::Number;
 use records::sizes::Variables;
 
 // The events afterwards, or why there are none.
@@ -71,12 +71,12 @@ fn is_within(s: &[u8], values: Values, v: u8, z: i32) -> bool
 }
 
 // Answers as one number: events are below 2^32, and a fault is 2^32 and its number in the refusal table. It stays in a register, where an enum goes through memory.
-pub fn fault_code(w: expressions::arithmetic::Reason) -> u64
+pub fn fault_code(w: expressions::outcomes::Reason) -> u64
     ensures { λ r. ⌜ (4294967295 < r) × (coded r ≡ fault (expressions-answers.valueReasonOf w)) × IsCode r ⌝ }
 {
     match w {
-        expressions::arithmetic::Reason::Range => 4294967311,
-        expressions::arithmetic::Reason::Divisor => 4294967312,
+        expressions::outcomes::Reason::Range => 4294967311,
+        expressions::outcomes::Reason::Divisor => 4294967312,
     }
 }
 
@@ -93,7 +93,7 @@ pub fn reason_by(code: u64) -> Reason
 }
 
 pub fn done_by(code: u64) -> Done
-    ensures { λ r. ⌜ ((vars : List ℤ) (p c : ℕ) → worldAfter r vars p c ≡ worldBy code vars p c) × ((w : Reason) → r ≡ Done.Fault w → 4_294_967_295 < code) ⌝ }
+    ensures { λ r. ⌜ ((vars : List ℤ) (m : Moment) → worldAfter r vars m ≡ worldBy code vars m) × ((w : Reason) → r ≡ Done.Fault w → 4_294_967_295 < code) ⌝ }
 {
     if 4294967295 < code {
         Done::Fault(reason_by(code))
@@ -105,7 +105,7 @@ pub fn done_by(code: u64) -> Done
 // Node n assigned to variable v: the events afterwards, or the fault, as one number. A fault assigns nothing.
 fn assign_code(s: &[u8], values: Values, v: u8, n: u16, vars: &mut Variables, events: u32) -> u64
     requires { ⌜ HasValues (now s) values × (v < values .variables) ⌝ }
-    ensures { λ r. ⌜ ((p c : ℕ) → worldBy r (now (vars .exit)) p c ≡ deed (nodesIn (now (s .entry)) values) (variablesIn (now (s .entry)) values) (assign v n) (worldIn (now (vars .entry)) events p c))
+    ensures { λ r. ⌜ ((m : Moment) → worldBy r (now (vars .exit)) m ≡ deed (nodesIn (now (s .entry)) values) (variablesIn (now (s .entry)) values) (assign v n) (worldIn (now (vars .entry)) events m))
         × IsCode r × (4_294_967_295 < r → now (vars .exit) ≡ now (vars .entry)) ⌝ }
 {
     match number_at(s, values, vars, n) {
@@ -133,7 +133,7 @@ pub fn do_deed(
     events: u32,
 ) -> u64
     requires { ⌜ HasValues (now s) values × Doable (values .variables) (readDeed code x n) ⌝ }
-    ensures { λ r. ⌜ ((p c : ℕ) → worldBy r (now (vars .exit)) p c ≡ deed (nodesIn (now (s .entry)) values) (variablesIn (now (s .entry)) values) (readDeed code x n) (worldIn (now (vars .entry)) events p c))
+    ensures { λ r. ⌜ ((m : Moment) → worldBy r (now (vars .exit)) m ≡ deed (nodesIn (now (s .entry)) values) (variablesIn (now (s .entry)) values) (readDeed code x n) (worldIn (now (vars .entry)) events m))
         × IsCode r × (4_294_967_295 < r → now (vars .exit) ≡ now (vars .entry)) ⌝ }
 {
     if code == 2 {

@@ -1,16 +1,10 @@
 -- The texts that programs print besides replay lines, as bytes. Assumes nothing: these are definitions.
 use mathlib.Core.List.{List, [], _∷_, _++_}
 use Prim.Native.Nat.{ℕ}
-use Prim.Native.Char.{code}
-use Prim.Native.String.{String, [] as none, _∷_ as _then_}
 use Rattle.model.specs.Replay.{decimal, space, feed}
-use Rattle.chart_files.specs.declared.Shape as sets
-use Rattle.automata_files.specs.declared.Shape as tables
-
--- the bytes of a text of ASCII
-abbrev pub ascii : String → List ℕ
-ascii none = []
-ascii (c then text) = code c ∷ ascii text
+use Rattle.lines.specs.Ascii.{ascii}
+use Rattle.chart_records.specs.declared.Shape as sets
+use Rattle.automata_records.specs.declared.Shape as tables
 
 -- three numbers, each before its word
 abbrev pub threeText : ℕ → List ℕ → ℕ → List ℕ → ℕ → List ℕ → List ℕ

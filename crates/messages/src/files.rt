@@ -1,41 +1,11 @@
 // A refused file told: its number and meaning, and behind them what the file seems to be where that is not what was wanted.
-ghost use mathlib.Core.Path.{_≡_};
-ghost use Rattle.messages.specs.Files.{kindSeen, seenAs};
 use crate::input::Form;
 use crate::words::say;
+use file_kinds::Seen;
+use file_kinds::seen_as;
 use libc::STDERR_FILENO;
 use records::refusals::Refusal;
 use records::refusals::refusal_number;
-
-// What a file seems to be, by its first byte, which is the kind of its first record.
-pub enum Seen {
-    Empty,
-    Set,
-    Table,
-    Neither,
-}
-
-// By the kind of its first record.
-fn kind_seen(kind: u8) -> Seen
-    ensures { λ r. ⌜ r ≡ kindSeen kind ⌝ }
-{
-    if (1 <= kind) & (kind <= 6) {
-        return Seen::Set;
-    }
-    if (33 <= kind) & (kind <= 41) {
-        return Seen::Table;
-    }
-    Seen::Neither
-}
-
-pub fn seen_as(s: &[u8]) -> Seen
-    ensures { λ r. ⌜ r ≡ seenAs (now (s .entry)) ⌝ }
-{
-    if s.len() == 0 {
-        return Seen::Empty;
-    }
-    kind_seen(records::byte_at(s, 0))
-}
 
 fn note_set(form: Form) {
     match form {

@@ -1,16 +1,15 @@
 // Arguments and files: a file named by an argument, - for standard input, read whole; one that is longer than any set or table is refused as it is read.
-ghost use Prim.Native.Nat.{_≤_};
 ghost use mathlib.Core.Path.{_≡_};
-ghost use lib.Dec.{leb};
 ghost use lib.ListN.{length};
 ghost use Rattle.io.specs.Counts.{Counts};
 ghost use Rattle.records.specs.Bytes.{byte};
-ghost use Rattle.records.specs.RefusalOf.{refusalOf};
-ghost use Rattle.messages.specs.Files.{isDash};
-ghost use Rattle.messages.specs.LongFiles.{lastKindIn, longRefusal};
-use crate::files::Seen;
-use crate::files::seen_as;
 use crate::files::tell_file;
+use file_kinds::Seen;
+use file_kinds::is_dash;
+use file_kinds::is_table;
+use file_kinds::last_kind;
+use file_kinds::long_refusal;
+use file_kinds::seen_as;
 use libc::STDERR_FILENO;
 use libc::STDIN_FILENO;
 use records::refusals::Refusal;
@@ -98,31 +97,7 @@ pub fn fill(fd: i32, buf: &mut [u8]) -> BytesRead
     }
 }
 
-// Whether the first record is of a table's kinds, from 33 on.
-pub fn is_table(s: &[u8]) -> bool
-    ensures { λ r. ⌜ r ≡ leb 33 (byte (now (s .entry)) 0) ⌝ }
-{
-    33 <= records::byte_at(s, 0)
-}
-
 // ---- files that are longer than any set or table
-
-// The last kind of the whole records, which never descend from the kind given; 255 where they do or one is unknown.
-fn last_kind(s: &[u8], kind: u8) -> u8
-    ensures { λ r. ⌜ r ≡ lastKindIn (now (s .entry)) kind ⌝ }
-{
-    let mut last = kind;
-    let mut i: usize = 0;
-    while i < s.len() / 16 {
-        let k = s[16 * i];
-        if (k < last) | (6 < k) {
-            return 255;
-        }
-        last = k;
-        i += 1;
-    }
-    last
-}
 
 fn next_part(fd: i32, buf: &mut [u8], kind: u8) -> Part {
     let got = fill(fd, buf);
@@ -132,19 +107,6 @@ fn next_part(fd: i32, buf: &mut [u8], kind: u8) -> Part {
         size,
         kind: last_kind(&buf[..size], kind),
     }
-}
-
-// Its parts are full but for the last; what they are full of is whole records.
-fn long_refusal(size: usize, kind: u8) -> Refusal
-    ensures { λ r. ⌜ refusalOf r ≡ longRefusal size kind ⌝ }
-{
-    if size % 16 != 0 {
-        return Refusal::OddLength;
-    }
-    if kind == 255 {
-        return Refusal::UnorderedKinds;
-    }
-    Refusal::WrongAmounts
 }
 
 // A set with more than the first part, which is more than the most of all kinds together: it is read on, as refusals 1 and 2 depend on its end.
@@ -179,13 +141,6 @@ fn refuse_full(fd: i32, name: &[u8], buf: &mut [u8], form: Form) {
     } else {
         refuse_long(fd, name, form, seen, buf);
     }
-}
-
-// Whether a name is - alone.
-pub fn is_dash(name: &[u8]) -> bool
-    ensures { λ r. ⌜ r ≡ isDash (now (name .entry)) ⌝ }
-{
-    (name.len() == 1) & (records::byte_at(name, 0) == b'-')
 }
 
 // Opens a file for reading, by its name; - is standard input.

@@ -7,20 +7,7 @@ ghost use Rattle.model.specs.Replay.{decimal};
 ghost use Rattle.records.specs.Wrote.{Wrote, Begins};
 ghost use Rattle.messages.specs.Texts.{threeText, rowText, setText, placesText, tableText, acceptedWord, writtenWord, bytesWord};
 use lines::put_decimal;
-use records::put_byte;
-
-// Answers the place behind what it wrote, as all of these do.
-pub fn put_text(out: &mut [u8], at: usize, text: &[u8]) -> usize
-    requires { ⌜ at + length (now text) < 2 ^ 62 ⌝ }
-    ensures { λ r. ⌜ Wrote (now (out .entry)) at (now (text .entry)) (now (out .exit)) r ⌝ }
-{
-    let mut i: usize = 0;
-    while i < text.len() {
-        put_byte(out, at + i, text[i]);
-        i += 1;
-    }
-    at + i
-}
+use lines::put_text;
 
 // A number, then a word.
 pub fn put_counted(out: &mut [u8], at: usize, n: u32, word: &[u8]) -> usize
@@ -58,7 +45,7 @@ pub fn row_into(out: &mut [u8], cycle: u32, chart: u32, transition: u32) -> usiz
 }
 
 // How many records a set has of each kind, to the line's end.
-fn put_set(out: &mut [u8], at: usize, shape: chart_files::Shape) -> usize
+fn put_set(out: &mut [u8], at: usize, shape: chart_records::Shape) -> usize
     requires { ⌜ at < 2 ^ 59 ⌝ }
     ensures { λ r. ⌜ Wrote (now (out .entry)) at (setText shape) (now (out .exit)) r × (r ≤ at + 156) ⌝ }
 {
@@ -85,7 +72,7 @@ fn put_set(out: &mut [u8], at: usize, shape: chart_files::Shape) -> usize
 }
 
 // Automata, locations, edges, literals, clocks, variables.
-fn put_places(out: &mut [u8], at: usize, shape: automata_files::Shape) -> usize
+fn put_places(out: &mut [u8], at: usize, shape: automata_records::Shape) -> usize
     requires { ⌜ at < 2 ^ 59 ⌝ }
     ensures { λ r. ⌜ Wrote (now (out .entry)) at (placesText shape) (now (out .exit)) r × (r ≤ at + 156) ⌝ }
 {
@@ -112,7 +99,7 @@ fn put_places(out: &mut [u8], at: usize, shape: automata_files::Shape) -> usize
 }
 
 // How many records a table has of each kind, to the line's end.
-fn put_table(out: &mut [u8], at: usize, shape: automata_files::Shape) -> usize
+fn put_table(out: &mut [u8], at: usize, shape: automata_records::Shape) -> usize
     requires { ⌜ at < 2 ^ 58 ⌝ }
     ensures { λ r. ⌜ Wrote (now (out .entry)) at (tableText shape) (now (out .exit)) r × (r ≤ at + 234) ⌝ }
 {
@@ -130,7 +117,7 @@ fn put_table(out: &mut [u8], at: usize, shape: automata_files::Shape) -> usize
 }
 
 // The line of an accepted set at the start; answers its length.
-pub fn set_into(out: &mut [u8], shape: chart_files::Shape) -> usize
+pub fn set_into(out: &mut [u8], shape: chart_records::Shape) -> usize
     ensures { λ r. ⌜ Begins (now (out .entry)) (acceptedWord ++ setText shape) (now (out .exit)) r × (r ≤ 300) ⌝ }
 {
     let next = put_text(out, 0, b"accepted: ");
@@ -138,7 +125,7 @@ pub fn set_into(out: &mut [u8], shape: chart_files::Shape) -> usize
 }
 
 // The line of an accepted table at the start; answers its length.
-pub fn table_into(out: &mut [u8], shape: automata_files::Shape) -> usize
+pub fn table_into(out: &mut [u8], shape: automata_records::Shape) -> usize
     ensures { λ r. ⌜ Begins (now (out .entry)) (acceptedWord ++ tableText shape) (now (out .exit)) r × (r ≤ 300) ⌝ }
 {
     let next = put_text(out, 0, b"accepted: ");
@@ -146,7 +133,7 @@ pub fn table_into(out: &mut [u8], shape: automata_files::Shape) -> usize
 }
 
 // The line of a twin of so many bytes at the start; answers its length.
-pub fn written_into(out: &mut [u8], size: u32, shape: automata_files::Shape) -> usize
+pub fn written_into(out: &mut [u8], size: u32, shape: automata_records::Shape) -> usize
     ensures { λ r. ⌜ Begins (now (out .entry)) (writtenWord ++ (decimal size ++ bytesWord) ++ tableText shape) (now (out .exit)) r × (r ≤ 300) ⌝ }
 {
     let size_at = put_text(out, 0, b"written: ");

@@ -1,8 +1,8 @@
 // Refusals and faults in words: a line of their number and meaning on standard error.
+use answers::Reason;
+use answers::reason_number;
 use libc::STDERR_FILENO;
 use libc::STDOUT_FILENO;
-use machines::answers::Reason;
-use machines::answers::reason_number;
 use records::refusals::Refusal;
 use records::refusals::refusal_number;
 

@@ -7,6 +7,7 @@ use Prim.Native.Nat.{ℕ}
 use lib.Dec.{T, leb}
 use Rattle.prelude.specs.Lists.{all, caseOf, bit}
 use Rattle.records.specs.Bytes.{bytes2, records}
+use Rattle.arithmetic.specs.Operators as O
 use Rattle.expressions.specs.Nodes as N
 use Rattle.expressions.specs.Nodes.{Node, writeNode}
 use Rattle.model.specs.Runs.{Variable, Deed, assign, raise}
@@ -70,15 +71,15 @@ clean-node : (n : Node) → T (clean (recordOf 39 (writeNode n)))
 unfolding all caseOf
 clean-node (N.constant z) = tt
 clean-node (N.variable v) = tt
-clean-node (N.arithmetic N.sum a b) = tt
-clean-node (N.arithmetic N.difference a b) = tt
-clean-node (N.arithmetic N.product a b) = tt
-clean-node (N.arithmetic N.quotient a b) = tt
-clean-node (N.arithmetic N.remainder a b) = tt
+clean-node (N.arithmetic O.sum a b) = tt
+clean-node (N.arithmetic O.difference a b) = tt
+clean-node (N.arithmetic O.product a b) = tt
+clean-node (N.arithmetic O.quotient a b) = tt
+clean-node (N.arithmetic O.remainder a b) = tt
 clean-node (N.choice t a b) = tt
-clean-node (N.comparison N.equal a b) = tt
-clean-node (N.comparison N.less a b) = tt
-clean-node (N.comparison N.at-most a b) = tt
+clean-node (N.comparison O.equal a b) = tt
+clean-node (N.comparison O.less a b) = tt
+clean-node (N.comparison O.at-most a b) = tt
 clean-node (N.negation a) = tt
 clean-node (N.both a b) = tt
 clean-node (N.either a b) = tt
@@ -187,15 +188,15 @@ coded-node : (n : Node) → T (knownNode n) → T (tableInCode (recordOf 39 (wri
 unfolding caseOf
 coded-node (N.constant z) t = tt
 coded-node (N.variable v) t = tt
-coded-node (N.arithmetic N.sum a b) t = tt
-coded-node (N.arithmetic N.difference a b) t = tt
-coded-node (N.arithmetic N.product a b) t = tt
-coded-node (N.arithmetic N.quotient a b) t = tt
-coded-node (N.arithmetic N.remainder a b) t = tt
+coded-node (N.arithmetic O.sum a b) t = tt
+coded-node (N.arithmetic O.difference a b) t = tt
+coded-node (N.arithmetic O.product a b) t = tt
+coded-node (N.arithmetic O.quotient a b) t = tt
+coded-node (N.arithmetic O.remainder a b) t = tt
 coded-node (N.choice c a b) t = tt
-coded-node (N.comparison N.equal a b) t = tt
-coded-node (N.comparison N.less a b) t = tt
-coded-node (N.comparison N.at-most a b) t = tt
+coded-node (N.comparison O.equal a b) t = tt
+coded-node (N.comparison O.less a b) t = tt
+coded-node (N.comparison O.at-most a b) t = tt
 coded-node (N.negation a) t = tt
 coded-node (N.both a b) t = tt
 coded-node (N.either a b) t = tt

@@ -12,9 +12,9 @@ use lib.ListN.{length, length-map}
 use Rattle.model.specs.Limits.{mostEdges, mostLiterals, mostClocks, mostUpdates, mostResets}
 use Rattle.prelude.specs.Lists.{all, any, gather, mapFrom, ascending}
 use Rattle.records.specs.Bytes.{bytes2, records, kind}
-use Rattle.records.specs.Framing.{known, howMany, oddLength, unorderedKinds, wrongAmounts, framing}
-use Rattle.records.proofs.Framed.{length-ofKind}
-use Rattle.records.proofs.FramingLaws.{is-none}
+use Rattle.framing.specs.Framing.{known, howMany, oddLength, unorderedKinds, wrongAmounts, framing}
+use Rattle.framing.proofs.Framed.{length-ofKind}
+use Rattle.framing.proofs.FramingLaws.{is-none}
 use Rattle.expressions.specs.Nodes.{writeNode}
 use Rattle.model.specs.AutomataTable.{Automata, sections, automataRecords, writeAutomata, writeEdge, writeLiteral, writeClock, writeVariable, writeUpdate, writeReset}
 use Rattle.model.specs.AutomataFile.{automataLimits}

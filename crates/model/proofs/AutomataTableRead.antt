@@ -11,6 +11,7 @@ use lib.Signed.{mag}
 use Rattle.prelude.specs.Lists.{all, gather, caseOf}
 use Rattle.records.specs.Bytes.{byte, two, signed, unsigned, bytes2, ofKind}
 use Rattle.records.proofs.RoundTrips.{two-bytes2, two±-bytes2±, four±-bytes4±}
+use Rattle.arithmetic.specs.Operators as O
 use Rattle.expressions.specs.Nodes as N
 use Rattle.expressions.specs.Nodes.{Node, readNode, writeNode}
 use Rattle.model.specs.Runs.{Variable, Deed, assign, raise}
@@ -140,23 +141,23 @@ node-back (N.constant z) t = ap N.constant (four±-bytes4± z (ltb→lt (mag z) 
 node-back (N.variable v) t = ap N.variable (two-of v t)
 node-back (N.arithmetic o a b) t = go o (two-of a (and-left (short a) (short b) t)) (two-of b (and-right (short a) (short b) t))
   where
-    go : (o : N.Arithmetic) → a % 256 + 256 * ((a / 256) % 256) ≡ a → b % 256 + 256 * ((b / 256) % 256) ≡ b →
+    go : (o : O.Arithmetic) → a % 256 + 256 * ((a / 256) % 256) ≡ a → b % 256 + 256 * ((b / 256) % 256) ≡ b →
         readNode (recordOf 39 (writeNode (N.arithmetic o a b))) ≡ N.arithmetic o a b
-    go N.sum p q = λ i. N.arithmetic N.sum (p i) (q i)
-    go N.difference p q = λ i. N.arithmetic N.difference (p i) (q i)
-    go N.product p q = λ i. N.arithmetic N.product (p i) (q i)
-    go N.quotient p q = λ i. N.arithmetic N.quotient (p i) (q i)
-    go N.remainder p q = λ i. N.arithmetic N.remainder (p i) (q i)
+    go O.sum p q = λ i. N.arithmetic O.sum (p i) (q i)
+    go O.difference p q = λ i. N.arithmetic O.difference (p i) (q i)
+    go O.product p q = λ i. N.arithmetic O.product (p i) (q i)
+    go O.quotient p q = λ i. N.arithmetic O.quotient (p i) (q i)
+    go O.remainder p q = λ i. N.arithmetic O.remainder (p i) (q i)
 node-back (N.choice c a b) t =
     let rest : T (short a && short b) = and-right (short c) (short a && short b) t in
     λ i. N.choice (two-of c (and-left (short c) (short a && short b) t) i) (two-of a (and-left (short a) (short b) rest) i) (two-of b (and-right (short a) (short b) rest) i)
 node-back (N.comparison o a b) t = go o (two-of a (and-left (short a) (short b) t)) (two-of b (and-right (short a) (short b) t))
   where
-    go : (o : N.Comparison) → a % 256 + 256 * ((a / 256) % 256) ≡ a → b % 256 + 256 * ((b / 256) % 256) ≡ b →
+    go : (o : O.Comparison) → a % 256 + 256 * ((a / 256) % 256) ≡ a → b % 256 + 256 * ((b / 256) % 256) ≡ b →
         readNode (recordOf 39 (writeNode (N.comparison o a b))) ≡ N.comparison o a b
-    go N.equal p q = λ i. N.comparison N.equal (p i) (q i)
-    go N.less p q = λ i. N.comparison N.less (p i) (q i)
-    go N.at-most p q = λ i. N.comparison N.at-most (p i) (q i)
+    go O.equal p q = λ i. N.comparison O.equal (p i) (q i)
+    go O.less p q = λ i. N.comparison O.less (p i) (q i)
+    go O.at-most p q = λ i. N.comparison O.at-most (p i) (q i)
 node-back (N.negation a) t = ap N.negation (two-of a t)
 node-back (N.both a b) t = λ i. N.both (two-of a (and-left (short a) (short b) t) i) (two-of b (and-right (short a) (short b) t) i)
 node-back (N.either a b) t = λ i. N.either (two-of a (and-left (short a) (short b) t) i) (two-of b (and-right (short a) (short b) t) i)

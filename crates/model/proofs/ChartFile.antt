@@ -12,8 +12,8 @@ use Rattle.model.specs.Limits.{mostTransitions}
 use Rattle.prelude.specs.Lists.{keep, all, any, count, caseOf, mapFrom, from, upto, mem}
 use Rattle.records.specs.Refusal.{Refusal, odd-length, lowest}
 use Rattle.records.specs.Bytes.{byte, two, four, records, kind, ofKind}
-use Rattle.records.specs.Framing.{howMany}
-use Rattle.records.proofs.Framed.{length-ofKind}
+use Rattle.framing.specs.Framing.{howMany}
+use Rattle.framing.proofs.Framed.{length-ofKind}
 use Rattle.expressions.specs.Nodes as N
 use Rattle.expressions.specs.Nodes.{Node, nodeOf, readNode}
 use Rattle.expressions.specs.Sorts.{sortOf, isNumber, isTruth, nodesNamed, operandsFit}

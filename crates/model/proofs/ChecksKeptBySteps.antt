@@ -14,8 +14,8 @@ use Rattle.model.specs.Limits.{mostClocks}
 use Rattle.prelude.specs.Lists.{all, any, mapFrom, mem, upto}
 use Rattle.records.specs.Refusal.{Refusal, bad-table, Out, val, fault, _>>=_}
 use Rattle.records.specs.Bytes.{two, ofKind}
-use Rattle.records.specs.Framing.{howMany}
-use Rattle.records.proofs.Framed.{length-ofKind}
+use Rattle.framing.specs.Framing.{howMany}
+use Rattle.framing.proofs.Framed.{length-ofKind}
 use Rattle.expressions.specs.Nodes.{nodeOf}
 use Rattle.expressions.specs.Sorts.{nodesNamed}
 use Rattle.prelude.specs.Owned.{of}

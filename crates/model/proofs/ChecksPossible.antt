@@ -11,7 +11,7 @@ use lib.Seq.{getD-append-add}
 use Rattle.model.specs.Limits.{mostCharts, mostClocks}
 use Rattle.prelude.specs.Lists.{all}
 use Rattle.records.specs.Refusal.{impossible-run, misplaced-events, cycles-done, Out, val, _>>=_, fault-if}
-use Rattle.expressions.specs.Values.{isZero}
+use Rattle.arithmetic.specs.Arithmetic.{isZero}
 use Rattle.model.specs.Owned.{home}
 use Rattle.model.specs.Runs.{noVariable, inBounds, World, Run, Machine, start, parts, allPlaces, placesPossible, variablesPossible, timersPossible, positionPossible, countPossible, eventsPossible, unusedZero, possible, checked}
 use Rattle.model.specs.ChartSet.{ChartSet}

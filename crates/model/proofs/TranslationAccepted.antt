@@ -11,7 +11,7 @@ use Rattle.model.specs.Limits.{longestTable}
 use Rattle.prelude.specs.Lists.{all}
 use Rattle.records.specs.Refusal.{Refusal, bad-table, lowest}
 use Rattle.records.specs.Bytes.{records}
-use Rattle.records.specs.Framing.{oddLength, unorderedKinds, wrongAmounts}
+use Rattle.framing.specs.Framing.{oddLength, unorderedKinds, wrongAmounts}
 use Rattle.model.specs.ChartSet as C
 use Rattle.model.specs.ChartSet.{ChartSet, Trigger, readCharts, transition}
 use Rattle.model.specs.ChartFile.{chartsRefusal, unusedAreZero}

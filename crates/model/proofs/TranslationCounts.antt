@@ -8,7 +8,7 @@ use native.Mathlib.Nat.{le-trans}
 use native.Mathlib.Omega.{arith}
 use borrow.Author.Tests.{ltb-true}
 use lib.Dec.{leb, ltb, eqb, eqb→eq}
-use lib.ListN.{length, take, length-append, length-map, length-take}
+use lib.ListN.{length, length-append, length-map}
 use Rattle.prelude.specs.Lists.{keep, count, upto}
 use Rattle.prelude.proofs.Counts.{length-keep}
 use Rattle.model.specs.Limits.{mostEdges, mostLiterals, mostClocks, mostUpdates, mostResets, mostPriorities, mostOwned}
@@ -21,7 +21,7 @@ use Rattle.model.specs.Translation.{Origin, from-transition, from-idling
 use Rattle.prelude.proofs.Bools.{and-left, of-true, eqb-comm, eqb-ne}
 use Rattle.prelude.proofs.Lists.{length-gather, all-mapped, all-keep}
 use Rattle.model.proofs.TranslationOrigins.{origins-count, edges-count, byEdge-sum}
-use Rattle.prelude.proofs.Sums.{sumFrom, sum-le, sum-alike, sum-add, sum-most, sum-least, sum-append, sum-moved, sum-swap, sum-zero, count-from, once-most, once-least, count-keep, count-append, count-places, count-below, distinct-few, length-gathered, length-owned, length-of}
+use Rattle.prelude.proofs.Sums.{sumFrom, sum-le, sum-alike, sum-add, sum-most, sum-least, sum-swap, sum-zero, count-from, once-most, once-least, count-keep, count-append, count-places, count-below, distinct-few, length-gathered, length-of}
 use Rattle.model.proofs.ChartFile.{codedTransition, codedTrigger, states-few, transitions-few, transitions-coded, source-in, target-in, priority-low, priorities-differ, state-actions-few, transition-actions-few}
 
 pub clocksOf-few : (g : Trigger) → length (clocksOf g) ≤ 1
@@ -153,9 +153,6 @@ module _ (cs : ChartSet) where
 
   pub clocks-length : length (twin cs .clocks) ≤ transitionCount cs
   clocks-length = length-gather (λ x. clocksOf (x .trigger)) (λ x. clocksOf-few (x .trigger)) (cs .transitions)
-
-  pub clockOf-few : (t : ℕ) → clockOf cs t ≤ transitionCount cs
-  clockOf-few t = omega (arith, length-gather (λ x. clocksOf (x .trigger)) (λ x. clocksOf-few (x .trigger)) (take t (cs .transitions)), length-take t (cs .transitions))
 
   pub clocksLeaving-length : (z : ℕ) → length (clocksLeaving cs z) ≤ leavers z
   clocksLeaving-length z =

@@ -1,7 +1,7 @@
 -- Origins and the numbers of their edges: what stands above goes by an origin, never by a sum of counts. Assumes nothing.
 use mathlib.Core.Path.{_≡_, refl, sym, ap, _∙_, subst}
 use mathlib.Core.Bool.{Bool, true, false, _&&_}
-use mathlib.Core.List.{List, _++_, map}
+use mathlib.Core.List.{List, map}
 use Prim.Native.Nat.{ℕ, _+_, _-_, _≤_, _<_}
 use native.Mathlib.Nat.{zero-add}
 use native.Mathlib.Omega.{arith}
@@ -14,8 +14,8 @@ use Rattle.model.specs.ChartSet.{ChartSet}
 use Rattle.model.specs.AutomataTable.{Edge, noEdge, edge}
 use Rattle.model.specs.Translation.{Origin, from-transition, from-idling, stateCount, transitionCount, origins, edgeNumber, originOf, edgeOf, byEdge, twin}
 use Rattle.prelude.proofs.Bools.{both-of}
-use Rattle.prelude.proofs.Lists.{map-append, of-byOwner, getD-map-upto, getD-append-at, getD-mapped, length-map-upto, all-append, all-numbers, all-mapped, all-imp, all-owned}
-use Rattle.prelude.proofs.Maps.{map-map}
+use Rattle.prelude.proofs.Counts.{is-table}
+use Rattle.prelude.proofs.Lists.{of-byOwner, getD-map-upto, getD-append-at, getD-mapped, length-map-upto, all-append, all-numbers, all-mapped, all-imp, all-owned}
 use Rattle.prelude.proofs.Sums.{sumFrom, sum-alike, sum-append, sum-moved, length-owned}
 
 module _ (cs : ChartSet) where
@@ -37,8 +37,9 @@ module _ (cs : ChartSet) where
   pub edges-count : length (twin cs .edges) ≡ length (origins cs)
   edges-count = length-map (origins cs) (edgeOf cs)
 
-  pub edges-are : twin cs .edges ≡ map (λ t. edgeOf cs (from-transition t)) (upto (transitionCount cs)) ++ map (λ z. edgeOf cs (from-idling z)) (upto (stateCount cs))
-  edges-are = map-append (edgeOf cs) transitions idlings ∙ (λ i. map-map from-transition (edgeOf cs) (upto (transitionCount cs)) i ++ map-map from-idling (edgeOf cs) (upto (stateCount cs)) i)
+  -- edge by edge
+  pub edges-are : twin cs .edges ≡ map (λ e. edgeOf cs (originOf cs e)) (upto (length (origins cs)))
+  edges-are = is-table (λ e. edgeOf cs (originOf cs e)) noEdge (length (origins cs)) (twin cs .edges) edges-count (λ e h. getD-mapped (edgeOf cs) (origins cs) e (from-idling 0) noEdge h)
 
   -- ---- an origin's number, and back
 

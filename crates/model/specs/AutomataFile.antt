@@ -8,7 +8,7 @@ use lib.ListN.{length, getD}
 use Rattle.prelude.specs.Lists.{all, any, caseOf, gather, upto}
 use Rattle.records.specs.Refusal.{Refusal, bad-table, lowest}
 use Rattle.records.specs.Bytes.{byte, records, kind}
-use Rattle.records.specs.Framing.{framingTests, Framing}
+use Rattle.framing.specs.Framing.{framingTests, Framing}
 use Rattle.expressions.specs.Nodes.{nodeOf}
 use Rattle.expressions.specs.Sorts.{sortOf, isNumber, isTruth, nodesNamed, operandsFit, operandUses, Sorts}
 use Rattle.model.specs.Limits.{mostCharts, mostStates, mostVariables, mostNodes, mostEdges, mostLiterals, mostClocks, mostUpdates, mostResets, mostTicks}

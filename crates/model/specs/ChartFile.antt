@@ -9,7 +9,7 @@ use lib.Signed.{leZ}
 use Rattle.prelude.specs.Lists.{keep, all, any, count, caseOf, gather, upto, distinct, Lists}
 use Rattle.records.specs.Refusal.{Refusal, stray-byte, broken-code, dangling-number, broken-structure, broken-node, zero-ticks, lowest}
 use Rattle.records.specs.Bytes.{byte, two, four, two±, records, kind, Bytes}
-use Rattle.records.specs.Framing.{framingTests, Framing}
+use Rattle.framing.specs.Framing.{framingTests, Framing}
 use Rattle.expressions.specs.Nodes.{Node, nodeOf}
 use Rattle.expressions.specs.Sorts.{sortOf, isNumber, isTruth, nodesNamed, operandsFit, operandUses, Sorts}
 use Rattle.model.specs.Limits.{mostCharts, mostStates, mostTransitions, mostVariables, mostNodes, mostActions, lastEvent, mostPriorities, mostOwned, mostMilliseconds}

@@ -7,7 +7,7 @@ use lib.ListN.{length, getD, drop}
 use lib.IntN.{ℤ, pos}
 use Rattle.prelude.specs.Lists.{all, upto}
 use Rattle.records.specs.Refusal.{impossible-run, misplaced-events, cycles-done, Out, _>>_, fault-if}
-use Rattle.expressions.specs.Values.{isZero}
+use Rattle.arithmetic.specs.Arithmetic.{isZero}
 use Rattle.model.specs.Limits.{mostCharts, mostVariables, mostCycles}
 use Rattle.model.specs.Owned.{home}
 use Rattle.model.specs.World.{Variable, World, Run, noVariable, inBounds}

@@ -37,7 +37,7 @@ use Rattle.records.specs.Refusal.{Out, val}
 use Rattle.model.specs.Outcome.{Outcome}
 use Rattle.model.specs.Runs.{Run}
 use Rattle.model.specs.Calls.{numbered}
-use Rattle.machines.specs.Answers.{countCode}
+use Rattle.answers.specs.Answers.{countCode}
 use Rattle.monuvaleck.proofs.Numbering.{one, number-ended, number-clauses, Numbering}
 
 -- the run's type and the answer's

@@ -1,8 +1,8 @@
 // The readers.
 ghost use mathlib.Core.Path.{_≡_};
 ghost use Rattle.model.specs.Calls.{chartSets, automataTables, check, numbered};
-ghost use Rattle.machines.specs.Answers.{doneCode};
-use machines::answers::refused_code;
+ghost use Rattle.answers.specs.Answers.{doneCode};
+use answers::refused_code;
 
 // 0 where a chart set is accepted.
 #[no_mangle]

@@ -4,9 +4,9 @@ ghost use Prim.Native.Nat.{ℕ, _≤_};
 ghost use Rattle.records.specs.Refusal.{val};
 ghost use Rattle.model.specs.Calls.{numbered};
 ghost use Rattle.model.specs.PathBack.{pathBack};
-ghost use Rattle.machines.specs.Answers.{countCode};
+ghost use Rattle.answers.specs.Answers.{countCode};
 ghost use Rattle.paths.specs.LedOf.{answerOf};
-use machines::answers::refused_code;
+use answers::refused_code;
 use paths::Led;
 
 fn led_code(led: Led) -> i32

@@ -5,9 +5,9 @@ ghost use Rattle.model.specs.Limits.{longestTable};
 ghost use Rattle.records.specs.Refusal.{val};
 ghost use Rattle.model.specs.Calls.{numbered};
 ghost use Rattle.model.specs.Translation.{translate};
-ghost use Rattle.machines.specs.Answers.{countCode};
+ghost use Rattle.answers.specs.Answers.{countCode};
 ghost use Rattle.translation.specs.Answer.{answerOf};
-use machines::answers::refused_code;
+use answers::refused_code;
 use translation::Translated;
 
 fn translated_code(answer: Translated) -> i32

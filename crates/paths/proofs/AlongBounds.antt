@@ -8,7 +8,7 @@ use native.Mathlib.Omega.{arith}
 use borrow.Author.Tests.{ltb-true, ltb-false, eqb-true, eqb-false}
 use lib.Dec.{ltb, eqb}
 use lib.ListN.{length, getD, set, drop, length-append}
-use Rattle.records.specs.Framing.{howMany, framing, framingTests}
+use Rattle.framing.specs.Framing.{howMany, framing, framingTests}
 use Rattle.records.specs.Refusal.{Refusal, broken-path, short-rows, Out, val, fault, _>>=_, _>>_, fault-if, unless-refused, lowest}
 use Rattle.prelude.proofs.Counts.{and-true}
 use Rattle.model.specs.Outcome.{settled}
@@ -17,10 +17,10 @@ use Rattle.model.specs.AutomataTable.{edge}
 use Rattle.model.specs.ChartFile.{chartLimits, chartTests, chartsRefusal}
 use Rattle.model.specs.Translation.{Origin, from-transition, from-idling, originOf, twin}
 use Rattle.model.specs.PathBack.{timeMark, Walk, Row, walkStart, timeFits, edgeFits, stepFits, walked, rowsFrom, stepRows, ledBack, rowWords, rowsWritten, pathBack}
-use Rattle.chart_files.specs.declared.Shape.{Shape}
-use Rattle.chart_files.specs.Places.{homeAt, transitionAt}
-use Rattle.chart_files.proofs.PlacesRead.{length-initial, most-charts}
-use Rattle.chart_steps.specs.Accepted.{Accepted}
+use Rattle.chart_records.specs.declared.Shape.{Shape}
+use Rattle.chart_records.specs.Places.{homeAt, transitionAt}
+use Rattle.chart_records.proofs.PlacesRead.{length-initial, most-charts}
+use Rattle.chart_records.specs.Accepted.{Accepted}
 use Rattle.chart_steps.proofs.Accepted.{source-known}
 use Rattle.paths.specs.Along.{allFit, rowsAlong}
 use Rattle.paths.proofs.Along.{led-is}

@@ -11,10 +11,10 @@ use Rattle.model.specs.Owned.{home}
 use Rattle.model.specs.ChartSet.{transition, readCharts}
 use Rattle.model.specs.AutomataTable.{Edge, edge}
 use Rattle.model.specs.Translation.{from-transition, from-idling, edgeOf, twin}
-use Rattle.chart_files.specs.declared.Shape.{Shape}
-use Rattle.chart_files.specs.Places.{homeAt, transitionAt}
-use Rattle.chart_files.proofs.PlacesRead.{length-initial, length-homes, length-transitions, home-is, transition-is}
-use Rattle.chart_steps.specs.Accepted.{Accepted}
+use Rattle.chart_records.specs.declared.Shape.{Shape}
+use Rattle.chart_records.specs.Places.{homeAt, transitionAt}
+use Rattle.chart_records.proofs.PlacesRead.{length-initial, length-homes, length-transitions, home-is, transition-is}
+use Rattle.chart_records.specs.Accepted.{Accepted}
 use Rattle.chart_steps.proofs.Accepted.{source-known}
 use Rattle.model.proofs.TranslationOrigins.{origins-count, edges-count, edge-of}
 use Rattle.prelude.proofs.Lists.{all-getD}

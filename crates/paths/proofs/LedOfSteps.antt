@@ -15,9 +15,9 @@ use Rattle.model.specs.AutomataTable.{edge}
 use Rattle.model.specs.Translation.{twin}
 use Rattle.model.specs.PathBack as M
 use Rattle.model.specs.PathBack.{timeMark, timeFits, edgeFits, stepFits, walked}
-use Rattle.chart_files.specs.declared.Shape.{Shape}
-use Rattle.chart_files.proofs.PlacesRead.{length-initial, most-charts, most-states, most-transitions}
-use Rattle.chart_steps.specs.Accepted.{Accepted}
+use Rattle.chart_records.specs.declared.Shape.{Shape}
+use Rattle.chart_records.proofs.PlacesRead.{length-initial, most-charts, most-states, most-transitions}
+use Rattle.chart_records.specs.Accepted.{Accepted}
 use Rattle.paths.specs.declared.Edge.{Edge}
 use Rattle.paths.specs.LedOf.{walkIn, nextPosition, nextCycles, IsEdge, HasEdges}
 use Rattle.paths.proofs.LedOfEdges.{count-is, automaton-known}

@@ -12,7 +12,7 @@ use Rattle.model.specs.ChartSet.{ChartSet, readCharts}
 use Rattle.model.specs.AutomataTable.{edge}
 use Rattle.model.specs.Translation.{twin}
 use Rattle.model.specs.PathBack as M
-use Rattle.chart_files.specs.declared.Shape.{Shape}
+use Rattle.chart_records.specs.declared.Shape.{Shape}
 use Rattle.paths.specs.declared.Edge.{Edge}
 use Rattle.paths.specs.declared.Count as declared-count
 use Rattle.paths.specs.declared.Led as declared-led

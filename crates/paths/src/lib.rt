@@ -8,13 +8,13 @@ ghost use lib.ListN.{length};
 ghost use lib.Seq.{sets};
 ghost use Rattle.model.specs.ChartSet.{readCharts};
 ghost use Rattle.model.specs.PathBack.{walkStart, edgeFits, stepFits, walked as walkedOn, ledBack, rowWords};
-ghost use Rattle.chart_steps.specs.Accepted.{Accepted};
+ghost use Rattle.chart_records.specs.Accepted.{Accepted};
 ghost use Rattle.paths.specs.Along.{rowsAlong};
 ghost use Rattle.paths.specs.LedOf.{walkIn, IsEdge, HasEdges, nextPosition, nextCycles, countOf, counted, Writable, stepWords, ledOf, led};
-use chart_files::Shape;
-use chart_files::fields::home_of;
-use chart_files::fields::source_of;
-use chart_files::fields::target_of;
+use chart_records::Shape;
+use chart_records::fields::home_of;
+use chart_records::fields::source_of;
+use chart_records::fields::target_of;
 use records::refusals::Refusal;
 use records::sizes::EDGES;
 use records::sizes::MOST_CYCLES;
@@ -100,7 +100,7 @@ fn start_locations(s: &[u8], shape: Shape) -> Places
     requires { ⌜ Accepted (now s) shape ⌝ }
     ensures { λ r. ⌜ walkIn (shape .charts) r 1 0 ≡ walkStart (readCharts (now (s .entry))) ⌝ }
 {
-    let run = charts::runs::start(s, shape);
+    let run = chart_runs::start(s, shape);
     run.states
 }
 

@@ -2,12 +2,12 @@
 use mathlib.Core.Path.{_≡_, refl, sym, ap, _∙_}
 use mathlib.Core.Bool.{Bool, true, false, not, cond, _&&_, _||_}
 use mathlib.Core.List.{List, [], _∷_, _++_}
-use Prim.Native.Nat.{ℕ, zero, suc, _+_, _-_, _≤_, _<_}
-use native.Mathlib.Nat.{zero-add, sub-zero}
+use Prim.Native.Nat.{ℕ, zero, suc, _+_, _<_}
+use native.Mathlib.Nat.{zero-add}
 use native.Mathlib.Omega.{arith}
 use Rattle.prelude.specs.Lists.{all, any, count, from, upto}
 use Rattle.prelude.proofs.Counts.{impossible, and-true}
-use Rattle.prelude.proofs.Loops.{and-assoc, left-more, left-none}
+use Rattle.prelude.proofs.Loops.{and-assoc}
 use Rattle.prelude.proofs.Maps.{all-map, count-map, alike-upto}
 
 -- two tests are one where each passes with the other
@@ -103,30 +103,3 @@ module _ {A : Type 0} where
       go true false z e = omega arith
       go false true z e = omega arith
       go false false z e = e
-
--- ---- a loop that counts those below a size that pass
-
-module _ (p : ℕ → Bool) (size : ℕ) where
-  abbrev pub Counted : ℕ → ℕ → Type 0
-  Counted n i = (i ≤ size) × (n ≤ i) × (n + count p (from i (size - i)) ≡ count p (upto size))
-
-  pub counted-none : Counted 0 0
-  counted-none = (omega arith, omega arith, zero-add (count p (from 0 (size - 0))) ∙ ap (λ k. count p (from 0 k)) (sub-zero size))
-
-  step : (i : ℕ) → i < size → count p (from i (size - i)) ≡ cond (p i) (suc (count p (from (i + 1) (size - (i + 1))))) (count p (from (i + 1) (size - (i + 1))))
-  unfolding count
-  step i h = ap (count p) (left-more i size h)
-
-  pub counted-one : (n i : ℕ) → Counted n i → i < size → p i ≡ true → Counted (n + 1) (i + 1)
-  counted-one n i c h e =
-      let s : count p (from i (size - i)) ≡ suc (count p (from (i + 1) (size - (i + 1)))) = step i h ∙ ap (λ b. cond b (suc (count p (from (i + 1) (size - (i + 1))))) (count p (from (i + 1) (size - (i + 1))))) e in
-      (omega arith, omega arith, omega arith)
-
-  pub counted-no : (n i : ℕ) → Counted n i → i < size → p i ≡ false → Counted n (i + 1)
-  counted-no n i c h e =
-      let s : count p (from i (size - i)) ≡ count p (from (i + 1) (size - (i + 1))) = step i h ∙ ap (λ b. cond b (suc (count p (from (i + 1) (size - (i + 1))))) (count p (from (i + 1) (size - (i + 1))))) e in
-      (omega arith, omega arith, omega arith)
-
-  pub counted-all : (n i : ℕ) → Counted n i → size ≤ i → n ≡ count p (upto size)
-  unfolding count
-  counted-all n i c h = let z : count p (from i (size - i)) ≡ 0 = ap (count p) (left-none i size h) in omega arith

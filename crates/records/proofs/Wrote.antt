@@ -4,8 +4,8 @@ use mathlib.Core.List.{List, [], _∷_, _++_}
 use Prim.Native.Nat.{ℕ, suc, _+_, _≤_}
 use native.Mathlib.Nat.{add-zero}
 use native.Mathlib.Omega.{arith}
-use lib.ListN.{length, take, drop, set, length-append}
-use lib.Seq.{sets, sets-eq, take-at}
+use lib.ListN.{length, set, length-append}
+use lib.Seq.{sets}
 use Rattle.records.specs.Wrote.{Wrote}
 
 pub sets-append : (xs ys l : List ℕ) (i : ℕ) → sets l i (xs ++ ys) ≡ sets (sets l i xs) (i + length xs) ys
@@ -25,7 +25,3 @@ wrote-then {l} {m} {r} {xs} {ys} {i} {j} {k} a b = record {
 -- how far the place behind is
 pub wrote-near : {l m t : List ℕ} {i j : ℕ} (n : ℕ) → Wrote l i t m j → length t ≤ n → j ≤ i + n
 wrote-near n w h = let e = w .behind in omega arith
-
--- what was written at the start is found there
-pub text-there : (l text : List ℕ) → length text ≤ length l → take (length text) (sets l 0 text) ≡ text
-text-there l text h = ap (take (length text)) (sets-eq text l 0 (omega arith)) ∙ take-at text (drop (0 + length text) l) (length text) refl

@@ -1,4 +1,4 @@
-// The refusal table but for the faults in a turn, which have an enum of their own (`machines::answers::Reason`): a case for each number.
+// The refusal table but for the faults in a turn, which have an enum of their own (`answers::Reason`): a case for each number.
 ghost use mathlib.Core.Path.{_≡_};
 ghost use Rattle.records.specs.Refusal.{refusalNumber};
 ghost use Rattle.records.specs.RefusalOf.{refusalOf};

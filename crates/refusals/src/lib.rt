@@ -1,10 +1,10 @@
 // A refusal of a file that is named, told on standard error: its number and meaning, with the first record that breaks the rule where one does by itself, and what the file is where it is neither a set nor a table.
+use file_kinds::seen_as;
 use findings::Found;
 use findings::Rule;
 use findings::find;
 use libc::STDERR_FILENO;
 use messages::files::note;
-use messages::files::seen_as;
 use messages::input::Form;
 use messages::words::say;
 use records::refusals::Refusal;

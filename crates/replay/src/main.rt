@@ -2,15 +2,15 @@
 // input; plays a cycle for each mask and prints a line for each chart's turn: cycle, chart, transition or -, state after, variables. It stops at a refusal
 // or fault, whose number and meaning go to standard error, at a partial mask, or at the end.
 ghost use Rattle.chart_steps.specs.Prepared.{Prepared};
+use answers::Ending;
 use chart_files::Checked;
-use chart_files::Shape;
 use chart_files::check;
+use chart_records::Shape;
+use chart_runs::Run;
+use chart_runs::start;
 use chart_steps::tables::fill_actions;
 use chart_steps::tables::fill_rows;
-use charts::runs::Run;
-use charts::runs::start;
 use libc::STDIN_FILENO;
-use machines::answers::Ending;
 use messages::files::refuse_set;
 use messages::input::Form;
 use messages::input::argument;

@@ -2,14 +2,14 @@
 // input; plays a cycle for each mask and prints a line for each automaton's turn: cycle, automaton, edge, location after, variables. It stops at a refusal
 // or fault, whose number and meaning go to standard error, at a partial mask, or at the end.
 ghost use Rattle.automata_steps.specs.Prepared.{Prepared};
+use answers::Ending;
 use automata::runs::Run;
 use automata::runs::start;
 use automata_files::Checked;
-use automata_files::Shape;
 use automata_files::check;
+use automata_records::Shape;
 use automata_steps::index::index_of;
 use libc::STDIN_FILENO;
-use machines::answers::Ending;
 use messages::files::refuse_table;
 use messages::input::Form;
 use messages::input::argument;

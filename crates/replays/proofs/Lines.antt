@@ -8,13 +8,12 @@ use Rattle.records.specs.Refusal.{Refusal, Out, val, fault, _>>=_}
 use Rattle.records.specs.Wrote.{Wrote, Begins}
 use Rattle.records.proofs.Wrote.{nothing-wrote, wrote-then}
 use Rattle.model.specs.Outcome.{Outcome, settled}
-use Rattle.model.specs.Runs.{Run, Answer, taken, idle, time, Machine, parts, give, turn, whole-cycle, trace, ended, cycle}
+use Rattle.model.specs.Runs.{Run, Answer, taken, idle, time, Machine, parts, give, turn, whole-cycle, trace, cycle}
 use Rattle.model.proofs.ChecksKept.{NotTime, Steady}
 use Rattle.model.proofs.TurnsCycle.{traced, trace-by-turns, turn-begun}
-use Rattle.machines.specs.Turns.{finish}
 use Rattle.machines.proofs.TurnsCycle.{turning, goes-on, moves-on, ends-at-time, ends-in-fault}
 use Rattle.lines.specs.Text.{turnText, traceText}
-use Rattle.replays.specs.Played.{answerText, endedOf}
+use Rattle.replays.specs.Played.{answerText}
 
 -- what a cycle called with these events writes
 abbrev pub linesOf : Machine → ℕ → Run → List ℕ
@@ -114,11 +113,3 @@ module _ (m : Machine) (ok : Steady m) (given : ℕ) (r : Run) (x : Outcome Answ
     pub failed : (w : Refusal) → x .answer ≡ fault w →
         Begins before (linesOf m events r₀) now at × ((at ≤ 3856) × (record { answer = fault w; lent = r₀ } ≡ settled r₀ (cycle m events r₀)))
     failed w e = whole (fault w) (fault-lines w e) (ends-in-fault m ok given r x is w e)
-
--- the run after the cycle, told by the answer alone
-pub ended-by : (m : Machine) (events : ℕ) (r : Run) (x : Outcome (Unit {0}) Run) → x ≡ settled r (cycle m events r) → endedOf x ≡ ended r (trace m (whole-cycle events) r)
-ended-by m events r x e = ap endedOf e ∙ go (ended r (trace m (whole-cycle events) r))
-  where
-    go : (o : Out Run) → endedOf (settled r (finish o)) ≡ o
-    go (val q) = refl
-    go (fault v) = refl

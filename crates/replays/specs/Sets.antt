@@ -1,8 +1,8 @@
 -- What a cycle of a chart set played with its lines answers, in the model's words. Assumes nothing: these are definitions.
 use Rattle.model.specs.Outcome.{Outcome}
 use Rattle.model.specs.Runs.{Run}
-use Rattle.machines.specs.Answers.{endingOf}
-use Rattle.charts.specs.RunOf.{runOf}
+use Rattle.answers.specs.Answers.{endingOf}
+use Rattle.chart_runs.specs.RunOf.{runOf}
 use Rattle.replays.specs.declared.sets.ReplayedCycle.{ReplayedCycle}
 
 -- how the cycle ended, and the lent run afterwards

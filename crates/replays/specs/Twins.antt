@@ -1,7 +1,7 @@
 -- What a cycle of automata played with its lines answers, in the model's words. Assumes nothing: these are definitions.
 use Rattle.model.specs.Outcome.{Outcome}
 use Rattle.model.specs.Runs.{Run}
-use Rattle.machines.specs.Answers.{endingOf}
+use Rattle.answers.specs.Answers.{endingOf}
 use Rattle.automata.specs.RunOf.{runOf}
 use Rattle.replays.specs.declared.twins.ReplayedCycle.{ReplayedCycle}
 

@@ -1,12 +1,12 @@
 // The line of a part's turn: a chart's, or an automaton's.
 ghost use Prim.Native.Nat.{_+_, _≤_, _<_, _^_};
 ghost use lib.ListN.{getD, take};
-ghost use Rattle.machines.specs.Answers.{answerOf};
+ghost use Rattle.answers.specs.Answers.{answerOf};
 ghost use Rattle.records.specs.Wrote.{Wrote};
 ghost use Rattle.replays.specs.Played.{answerText};
+use answers::Answer;
 use lines::Chosen;
 use lines::put_bounded_line;
-use machines::answers::Answer;
 use records::sizes::Places;
 use records::sizes::Variables;
 

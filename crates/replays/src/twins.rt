@@ -11,11 +11,11 @@ ghost use Rattle.records.specs.Wrote.{Begins};
 ghost use Rattle.lines.specs.Text.{traceText};
 ghost use Rattle.replays.specs.Twins.{replayedCycleOf};
 use super::parts::tell;
+use answers::Answer;
+use answers::Ending;
 use automata::runs::Run;
 use automata::turns::turn;
-use automata_files::Shape;
-use machines::answers::Answer;
-use machines::answers::Ending;
+use automata_records::Shape;
 use records::sizes::TableHeads;
 
 // The length of the lines written, how the cycle ended, and the run after it.

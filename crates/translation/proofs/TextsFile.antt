@@ -1,7 +1,7 @@
 -- The twin's file, from its parts: sections one after the other, and those that belong to edges by the transitions and then the states. Assumes nothing.
 use mathlib.Core.Path.{_≡_, sym, ap, _∙_}
 use mathlib.Core.List.{List, [], _∷_, _++_, map, append-assoc, append-nil}
-use Prim.Native.Nat.{ℕ, _+_, _-_, _≤_, _<_}
+use Prim.Native.Nat.{ℕ, _+_, _≤_, _<_}
 use native.Mathlib.Nat.{zero-add}
 use native.Mathlib.Omega.{arith}
 use borrow.Author.Tests.{lt-ltb, le-ltb}
@@ -23,12 +23,6 @@ use Rattle.prelude.proofs.Lists.{gather-append}
 use Rattle.prelude.proofs.Gathered.{gather-none, gather-gather, gather-empty, gather-below, gather-shift, from-append}
 
 -- ---- one section after the other
-
-pub section-append : {A : Type 0} (kind : ℕ) (body : A → List ℕ) (xs ys : List A) → section kind (map body (xs ++ ys)) ≡ section kind (map body xs) ++ section kind (map body ys)
-section-append kind body xs ys =
-    gather-map body (recordText kind) (xs ++ ys)
-    ∙ gather-append (λ x. recordText kind (body x)) xs ys
-    ∙ sym (λ i. gather-map body (recordText kind) xs i ++ gather-map body (recordText kind) ys i)
 
 all-sections : (xs : List (ℕ × List (List ℕ))) → gather (λ r. r) (gather (λ x. map (recordText (x .0)) (x .1)) xs) ≡ gather (λ x. section (x .0) (x .1)) xs
 all-sections xs =

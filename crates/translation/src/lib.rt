@@ -6,22 +6,22 @@ ghost use lib.ListN.{length};
 ghost use Rattle.model.specs.Outcome.{settled};
 ghost use Rattle.model.specs.ChartSet.{readCharts};
 ghost use Rattle.model.specs.Translation.{twin, twinBytes, written};
-ghost use Rattle.chart_steps.specs.Accepted.{Accepted};
+ghost use Rattle.chart_records.specs.Accepted.{Accepted};
 ghost use Rattle.twin_records.specs.Tables.{HasClocks};
 ghost use Rattle.twin_records.specs.Texts.{placesText, testsText, effectsText, Puts};
 ghost use Rattle.translation.specs.Answer.{translatedOf};
 
 pub mod lengths;
-pub mod literals;
-pub mod resets;
-pub mod updates;
 
-use chart_files::Shape;
+use chart_records::Shape;
 use chart_steps::tables::fill_actions;
 use chart_steps::tables::fill_rows;
+use edge_records::literals::put_idle_literals;
+use edge_records::literals::put_literals;
+use edge_records::resets::fill_leaving;
+use edge_records::resets::put_resets;
+use edge_records::updates::put_updates;
 use lengths::twin_length;
-use literals::put_idle_literals;
-use literals::put_literals;
 use records::refusals::Refusal;
 use records::sizes::ACTION_KEYS;
 use records::sizes::ACTIONS;
@@ -29,17 +29,13 @@ use records::sizes::LONGEST_TABLE;
 use records::sizes::PRIORITIES;
 use records::sizes::STATES;
 use records::sizes::TRANSITIONS;
-use resets::fill_leaving;
-use resets::put_resets;
 use twin_records::clocks::fill_clocks;
 use twin_records::clocks::put_clocks;
 use twin_records::edges::put_edges;
-use twin_records::edges::put_idles;
 use twin_records::sections::put_homes;
 use twin_records::sections::put_initials;
 use twin_records::sections::put_nodes;
 use twin_records::sections::put_variables;
-use updates::put_updates;
 
 // The length of the twin's file, or why there is none.
 pub enum Translated {
@@ -54,8 +50,7 @@ fn put_places(s: &[u8], shape: Shape, out: &mut [u8], at: usize) -> usize
 {
     let homes_at = put_initials(s, shape, out, at);
     let edges_at = put_homes(s, shape, out, homes_at);
-    let idles_at = put_edges(s, shape, out, edges_at);
-    put_idles(s, shape, out, idles_at)
+    put_edges(s, shape, out, edges_at)
 }
 
 // Kinds 36 to 39. The rows are made once, of 256, which names none.

@@ -14,17 +14,17 @@ use Rattle.records.specs.Refusal.{odd-length}
 use Rattle.records.proofs.Records.{recordAt, byte-record}
 use Rattle.records.proofs.RoundTrips.{two-record, four-record, unsigned-signed}
 use Rattle.prelude.proofs.Counts.{and-true}
-use Rattle.records.proofs.Framed.{length-ofKind, framed-thing}
+use Rattle.framing.proofs.Framed.{length-ofKind, framed-thing}
 use Rattle.expressions.specs.Nodes.{nodeBy, readNode, nodeAt, writeNode}
 use Rattle.model.specs.ChartFile.{zeroBytes, between, unusedTransition, unusedVariable, unusedNode, unusedAction, unused, unusedAreZero, transitionInCode, variableInCode, nodeInCode, actionInCode, inCode, chartLimits, chartTests}
 use Rattle.prelude.proofs.Bools.{is-true, not-not}
 use Rattle.prelude.proofs.Lists as M
 use Rattle.model.proofs.ChartFile.{lowest-none}
-use Rattle.chart_files.specs.declared.Shape.{Shape}
-use Rattle.chart_files.specs.Places.{firstNode, nodePart}
-use Rattle.chart_files.proofs.Places.{node-part}
-use Rattle.chart_files.proofs.PlacesRead.{first-node}
-use Rattle.chart_steps.specs.Accepted.{Accepted}
+use Rattle.chart_records.specs.declared.Shape.{Shape}
+use Rattle.chart_records.specs.Places.{firstNode, nodePart}
+use Rattle.chart_records.proofs.Places.{node-part}
+use Rattle.chart_records.proofs.PlacesRead.{first-node}
+use Rattle.chart_records.specs.Accepted.{Accepted}
 use Rattle.chart_steps.proofs.Accepted.{all-getD, all-kept}
 
 -- bytes 1 to 15, from the fields as they are read

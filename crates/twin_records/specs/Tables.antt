@@ -8,7 +8,7 @@ use Rattle.prelude.specs.Lists.{count, upto, padded}
 use Rattle.model.specs.ChartSet.{ChartSet, transition}
 use Rattle.model.specs.Translation.{clockOf, clocksLeaving}
 use Rattle.machines.specs.Chains.{Chained}
-use Rattle.chart_files.specs.declared.Shape.{Shape}
+use Rattle.chart_records.specs.declared.Shape.{Shape}
 use Rattle.chart_steps.specs.Tables.{keyed, actionKeys}
 
 abbrev pub HasClocks : ChartSet → List ℕ → Type 0

@@ -1,17 +1,17 @@
 // The fields of a framed chart file's things, by their numbers: each thing's record is in the file, so that no read is tested.
 ghost use mathlib.Core.Path.{_≡_};
 ghost use Prim.Native.Nat.{_<_};
-ghost use Rattle.chart_files.specs.Parts.{triggerFor, guardFor, deedFor};
-ghost use Rattle.chart_files.specs.Places.{triggerBy, transitionAt, actionAt};
-ghost use Rattle.chart_files.specs.Shape.{IsShape};
-use chart_files::Shape;
-use chart_files::fields::Deed;
-use chart_files::fields::Guard;
-use chart_files::fields::Trigger;
-use chart_files::fields::deed_by;
-use chart_files::fields::first_node;
-use chart_files::fields::first_transition;
-use chart_files::fields::guard_by;
+ghost use Rattle.chart_records.specs.Parts.{triggerFor, guardFor, deedFor};
+ghost use Rattle.chart_records.specs.Places.{triggerBy, transitionAt, actionAt};
+ghost use Rattle.chart_records.specs.Shape.{IsShape};
+use chart_records::Shape;
+use chart_records::fields::Deed;
+use chart_records::fields::Guard;
+use chart_records::fields::Trigger;
+use chart_records::fields::deed_by;
+use chart_records::fields::first_node;
+use chart_records::fields::first_transition;
+use chart_records::fields::guard_by;
 use records::u16_within;
 use records::u32_within;
 

@@ -27,9 +27,9 @@ use Rattle.model.specs.Correspondence.{MoveAlike, lentAfter, afterCalls}
 use Rattle.model.proofs.CorrespondenceCalls.{moveAlike-twin}
 use Rattle.model.proofs.TranslationWritten.{twin-back}
 use Rattle.model.proofs.TranslationAccepted.{twin-accepted}
-use Rattle.automata_files.specs.declared.Shape.{Shape}
-use Rattle.automata_files.proofs.PlacesRead.{length-initial}
-use Rattle.automata_steps.specs.Accepted.{Accepted}
+use Rattle.automata_records.specs.declared.Shape.{Shape}
+use Rattle.automata_records.proofs.PlacesRead.{length-initial}
+use Rattle.automata_records.specs.Accepted.{Accepted}
 use Rattle.translation.specs.declared.Translated.{Translated}
 use Rattle.translation.specs.Answer.{translatedOf}
 use Rattle.alike.specs.Alike.{callFor, isTurn}

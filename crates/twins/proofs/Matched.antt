@@ -21,11 +21,11 @@ use Rattle.model.specs.Correspondence.{clockFor, clockRead, clocksRead, Corresp
 use Rattle.prelude.proofs.Bools.{of-true, both-of, clash}
 use Rattle.prelude.proofs.Lists.{mem-left, mem-right, mem-gather, mem-kept, mem-from}
 use Rattle.prelude.proofs.Numbers.{all-by}
-use Rattle.automata_files.specs.declared.Shape.{Shape}
-use Rattle.automata_files.specs.Places.{edgeAt, literalAt}
-use Rattle.automata_files.proofs.PlacesRead.{length-edges, length-literals, edge-is, literal-is, clock-is}
-use Rattle.automata_files.proofs.NamedThings.{automaton-known, literal-edge-known}
-use Rattle.automata_steps.specs.Accepted.{Accepted}
+use Rattle.automata_records.specs.declared.Shape.{Shape}
+use Rattle.automata_records.specs.Places.{edgeAt, literalAt}
+use Rattle.automata_records.proofs.PlacesRead.{length-edges, length-literals, edge-is, literal-is, clock-is}
+use Rattle.automata_records.proofs.NamedThings.{automaton-known, literal-edge-known}
+use Rattle.automata_records.specs.Accepted.{Accepted}
 use Rattle.alike.specs.Alike.{valuesAlike, variablesAlike, placesAlike, literalTriggerAlike, literalAlike, timersAlike, runsAlike, idleAt, answersAlike, outsAlike, stateAt, repliesAlike, callAlike}
 use Rattle.alike.proofs.Alike.{clock-in}
 

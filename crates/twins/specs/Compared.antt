@@ -20,7 +20,7 @@ use Rattle.twins.specs.declared.both.Both.{Both}
 use Rattle.twins.specs.declared.Verdict as declared-verdict
 use Rattle.twins.specs.declared.Compared.{Compared}
 use Rattle.alike.specs.Alike.{Pair, callFor, isTurn}
-use Rattle.charts.specs.RunOf as charts-run
+use Rattle.chart_runs.specs.RunOf as charts-run
 use Rattle.automata.specs.RunOf as automata-run
 
 abbrev pub pairOf : Both → Pair

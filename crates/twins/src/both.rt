@@ -3,30 +3,30 @@ ghost use mathlib.Core.Path.{_≡_};
 ghost use Prim.Native.Nat.{_≤_};
 ghost use lib.ListN.{length};
 ghost use Rattle.model.specs.Runs.{one-turn, whole-cycle};
-ghost use Rattle.chart_steps.specs.Accepted as of-charts;
-ghost use Rattle.charts.specs.RunOf as charts-run;
-ghost use Rattle.automata_steps.specs.Accepted as of-automata;
+ghost use Rattle.chart_records.specs.Accepted as of-charts;
+ghost use Rattle.chart_runs.specs.RunOf as charts-run;
+ghost use Rattle.automata_records.specs.Accepted as of-automata;
 ghost use Rattle.automata.specs.RunOf as automata-run;
 ghost use Rattle.alike.specs.Alike.{called, callFor, isTurn};
 ghost use Rattle.twins.specs.Compared.{pairOf};
-use alike::answers::answers_alike;
-use alike::answers::endings_alike;
-use alike::answers::state_at;
+use alike::outcomes::answers_alike;
+use alike::outcomes::endings_alike;
+use alike::outcomes::state_at;
 use alike::runs::runs_alike;
 
 // Whether the call was alike, and the runs that it leaves.
 pub struct Both {
     pub alike: bool,
-    pub run: charts::runs::Run,
+    pub run: chart_runs::Run,
     pub twin: automata::runs::Run,
 }
 
 fn turn_both(
     s: &[u8],
-    shape: chart_files::Shape,
+    shape: chart_records::Shape,
     t: &[u8],
-    table: automata_files::Shape,
-    run: charts::runs::Run,
+    table: automata_records::Shape,
+    run: chart_runs::Run,
     twin: automata::runs::Run,
     events: u32,
 ) -> Both
@@ -52,10 +52,10 @@ fn turn_both(
 
 fn cycle_both(
     s: &[u8],
-    shape: chart_files::Shape,
+    shape: chart_records::Shape,
     t: &[u8],
-    table: automata_files::Shape,
-    run: charts::runs::Run,
+    table: automata_records::Shape,
+    run: chart_runs::Run,
     twin: automata::runs::Run,
     events: u32,
 ) -> Both
@@ -79,10 +79,10 @@ fn cycle_both(
 // A turn or a cycle.
 pub fn call_both(
     s: &[u8],
-    shape: chart_files::Shape,
+    shape: chart_records::Shape,
     t: &[u8],
-    table: automata_files::Shape,
-    run: charts::runs::Run,
+    table: automata_records::Shape,
+    run: chart_runs::Run,
     twin: automata::runs::Run,
     turn: bool,
     events: u32,

@@ -3,14 +3,14 @@ ghost use mathlib.Core.Path.{_≡_};
 ghost use Rattle.model.specs.ChartSet.{readCharts};
 ghost use Rattle.model.specs.AutomataTable.{readAutomata};
 ghost use Rattle.model.specs.Translation.{twin as twin-of, twinBytes, translate as translation};
-ghost use Rattle.chart_steps.specs.Accepted as of-charts;
-ghost use Rattle.automata_steps.specs.Accepted as of-automata;
+ghost use Rattle.chart_records.specs.Accepted as of-charts;
+ghost use Rattle.automata_records.specs.Accepted as of-automata;
 ghost use Rattle.records.specs.RefusalOf.{refusalOf};
 ghost use Rattle.twins.specs.Compared.{comparisonOf, calledBoth, playedBoth, movedBoth, nothingCompared, compared};
 
 pub mod both;
 
-use alike::answers::counts_alike;
+use alike::outcomes::counts_alike;
 use alike::runs::runs_alike;
 use both::call_both;
 use both::is_turn;
@@ -30,7 +30,7 @@ pub enum Verdict {
 // The verdict, and the runs that the calls left.
 pub struct Compared {
     pub verdict: Verdict,
-    pub run: charts::runs::Run,
+    pub run: chart_runs::Run,
     pub twin: automata::runs::Run,
 }
 
@@ -38,12 +38,7 @@ pub struct Compared {
 fn nothing_compared(w: Refusal) -> Compared
     ensures { λ r. ⌜ comparisonOf r ≡ nothingCompared (refusalOf w) ⌝ }
 {
-    let run = charts::runs::run_between_cycles(
-        [0u16; CHARTS],
-        [0u32; CHARTS],
-        [0i16; VARIABLES],
-        0,
-    );
+    let run = chart_runs::run_between_cycles([0u16; CHARTS], [0u32; CHARTS], [0i16; VARIABLES], 0);
     let locations = [0u16; CHARTS];
     let clocks = [0u16; CLOCKS];
     let variables = [0i16; VARIABLES];
@@ -58,16 +53,16 @@ fn nothing_compared(w: Refusal) -> Compared
 // The calls, from fresh runs on, which are compared too.
 fn calls_compared(
     s: &[u8],
-    shape: chart_files::Shape,
+    shape: chart_records::Shape,
     t: &[u8],
-    table: automata_files::Shape,
+    table: automata_records::Shape,
     kinds: &[u8],
     masks: &[u32],
 ) -> Compared
     requires { ⌜ of-charts.Accepted (now s) shape × of-automata.Accepted (now t) table × (readAutomata (now t) ≡ twin-of (readCharts (now s))) ⌝ }
     ensures { λ r. ⌜ comparisonOf r ≡ calledBoth (now (s .entry)) (now (t .entry)) (now (masks .entry)) (now (kinds .entry)) ⌝ }
 {
-    let mut run = charts::runs::start(s, shape);
+    let mut run = chart_runs::start(s, shape);
     let mut twin = automata::runs::start(t, table);
     if !runs_alike(t, table, run, twin) {
         return Compared {
@@ -104,15 +99,15 @@ fn calls_compared(
 // Many cycles on both sides, from fresh runs on.
 fn plays_compared(
     s: &[u8],
-    shape: chart_files::Shape,
+    shape: chart_records::Shape,
     t: &[u8],
-    table: automata_files::Shape,
+    table: automata_records::Shape,
     masks: &[u32],
 ) -> Compared
     requires { ⌜ of-charts.Accepted (now s) shape × of-automata.Accepted (now t) table × (readAutomata (now t) ≡ twin-of (readCharts (now s))) ⌝ }
     ensures { λ r. ⌜ comparisonOf r ≡ playedBoth (now (s .entry)) (now (t .entry)) (now (masks .entry)) ⌝ }
 {
-    let run = charts::runs::start(s, shape);
+    let run = chart_runs::start(s, shape);
     let twin = automata::runs::start(t, table);
     let played = charts::plays::play_in_place(s, shape, run, masks);
     let other = automata::plays::play_in_place(t, table, twin, masks);
@@ -138,9 +133,9 @@ fn plays_compared(
 // Cycles played, or calls one by one.
 fn table_compared(
     s: &[u8],
-    shape: chart_files::Shape,
+    shape: chart_records::Shape,
     t: &[u8],
-    table: automata_files::Shape,
+    table: automata_records::Shape,
     plays: bool,
     kinds: &[u8],
     masks: &[u32],
@@ -158,7 +153,7 @@ fn table_compared(
 // The twin's file is read back first.
 fn twin_compared(
     s: &[u8],
-    shape: chart_files::Shape,
+    shape: chart_records::Shape,
     t: &[u8],
     plays: bool,
     kinds: &[u8],
@@ -177,7 +172,7 @@ fn twin_compared(
 
 fn set_compared(
     s: &[u8],
-    shape: chart_files::Shape,
+    shape: chart_records::Shape,
     plays: bool,
     kinds: &[u8],
     masks: &[u32],

@@ -23,29 +23,8 @@ abbrev μ-loop : tie.MeasureT-loop
 loop-holds : tie.Need-loop-holds Inv-loop μ-loop
 loop-holds c = flagged-none isSound (c .before .args .s .now)
 
-mul-at : tie.Need-mul-at Inv-loop μ-loop
-mul-at c = search needs
-
-add-end : tie.Need-add-end Inv-loop μ-loop
-add-end c = search needs
-
-sub-record-sound : tie.Need-sub-record-sound Inv-loop μ-loop
-sub-record-sound c = search needs
-
-part-record-sound-start : tie.Need-part-record-sound-start Inv-loop μ-loop
-part-record-sound-start c = search needs
-
-part-record-sound-end : tie.Need-part-record-sound-end Inv-loop μ-loop
-part-record-sound-end c = search needs
-
 record-sound-requires : tie.Need-record-sound-requires Inv-loop μ-loop
 record-sound-requires c κs = part-long (c .before .before .before .before .args .s .now) (c .before .before .loop .i) (c .before .loop-test .taken)
-
-add-i : tie.Need-add-i Inv-loop μ-loop
-add-i c = search needs
-
-loop-less : tie.Need-loop-less Inv-loop μ-loop
-loop-less c = search needs
 
 loop-again : tie.Need-loop-again Inv-loop μ-loop
 loop-again c =
@@ -63,13 +42,13 @@ all-sound-spec =
     Inv-loop
     μ-loop
     loop-holds
-    mul-at
-    add-end
-    sub-record-sound
-    part-record-sound-start
-    part-record-sound-end
+    (λ c. search needs)
+    (λ c. search needs)
+    (λ c. search needs)
+    (λ c. search needs)
+    (λ c. search needs)
     record-sound-requires
-    add-i
-    loop-less
+    (λ c. search needs)
+    (λ c. search needs)
     loop-again
     returns)

@@ -1,20 +1,11 @@
 -- `check` meets its contract: what framing refuses is refused, and the others are of the shape that is checked. Assumes nothing.
 use mathlib.Core.Path.{sym, ap, _∙_}
 use denote.Ref.{now}
-use Rattle.automata_files.specs.Shape.{refusalOf}
+use Rattle.automata_files.specs.Checked.{refusalOf}
 use Rattle.automata_files.proofs.ChecksFramed.{refused-framing, refused, accepted}
 use borrow.Author.Needs.{needs}
 use Rattle.automata_files.proofs.check.Statement.{statement}
 use Rattle.automata_files.proofs.check.Tie as tie
-
-shape-of-requires : tie.Need-shape-of-requires
-shape-of-requires c κs = search needs
-
-enum-known-refusal : tie.Need-enum-known-refusal
-enum-known-refusal c = search needs
-
-enum-known-shape : tie.Need-enum-known-shape
-enum-known-shape c = search needs
 
 passes-requires : tie.Need-passes-requires
 passes-requires c κs = c .before .before .before .shape-of .ensures .shape _ (c .before .shape .given .1)
@@ -39,9 +30,9 @@ pub check-spec : {M : Type 1} → statement M
 check-spec =
     tie.close
     (tie.spec
-    shape-of-requires
-    enum-known-refusal
-    enum-known-shape
+    (λ c κs. search needs)
+    (λ c. search needs)
+    (λ c. search needs)
     passes-requires
     returns
     returns-2

@@ -13,35 +13,11 @@ use borrow.Author.Needs.{needs}
 use Rattle.automata_files.proofs.passes.Statement.{statement}
 use Rattle.automata_files.proofs.passes.Tie as tie
 
-node-records-requires : tie.Need-node-records-requires
-node-records-requires c κs = search needs
-
-slice-aggregate-test-nodes : tie.Need-slice-aggregate-test-nodes
-slice-aggregate-test-nodes c = search needs
-
-test-nodes-requires : tie.Need-test-nodes-requires
-test-nodes-requires c κs = search needs
-
-all-sound-requires : tie.Need-all-sound-requires
-all-sound-requires c κs = search needs
-
 table-named-requires : tie.Need-table-named-requires
 table-named-requires c κs =
     let k = c .before .before .before .before .before .before in
     let sh = k .args .shape in
     (k .pre, c .before .before .test-nodes .ensures .0 ∙ ap (λ x. verdictOf (nodeAt x) (sh .nodes) (sh .variables)) (c .before .before .before .before .node-records .ensures))
-
-clocks-tick-requires : tie.Need-clocks-tick-requires
-clocks-tick-requires c κs = search needs
-
-inside-automata-requires : tie.Need-inside-automata-requires
-inside-automata-requires c κs = search needs
-
-idle-edges-stay-requires : tie.Need-idle-edges-stay-requires
-idle-edges-stay-requires c κs = search needs
-
-slice-aggregate-table-nodes-fit : tie.Need-slice-aggregate-table-nodes-fit
-slice-aggregate-table-nodes-fit c = search needs
 
 table-nodes-fit-requires : tie.Need-table-nodes-fit-requires
 table-nodes-fit-requires c κs =
@@ -70,14 +46,14 @@ pub passes-spec : {M : Type 1} → statement M
 passes-spec =
     tie.close
     (tie.spec
-    node-records-requires
-    slice-aggregate-test-nodes
-    test-nodes-requires
-    all-sound-requires
+    (λ c κs. search needs)
+    (λ c. search needs)
+    (λ c κs. search needs)
+    (λ c κs. search needs)
     table-named-requires
-    clocks-tick-requires
-    inside-automata-requires
-    idle-edges-stay-requires
-    slice-aggregate-table-nodes-fit
+    (λ c κs. search needs)
+    (λ c κs. search needs)
+    (λ c κs. search needs)
+    (λ c. search needs)
     table-nodes-fit-requires
     returns)

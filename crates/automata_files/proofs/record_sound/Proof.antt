@@ -4,14 +4,8 @@ use borrow.Author.Needs.{needs}
 use Rattle.automata_files.proofs.record_sound.Statement.{statement}
 use Rattle.automata_files.proofs.record_sound.Tie as tie
 
-record-clean-requires : tie.Need-record-clean-requires
-record-clean-requires c κs = search needs
-
-in-code-requires : tie.Need-in-code-requires
-in-code-requires c κs = search needs
-
 returns : tie.Need-returns
 returns c = λ i. c .before .record-clean .ensures i && c .in-code .ensures i
 
 pub record-sound-spec : {M : Type 1} → statement M
-record-sound-spec = tie.close (tie.spec record-clean-requires in-code-requires returns)
+record-sound-spec = tie.close (tie.spec (λ c κs. search needs) (λ c κs. search needs) returns)

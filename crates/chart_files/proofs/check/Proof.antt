@@ -1,25 +1,13 @@
 -- `check` meets its contract: what framing refuses is refused so, and the others are of the shape that is checked. Assumes nothing.
 use mathlib.Core.Path.{sym, ap, _∙_}
-use Rattle.chart_files.specs.Shape.{refusalOf}
+use Rattle.chart_files.specs.Checked.{refusalOf}
 use Rattle.chart_files.proofs.ShapeChecked.{refused-framing, refused}
 use borrow.Author.Needs.{needs}
 use Rattle.chart_files.proofs.check.Statement.{statement}
 use Rattle.chart_files.proofs.check.Tie as tie
 
-shape-of-requires : tie.Need-shape-of-requires
-shape-of-requires c κs = search needs
-
-enum-known-shape : tie.Need-enum-known-shape
-enum-known-shape c = search needs
-
 check-framed-requires : tie.Need-check-framed-requires
 check-framed-requires c κs = c .before .before .before .shape-of .ensures .shape _ (c .before .shape .given .1)
-
-enum-known-refusal : tie.Need-enum-known-refusal
-enum-known-refusal c = search needs
-
-returns : tie.Need-returns
-returns c = search needs
 
 returns-2 : tie.Need-returns-2
 returns-2 c =
@@ -31,9 +19,9 @@ pub check-spec : {M : Type 1} → statement M
 check-spec =
     tie.close
     (tie.spec
-    shape-of-requires
-    enum-known-shape
+    (λ c κs. search needs)
+    (λ c. search needs)
     check-framed-requires
-    enum-known-refusal
-    returns
+    (λ c. search needs)
+    (λ c. search needs)
     returns-2)

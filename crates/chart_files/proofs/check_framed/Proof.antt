@@ -35,9 +35,6 @@ nodes-hold c = sym (c .before .before .nodes-fit .ensures .0) ∙ not-false _ (c
 ticks-hold : (c : tie.Else6) → all (λ t. ticking (t .trigger)) (readCharts (c .before .before .before .before .before .before .before .before .before .before .before .before .before .before .before .before .before .before .before .before .args .s .now) .transitions) ≡ true
 ticks-hold c = sym (c .before .all-ticking .ensures) ∙ not-false _ (c .if6 .left)
 
-test-records-requires : tie.Need-test-records-requires
-test-records-requires c κs = search needs
-
 returns : tie.Need-returns
 unfolding lowest
 returns c =
@@ -63,15 +60,6 @@ returns-2 c =
     refl
     refl
     refl)
-
-node-records-requires : tie.Need-node-records-requires
-node-records-requires c κs = search needs
-
-slice-aggregate-test-nodes : tie.Need-slice-aggregate-test-nodes
-slice-aggregate-test-nodes c = search needs
-
-test-nodes-requires : tie.Need-test-nodes-requires
-test-nodes-requires c κs = search needs
 
 all-named-requires : tie.Need-all-named-requires
 all-named-requires c κs =
@@ -108,9 +96,6 @@ returns-4 c =
     refl
     refl)
 
-slice-aggregate-nodes-fit : tie.Need-slice-aggregate-nodes-fit
-slice-aggregate-nodes-fit c = search needs
-
 nodes-fit-requires : tie.Need-nodes-fit-requires
 nodes-fit-requires c κs =
     let k = c .before .before .before .before .before .before .before .before .before .before .before .before .before .before .before in
@@ -135,9 +120,6 @@ returns-5 c =
     (shaped-hold (c .before .before .before .before))
     (sym (c .before .before .nodes-fit .ensures .0) ∙ not-true _ (c .if5 .taken))
     refl)
-
-all-ticking-requires : tie.Need-all-ticking-requires
-all-ticking-requires c κs = search needs
 
 returns-6 : tie.Need-returns-6
 unfolding lowest
@@ -169,19 +151,19 @@ pub check-framed-spec : {M : Type 1} → statement M
 check-framed-spec =
     tie.close
     (tie.spec
-    test-records-requires
+    (λ c κs. search needs)
     returns
     returns-2
-    node-records-requires
-    slice-aggregate-test-nodes
-    test-nodes-requires
+    (λ c κs. search needs)
+    (λ c. search needs)
+    (λ c κs. search needs)
     all-named-requires
     returns-3
     structured-requires
     returns-4
-    slice-aggregate-nodes-fit
+    (λ c. search needs)
     nodes-fit-requires
     returns-5
-    all-ticking-requires
+    (λ c κs. search needs)
     returns-6
     returns-7)

@@ -22,41 +22,8 @@ abbrev μ-loop : tie.MeasureT-loop
 loop-holds : tie.Need-loop-holds Inv-loop μ-loop
 loop-holds c = let s = c .before .args .s .now in (flagged-none isClean s, flagged-none inCode s)
 
-mul-at : tie.Need-mul-at Inv-loop μ-loop
-mul-at c = search needs
-
-add-end : tie.Need-add-end Inv-loop μ-loop
-add-end c = search needs
-
-sub-record-clean : tie.Need-sub-record-clean Inv-loop μ-loop
-sub-record-clean c = search needs
-
-part-record-clean-start : tie.Need-part-record-clean-start Inv-loop μ-loop
-part-record-clean-start c = search needs
-
-part-record-clean-end : tie.Need-part-record-clean-end Inv-loop μ-loop
-part-record-clean-end c = search needs
-
 record-clean-requires : tie.Need-record-clean-requires Inv-loop μ-loop
 record-clean-requires c κs = part-long (c .before .before .before .before .args .s .now) (c .before .before .loop .i) (c .before .loop-test .taken)
-
-sub-in-code : tie.Need-sub-in-code Inv-loop μ-loop
-sub-in-code c = search needs
-
-part-in-code-start : tie.Need-part-in-code-start Inv-loop μ-loop
-part-in-code-start c = search needs
-
-part-in-code-end : tie.Need-part-in-code-end Inv-loop μ-loop
-part-in-code-end c = search needs
-
-in-code-requires : tie.Need-in-code-requires Inv-loop μ-loop
-in-code-requires c κs = search needs
-
-add-i : tie.Need-add-i Inv-loop μ-loop
-add-i c = search needs
-
-loop-less : tie.Need-loop-less Inv-loop μ-loop
-loop-less c = search needs
 
 loop-again : tie.Need-loop-again Inv-loop μ-loop
 loop-again c =
@@ -80,17 +47,17 @@ test-records-spec =
     Inv-loop
     μ-loop
     loop-holds
-    mul-at
-    add-end
-    sub-record-clean
-    part-record-clean-start
-    part-record-clean-end
+    (λ c. search needs)
+    (λ c. search needs)
+    (λ c. search needs)
+    (λ c. search needs)
+    (λ c. search needs)
     record-clean-requires
-    sub-in-code
-    part-in-code-start
-    part-in-code-end
-    in-code-requires
-    add-i
-    loop-less
+    (λ c. search needs)
+    (λ c. search needs)
+    (λ c. search needs)
+    (λ c κs. search needs)
+    (λ c. search needs)
+    (λ c. search needs)
     loop-again
     returns)

@@ -5,35 +5,20 @@ use borrow.Author.Needs.{needs}
 use Rattle.check_file.proofs.print_set.Statement.{statement}
 use Rattle.check_file.proofs.print_set.Tie as tie
 
-buffer-requires : tie.Need-buffer-requires
-buffer-requires c κs = search needs
-
-slice-aggregate-set-into : tie.Need-slice-aggregate-set-into
-slice-aggregate-set-into c = search needs
-
-set-into-requires : tie.Need-set-into-requires
-set-into-requires c κs = search needs
-
 array-share-prefix-text : tie.Need-array-share-prefix-text
 array-share-prefix-text c = search needs
 
 slice-aggregate-print : tie.Need-slice-aggregate-print
 slice-aggregate-print c = sym (length-take-le (c .before .before .set-into .result) _ (array-share-prefix-text (c .before)))
 
-print-requires : tie.Need-print-requires
-print-requires c κs = search needs
-
-returns : tie.Need-returns
-returns c = search needs
-
 pub print-set-spec : {M : Type 1} → statement M
 print-set-spec =
     tie.close
     (tie.spec
-    buffer-requires
-    slice-aggregate-set-into
-    set-into-requires
+    (λ c κs. search needs)
+    (λ c. search needs)
+    (λ c κs. search needs)
     array-share-prefix-text
     slice-aggregate-print
-    print-requires
-    returns)
+    (λ c κs. search needs)
+    (λ c. search needs))

@@ -25,31 +25,10 @@ loop-holds c =
     let a = c .before .before .args in
     (omega arith, omega arith, refl, subst (λ t. Wrote (a .masks .now) 0 t (a .masks .now) 0) (sym (masks-none (a .bytes .now))) (nothing-wrote (a .masks .now) 0))
 
-same-length : tie.Need-same-length Inv-loop μ-loop
-same-length c = search needs
-
 returns : tie.Need-returns Inv-loop μ-loop
 returns c =
     let l = c .before .before .loop in
     (l .inv .3, (l .inv .0, λ h. omega (arith, h, l .inv .1, l .inv .2)))
-
-mul-u32-at : tie.Need-mul-u32-at Inv-loop μ-loop
-mul-u32-at c = search needs
-
-u32-at-requires : tie.Need-u32-at-requires Inv-loop μ-loop
-u32-at-requires c κs = search needs
-
-mul-masks : tie.Need-mul-masks Inv-loop μ-loop
-mul-masks c = search needs
-
-slice-write-masks : tie.Need-slice-write-masks Inv-loop μ-loop
-slice-write-masks c = search needs
-
-add-i : tie.Need-add-i Inv-loop μ-loop
-add-i c = search needs
-
-loop-less : tie.Need-loop-less Inv-loop μ-loop
-loop-less c = search needs
 
 loop-again : tie.Need-loop-again Inv-loop μ-loop
 loop-again c =
@@ -65,9 +44,6 @@ loop-again c =
       subst (λ t. Wrote (a .masks .now) 0 t after (l .i + 1)) (sym (masks-more (l .i) (a .bytes .now))) (wrote-then (l .inv .3) one),
     )
 
-same-length-2 : tie.Need-same-length-2 Inv-loop μ-loop
-same-length-2 c = search needs
-
 returns-2 : tie.Need-returns-2 Inv-loop μ-loop
 returns-2 c =
     let l = c .before .loop in
@@ -80,14 +56,14 @@ put-masks-spec =
     Inv-loop
     μ-loop
     loop-holds
-    same-length
+    (λ c. search needs)
     returns
-    mul-u32-at
-    u32-at-requires
-    mul-masks
-    slice-write-masks
-    add-i
-    loop-less
+    (λ c. search needs)
+    (λ c κs. search needs)
+    (λ c. search needs)
+    (λ c. search needs)
+    (λ c. search needs)
+    (λ c. search needs)
     loop-again
-    same-length-2
+    (λ c. search needs)
     returns-2)

@@ -9,22 +9,10 @@ use borrow.Author.Needs.{needs}
 use Rattle.comparison.proofs.expression_number.Statement.{statement}
 use Rattle.comparison.proofs.expression_number.Tie as tie
 
-number-of-requires : tie.Need-number-of-requires
-number-of-requires c κs = search needs
-
-enum-known-z : tie.Need-enum-known-z
-enum-known-z c = search needs
-
 cast-result : tie.Need-cast-result
 cast-result c =
     let fits : SFits w32 (c .before .z .given .0 .0) = search needs in
     sfits-widen tt (sfits-toZ (fits-ofZ fits))
-
-enum-known-w : tie.Need-enum-known-w
-enum-known-w c = search needs
-
-reason-code-requires : tie.Need-reason-code-requires
-reason-code-requires c κs = search needs
 
 returns : tie.Need-returns
 returns c =
@@ -42,10 +30,10 @@ pub expression-number-spec : {M : Type 1} → statement M
 expression-number-spec =
     tie.close
     (tie.spec
-    number-of-requires
-    enum-known-z
+    (λ c κs. search needs)
+    (λ c. search needs)
     cast-result
-    enum-known-w
-    reason-code-requires
+    (λ c. search needs)
+    (λ c κs. search needs)
     returns
     returns-2)

@@ -9,18 +9,6 @@ use borrow.Author.Needs.{needs}
 use Rattle.comparison.proofs.expression_truth.Statement.{statement}
 use Rattle.comparison.proofs.expression_truth.Tie as tie
 
-truth-of-requires : tie.Need-truth-of-requires
-truth-of-requires c κs = search needs
-
-enum-known-t : tie.Need-enum-known-t
-enum-known-t c = search needs
-
-enum-known-w : tie.Need-enum-known-w
-enum-known-w c = search needs
-
-reason-code-requires : tie.Need-reason-code-requires
-reason-code-requires c κs = search needs
-
 returns : tie.Need-returns
 returns c =
     ap (λ t. truthCode (val t)) (sym (c .if1 .taken))
@@ -41,10 +29,10 @@ pub expression-truth-spec : {M : Type 1} → statement M
 expression-truth-spec =
     tie.close
     (tie.spec
-    truth-of-requires
-    enum-known-t
-    enum-known-w
-    reason-code-requires
+    (λ c κs. search needs)
+    (λ c. search needs)
+    (λ c. search needs)
+    (λ c κs. search needs)
     returns
     returns-2
     returns-3)

@@ -5,16 +5,10 @@ use borrow.Author.Needs.{needs}
 use Rattle.comparison.proofs.framing.Statement.{statement}
 use Rattle.comparison.proofs.framing.Tie as tie
 
-frame-of-requires : tie.Need-frame-of-requires
-frame-of-requires c κs = search needs
-
-framing-number-requires : tie.Need-framing-number-requires
-framing-number-requires c κs = search needs
-
 returns : tie.Need-returns
 returns c =
     let is = c .before .before .before .frame-of .ensures in
     (c .framing-number .ensures ∙ ap refusalCode (is .answer), (is .counts, is .firsts))
 
 pub framing-spec : {M : Type 1} → statement M
-framing-spec = tie.close (tie.spec frame-of-requires framing-number-requires returns)
+framing-spec = tie.close (tie.spec (λ c κs. search needs) (λ c κs. search needs) returns)

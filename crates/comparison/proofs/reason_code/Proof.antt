@@ -6,12 +6,6 @@ use borrow.Author.Needs.{needs}
 use Rattle.comparison.proofs.reason_code.Statement.{statement}
 use Rattle.comparison.proofs.reason_code.Tie as tie
 
-enum-told : tie.Need-enum-told
-enum-told c = search needs
-
-enum-told-2 : tie.Need-enum-told-2
-enum-told-2 c = search needs
-
 returns : tie.Need-returns
 returns c = ap (λ w. reasonCode (valueReasonOf w)) (sym (c .enum-told .given .1))
 
@@ -19,4 +13,4 @@ returns-2 : tie.Need-returns-2
 returns-2 c = ap (λ w. reasonCode (valueReasonOf w)) (sym (c .enum-told2 .given .1))
 
 pub reason-code-spec : {M : Type 1} → statement M
-reason-code-spec = tie.close (tie.spec enum-told enum-told-2 returns returns-2)
+reason-code-spec = tie.close (tie.spec (λ c. search needs) (λ c. search needs) returns returns-2)

@@ -10,16 +10,10 @@ use Rattle.comparison.proofs.write_i16.Reads as reads
 use Rattle.comparison.proofs.write_i16.Lts as lts
 use Rattle.records.proofs.put_i16.Reads as put-i16-reads
 
-put-i16-requires : tie.Need-put-i16-requires
-put-i16-requires c κs = search needs
-
-same-length : tie.Need-same-length
-same-length c = search needs
-
 returns : tie.Need-returns
 returns c =
     let a = c .before .before .before .before .before .args in
     c .before .before .put-i16 .ensures ∙ ap (λ z. sets (a .s .now) (a .at) (bytes2± z)) (toZ-ofZ (c .before .before .before .before .before .fits .v))
 
 pub write-i16-spec : {M : Type 1} → statement M
-write-i16-spec = tie.close (tie.spec put-i16-requires same-length returns)
+write-i16-spec = tie.close (tie.spec (λ c κs. search needs) (λ c. search needs) returns)

@@ -10,16 +10,10 @@ use Rattle.comparison.proofs.write_i32.Reads as reads
 use Rattle.comparison.proofs.write_i32.Lts as lts
 use Rattle.records.proofs.put_i32.Reads as put-i32-reads
 
-put-i32-requires : tie.Need-put-i32-requires
-put-i32-requires c κs = search needs
-
-same-length : tie.Need-same-length
-same-length c = search needs
-
 returns : tie.Need-returns
 returns c =
     let a = c .before .before .before .before .before .args in
     c .before .before .put-i32 .ensures ∙ ap (λ z. sets (a .s .now) (a .at) (bytes4± z)) (toZ-ofZ (c .before .before .before .before .before .fits .v))
 
 pub write-i32-spec : {M : Type 1} → statement M
-write-i32-spec = tie.close (tie.spec put-i32-requires same-length returns)
+write-i32-spec = tie.close (tie.spec (λ c κs. search needs) (λ c. search needs) returns)

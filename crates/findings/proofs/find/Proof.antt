@@ -21,21 +21,6 @@ abbrev μ-loop : tie.MeasureT-loop
 loop-holds : tie.Need-loop-holds Inv-loop μ-loop
 loop-holds c = (omega arith, none-passed (testOf (c .before .args .rule)) (now (c .before .args .s)))
 
-mul-at : tie.Need-mul-at Inv-loop μ-loop
-mul-at c = search needs
-
-add-end : tie.Need-add-end Inv-loop μ-loop
-add-end c = search needs
-
-sub-passes : tie.Need-sub-passes Inv-loop μ-loop
-sub-passes c = search needs
-
-part-passes-start : tie.Need-part-passes-start Inv-loop μ-loop
-part-passes-start c = search needs
-
-part-passes-end : tie.Need-part-passes-end Inv-loop μ-loop
-part-passes-end c = search needs
-
 passes-requires : tie.Need-passes-requires Inv-loop μ-loop
 passes-requires c κs =
     let s = now (c .before .before .before .before .args .s) in
@@ -49,12 +34,6 @@ returns c =
     let l = c .before .before .before .before .loop in
     let is = sym (c .before .passes .ensures ∙ ap (testOf (a .rule)) (part-is s (l .i))) in
     (c .before .before .before .loop-test .taken, l .inv .1, is ∙ not-true _ (c .if1 .taken))
-
-add-i : tie.Need-add-i Inv-loop μ-loop
-add-i c = search needs
-
-loop-less : tie.Need-loop-less Inv-loop μ-loop
-loop-less c = search needs
 
 loop-again : tie.Need-loop-again Inv-loop μ-loop
 loop-again c =
@@ -77,14 +56,14 @@ find-spec =
     Inv-loop
     μ-loop
     loop-holds
-    mul-at
-    add-end
-    sub-passes
-    part-passes-start
-    part-passes-end
+    (λ c. search needs)
+    (λ c. search needs)
+    (λ c. search needs)
+    (λ c. search needs)
+    (λ c. search needs)
     passes-requires
     returns
-    add-i
-    loop-less
+    (λ c. search needs)
+    (λ c. search needs)
     loop-again
     returns-2)

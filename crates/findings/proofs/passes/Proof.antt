@@ -8,45 +8,6 @@ use borrow.Author.Needs.{needs}
 use Rattle.findings.proofs.passes.Statement.{statement}
 use Rattle.findings.proofs.passes.Tie as tie
 
-byte-at-requires : tie.Need-byte-at-requires
-byte-at-requires c κs = search needs
-
-enum-told : tie.Need-enum-told
-enum-told c = search needs
-
-enum-told-2 : tie.Need-enum-told-2
-enum-told-2 c = search needs
-
-record-clean-requires : tie.Need-record-clean-requires
-record-clean-requires c κs = search needs
-
-enum-told-3 : tie.Need-enum-told-3
-enum-told-3 c = search needs
-
-in-code-requires : tie.Need-in-code-requires
-in-code-requires c κs = search needs
-
-enum-told-4 : tie.Need-enum-told-4
-enum-told-4 c = search needs
-
-ticks-requires : tie.Need-ticks-requires
-ticks-requires c κs = search needs
-
-enum-told-5 : tie.Need-enum-told-5
-enum-told-5 c = search needs
-
-enum-told-6 : tie.Need-enum-told-6
-enum-told-6 c = search needs
-
-record-clean-requires-2 : tie.Need-record-clean-requires-2
-record-clean-requires-2 c κs = search needs
-
-enum-told-7 : tie.Need-enum-told-7
-enum-told-7 c = search needs
-
-in-code-requires-2 : tie.Need-in-code-requires-2
-in-code-requires-2 c κs = search needs
-
 returns : tie.Need-returns
 returns c =
     let b = c .before .before in
@@ -92,19 +53,19 @@ pub passes-spec : {M : Type 1} → statement M
 passes-spec =
     tie.close
     (tie.spec
-    byte-at-requires
-    enum-told
-    enum-told-2
-    record-clean-requires
-    enum-told-3
-    in-code-requires
-    enum-told-4
-    ticks-requires
-    enum-told-5
-    enum-told-6
-    record-clean-requires-2
-    enum-told-7
-    in-code-requires-2
+    (λ c κs. search needs)
+    (λ c. search needs)
+    (λ c. search needs)
+    (λ c κs. search needs)
+    (λ c. search needs)
+    (λ c κs. search needs)
+    (λ c. search needs)
+    (λ c κs. search needs)
+    (λ c. search needs)
+    (λ c. search needs)
+    (λ c κs. search needs)
+    (λ c. search needs)
+    (λ c κs. search needs)
     returns
     returns-2
     returns-3

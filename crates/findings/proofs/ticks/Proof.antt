@@ -7,15 +7,6 @@ use borrow.Author.Needs.{needs}
 use Rattle.findings.proofs.ticks.Statement.{statement}
 use Rattle.findings.proofs.ticks.Tie as tie
 
-byte-at-requires : tie.Need-byte-at-requires
-byte-at-requires c κs = search needs
-
-trigger-of-requires : tie.Need-trigger-of-requires
-trigger-of-requires c κs = search needs
-
-ticking-requires : tie.Need-ticking-requires
-ticking-requires c κs = search needs
-
 returns : tie.Need-returns
 returns c =
     let kind = c .before .before .byte-at .ensures in
@@ -23,4 +14,4 @@ returns c =
     λ i. not (eqb (kind i) 3) || trigger i
 
 pub ticks-spec : {M : Type 1} → statement M
-ticks-spec = tie.close (tie.spec byte-at-requires trigger-of-requires ticking-requires returns)
+ticks-spec = tie.close (tie.spec (λ c κs. search needs) (λ c κs. search needs) (λ c κs. search needs) returns)

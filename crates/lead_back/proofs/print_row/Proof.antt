@@ -5,35 +5,20 @@ use borrow.Author.Needs.{needs}
 use Rattle.lead_back.proofs.print_row.Statement.{statement}
 use Rattle.lead_back.proofs.print_row.Tie as tie
 
-buffer-requires : tie.Need-buffer-requires
-buffer-requires c κs = search needs
-
-slice-aggregate-row-into : tie.Need-slice-aggregate-row-into
-slice-aggregate-row-into c = search needs
-
-row-into-requires : tie.Need-row-into-requires
-row-into-requires c κs = search needs
-
 array-share-prefix-text : tie.Need-array-share-prefix-text
 array-share-prefix-text c = search needs
 
 slice-aggregate-print : tie.Need-slice-aggregate-print
 slice-aggregate-print c = sym (length-take-le (c .before .before .row-into .result) _ (array-share-prefix-text (c .before)))
 
-print-requires : tie.Need-print-requires
-print-requires c κs = search needs
-
-returns : tie.Need-returns
-returns c = search needs
-
 pub print-row-spec : {M : Type 1} → statement M
 print-row-spec =
     tie.close
     (tie.spec
-    buffer-requires
-    slice-aggregate-row-into
-    row-into-requires
+    (λ c κs. search needs)
+    (λ c. search needs)
+    (λ c κs. search needs)
     array-share-prefix-text
     slice-aggregate-print
-    print-requires
-    returns)
+    (λ c κs. search needs)
+    (λ c. search needs))

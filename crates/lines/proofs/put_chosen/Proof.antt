@@ -10,24 +10,6 @@ use Rattle.records.proofs.Wrote.{wrote-near}
 use Rattle.lines.proofs.put_chosen.Statement.{statement}
 use Rattle.lines.proofs.put_chosen.Tie as tie
 
-enum-known-chosen : tie.Need-enum-known-chosen
-enum-known-chosen c = search needs
-
-cast-put-decimal : tie.Need-cast-put-decimal
-cast-put-decimal c = search needs
-
-put-decimal-requires : tie.Need-put-decimal-requires
-put-decimal-requires c κs = search needs
-
-enum-told : tie.Need-enum-told
-enum-told c = search needs
-
-put-char-requires : tie.Need-put-char-requires
-put-char-requires c κs = search needs
-
-same-length : tie.Need-same-length
-same-length c = search needs
-
 returns : tie.Need-returns
 returns c =
     let a = c .before .before .before .before .before .before .before .before .args in
@@ -35,9 +17,6 @@ returns c =
       subst (λ x. Wrote (a .out .now) (a .at) (chosen (chosenOf x)) (called .last .0) (called .result)) (sym (c .before .before .before .before .before .chosen .given .1)) (called .ensures),
       wrote-near 5 (called .ensures) (length-decimal 4 (c .before .before .before .before .before .chosen .given .0 .0) (omega arith) (omega arith)),
     )
-
-same-length-2 : tie.Need-same-length-2
-same-length-2 c = search needs
 
 returns-2 : tie.Need-returns-2
 returns-2 c =
@@ -51,12 +30,12 @@ pub put-chosen-spec : {M : Type 1} → statement M
 put-chosen-spec =
     tie.close
     (tie.spec
-    enum-known-chosen
-    cast-put-decimal
-    put-decimal-requires
-    enum-told
-    put-char-requires
-    same-length
+    (λ c. search needs)
+    (λ c. search needs)
+    (λ c κs. search needs)
+    (λ c. search needs)
+    (λ c κs. search needs)
+    (λ c. search needs)
     returns
-    same-length-2
+    (λ c. search needs)
     returns-2)

@@ -19,9 +19,6 @@ near-char c = omega (arith, near-field (c .before .before .before .before), wrot
 near-chosen : (c : tie.After-put-chosen) → c .put-chosen .result ≤ c .before .before .before .before .before .before .before .before .before .before .before .before .before .before .before .args .at + 27
 near-chosen c = omega (arith, near-char (c .before .before .before .before), c .put-chosen .ensures .1)
 
-put-decimal-requires : tie.Need-put-decimal-requires
-put-decimal-requires c κs = search needs
-
 put-field-requires : tie.Need-put-field-requires
 put-field-requires c κs = omega (arith, near-decimal (c .before .before .before))
 
@@ -33,9 +30,6 @@ put-chosen-requires c κs = omega (arith, near-char (c .before .before .before))
 
 put-field-requires-2 : tie.Need-put-field-requires-2
 put-field-requires-2 c κs = omega (arith, near-chosen (c .before .before .before))
-
-same-length : tie.Need-same-length
-same-length c = search needs
 
 returns : tie.Need-returns
 returns c =
@@ -50,10 +44,10 @@ pub put-head-spec : {M : Type 1} → statement M
 put-head-spec =
     tie.close
     (tie.spec
-    put-decimal-requires
+    (λ c κs. search needs)
     put-field-requires
     put-char-requires
     put-chosen-requires
     put-field-requires-2
-    same-length
+    (λ c. search needs)
     returns)

@@ -34,9 +34,6 @@ module _ (z : ℤ) (fits : SFits w16 z) where
       go (pos n) u = refl
       go (negsuc n) u = absurd (subst T u tt)
 
-put-char-requires : tie.Need-put-char-requires
-put-char-requires c κs = search needs
-
 cast-put-decimal : tie.Need-cast-put-decimal
 cast-put-decimal c =
     let s = c .before .before .before .before .before .before .before in
@@ -49,29 +46,17 @@ add-put-decimal c =
     let f : Fits w16 (ofZ w16 (s .args .z)) = fits-ofZ (s .fits .z) in
     rw (complement-kept w16 (s .args .z) refl (s .fits .z) 65535 refl (c .before .before .before .before .before .if1 .taken)) (omega arith)
 
-put-decimal-requires : tie.Need-put-decimal-requires
-put-decimal-requires c κs = search needs
-
 cast-put-decimal-2 : tie.Need-cast-put-decimal-2
 cast-put-decimal-2 c =
     let s = c .before .before .before in
     let f : Fits w16 (ofZ w16 (s .args .z)) = fits-ofZ (s .fits .z) in
     rw (number-kept w16 (s .args .z) refl (s .fits .z) (c .before .if1 .left)) (tt, omega arith)
 
-put-decimal-requires-2 : tie.Need-put-decimal-requires-2
-put-decimal-requires-2 c κs = search needs
-
-same-length : tie.Need-same-length
-same-length c = search needs
-
 returns : tie.Need-returns
 returns c =
     let s = c .before .before .before .before .before .before .before .before .before .before in
     let called = c .before .before .put-decimal in
     subst (λ text. Wrote (s .args .out .now) (s .args .at) text (called .last .0) (called .result)) (below-zero (s .args .z) (s .fits .z) (c .before .before .before .before .before .before .before .before .if1 .taken)) (wrote-then (c .before .before .before .before .before .before .put-char .ensures) (called .ensures))
-
-same-length-2 : tie.Need-same-length-2
-same-length-2 c = search needs
 
 returns-2 : tie.Need-returns-2
 returns-2 c =
@@ -83,13 +68,13 @@ pub put-signed-spec : {M : Type 1} → statement M
 put-signed-spec =
     tie.close
     (tie.spec
-    put-char-requires
+    (λ c κs. search needs)
     cast-put-decimal
     add-put-decimal
-    put-decimal-requires
+    (λ c κs. search needs)
     cast-put-decimal-2
-    put-decimal-requires-2
-    same-length
+    (λ c κs. search needs)
+    (λ c. search needs)
     returns
-    same-length-2
+    (λ c. search needs)
     returns-2)

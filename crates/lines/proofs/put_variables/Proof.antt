@@ -23,9 +23,6 @@ Inv-loop out₀ at variables count n next₀ v₀ out next v = (v ≤ n) × (nex
 abbrev μ-loop : tie.MeasureT-loop
 μ-loop out₀ at variables count n next₀ v₀ out next v = n - v
 
-shown-requires : tie.Need-shown-requires Inv-loop μ-loop
-shown-requires c κs = search needs
-
 loop-holds : tie.Need-loop-holds Inv-loop μ-loop
 loop-holds c = let a = c .before .before .args in (omega arith, omega arith, refl, rw variables-none (nothing-wrote (a .out .now) (a .at)))
 
@@ -83,7 +80,7 @@ put-variables-spec =
     (tie.spec
     Inv-loop
     μ-loop
-    shown-requires
+    (λ c κs. search needs)
     loop-holds
     put-char-requires
     mul-put-signed

@@ -21,15 +21,6 @@ low c = omega (arith, c .shared-slice-known2 .given (16 * c .before .before .bef
 loop-holds : tie.Need-loop-holds Inv-loop μ-loop
 loop-holds c = (omega arith, counted-none _)
 
-returns : tie.Need-returns Inv-loop μ-loop
-returns c = search needs
-
-mul-kind : tie.Need-mul-kind Inv-loop μ-loop
-mul-kind c = search needs
-
-shared-slice-read-kind : tie.Need-shared-slice-read-kind Inv-loop μ-loop
-shared-slice-read-kind c = search needs
-
 cast-kind : tie.Need-cast-kind Inv-loop μ-loop
 cast-kind c = omega (arith, low c)
 
@@ -43,9 +34,6 @@ print-record-requires : tie.Need-print-record-requires Inv-loop μ-loop
 print-record-requires c κs =
     let l = c .before .before .before .loop in
     (omega arith, l .inv .1 .number (byte (c .before .before .before .before .before .args .s .now) (16 * l .n)) (low c))
-
-returns-2 : tie.Need-returns-2 Inv-loop μ-loop
-returns-2 c = search needs
 
 mul-counts : tie.Need-mul-counts Inv-loop μ-loop
 mul-counts c = omega (arith, low (c .before .before))
@@ -62,19 +50,10 @@ add-counts c =
 array-write-counts : tie.Need-array-write-counts Inv-loop μ-loop
 array-write-counts c = low (c .before .before)
 
-add-n : tie.Need-add-n Inv-loop μ-loop
-add-n c = search needs
-
-loop-less : tie.Need-loop-less Inv-loop μ-loop
-loop-less c = search needs
-
 loop-again : tie.Need-loop-again Inv-loop μ-loop
 loop-again c =
     let l = c .before .before .before .before .before .loop in
     (omega arith, counted-more (c .before .before .before .before .before .before .before .args .s .now) (l .n) (l .counts) (omega arith) (low (c .before .before)) (l .inv .1))
-
-returns-3 : tie.Need-returns-3 Inv-loop μ-loop
-returns-3 c = search needs
 
 pub list-spec : {M : Type 1} → statement M
 list-spec =
@@ -83,19 +62,19 @@ list-spec =
     Inv-loop
     μ-loop
     loop-holds
-    returns
-    mul-kind
-    shared-slice-read-kind
+    (λ c. search needs)
+    (λ c. search needs)
+    (λ c. search needs)
     cast-kind
     mul-print-record
     array-read-print-record
     print-record-requires
-    returns-2
+    (λ c. search needs)
     mul-counts
     array-read-counts
     add-counts
     array-write-counts
-    add-n
-    loop-less
+    (λ c. search needs)
+    (λ c. search needs)
     loop-again
-    returns-3)
+    (λ c. search needs))

@@ -9,27 +9,6 @@ use Rattle.listing.specs.Listing.{lineText}
 use Rattle.listing.proofs.line_into.Statement.{statement}
 use Rattle.listing.proofs.line_into.Tie as tie
 
-mul-at : tie.Need-mul-at
-mul-at c = search needs
-
-add-end : tie.Need-add-end
-add-end c = search needs
-
-sub-put-line : tie.Need-sub-put-line
-sub-put-line c = search needs
-
-part-put-line-start : tie.Need-part-put-line-start
-part-put-line-start c = search needs
-
-part-put-line-end : tie.Need-part-put-line-end
-part-put-line-end c = search needs
-
-put-line-requires : tie.Need-put-line-requires
-put-line-requires c κs = search needs
-
-same-length : tie.Need-same-length
-same-length c = search needs
-
 returns : tie.Need-returns
 returns c =
     let a = c .before .before .before .before .before .before .before .args in
@@ -42,11 +21,11 @@ pub line-into-spec : {M : Type 1} → statement M
 line-into-spec =
     tie.close
     (tie.spec
-    mul-at
-    add-end
-    sub-put-line
-    part-put-line-start
-    part-put-line-end
-    put-line-requires
-    same-length
+    (λ c. search needs)
+    (λ c. search needs)
+    (λ c. search needs)
+    (λ c. search needs)
+    (λ c. search needs)
+    (λ c κs. search needs)
+    (λ c. search needs)
     returns)

@@ -9,7 +9,7 @@ use denote.Ref.{now}
 use lib.Dec.{ltb}
 use lib.ListN.{length, getD}
 use Rattle.model.specs.ChartSet.{readCharts}
-use Rattle.chart_files.proofs.PlacesRead.{length-transitions}
+use Rattle.chart_records.proofs.PlacesRead.{length-transitions}
 use Rattle.paths.specs.LedOf.{walkIn, nextPosition, nextCycles}
 use Rattle.paths.proofs.AlongFollowed.{Followed, at-most-one, followed-none, followed-more, followed-all, followed-broken, rows-many}
 use Rattle.paths.proofs.LedOfSteps.{in-turn}
@@ -31,12 +31,6 @@ loop-holds c =
     let a = c .before .before .before .args in
     followed-none (readCharts (now (a .s))) (now (a .path)) (walkIn (a .shape .charts) (c .start-locations .result) 1 0) (c .start-locations .ensures)
 
-mul-e : tie.Need-mul-e Inv-loop μ-loop
-mul-e c = search needs
-
-shared-slice-read-e : tie.Need-shared-slice-read-e Inv-loop μ-loop
-shared-slice-read-e c = search needs
-
 step-fits-requires : tie.Need-step-fits-requires Inv-loop μ-loop
 step-fits-requires c κs = c .before .before .before .before .before .before .before .pre
 
@@ -46,9 +40,6 @@ returns c =
     let l = c .before .before .before .before .before .loop in
     sym (followed-broken (readCharts (now (a .s))) (now (a .path)) (l .i) (walkIn (a .shape .charts) (l .locations) (l .position) (l .cycles)) (l .rows) (l .inv) (c .before .before .before .before .loop-test .taken)
     (sym (c .before .step-fits .ensures) ∙ not-true _ (c .if1 .taken)))
-
-rows-of-step-requires : tie.Need-rows-of-step-requires Inv-loop μ-loop
-rows-of-step-requires c κs = tt
 
 add-rows : tie.Need-add-rows Inv-loop μ-loop
 add-rows c =
@@ -112,11 +103,11 @@ count-rows-spec =
     μ-loop
     start-locations-requires
     loop-holds
-    mul-e
-    shared-slice-read-e
+    (λ c. search needs)
+    (λ c. search needs)
     step-fits-requires
     returns
-    rows-of-step-requires
+    (λ c κs. tt)
     add-rows
     follow-step-requires
     next-position-requires

@@ -7,7 +7,7 @@ use borrow.Author.Needs.{needs}
 use borrow.Author.Tests.{eq-eqb, ne-eqb}
 use denote.Ref.{now}
 use lib.ListN.{getD}
-use Rattle.chart_files.proofs.PlacesRead.{most-states, most-transitions}
+use Rattle.chart_records.proofs.PlacesRead.{most-states, most-transitions}
 use Rattle.paths.proofs.LedOfSteps.{edge-out, edge-other, edge-there, held, edge-room, few-automata}
 use Rattle.paths.proofs.edge_fits.Statement.{statement}
 use Rattle.paths.proofs.edge_fits.Tie as tie
@@ -47,17 +47,11 @@ cast-if2 c = omega (arith, few c)
 add-if2 : tie.Need-add-if2
 add-if2 c = omega (arith, few c)
 
-mul-result : tie.Need-mul-result
-mul-result c = search needs
-
 element-copy-out-result : tie.Need-element-copy-out-result
 element-copy-out-result c =
     let b = c .before .before .before .before in
     let a = b .args in
     edge-room (now (a .s)) (a .shape) (b .pre .0) (now (a .automata)) (now (a .sources)) (now (a .targets)) (b .pre .1) (a .e) (c .before .before .if1 .left)
-
-mul-result-2 : tie.Need-mul-result-2
-mul-result-2 c = search needs
 
 element-copy-out-result-2 : tie.Need-element-copy-out-result-2
 element-copy-out-result-2 c = few (c .before .before)
@@ -90,9 +84,9 @@ edge-fits-spec =
     cast-a
     cast-if2
     add-if2
-    mul-result
+    (λ c. search needs)
     element-copy-out-result
-    mul-result-2
+    (λ c. search needs)
     element-copy-out-result-2
     returns-2
     returns-3)

@@ -7,33 +7,21 @@ use denote.Ref.{now}
 use Rattle.model.specs.ChartSet.{readCharts}
 use Rattle.model.specs.AutomataTable.{edge}
 use Rattle.model.specs.Translation.{twin}
-use Rattle.chart_files.specs.Places.{homeAt, transitionAt}
+use Rattle.chart_records.specs.Places.{homeAt, transitionAt}
 use Rattle.chart_steps.proofs.Accepted.{source-known}
 use Rattle.paths.proofs.LedOfEdges.{home-known, low-automaton, low-source, low-target, high-automaton, high-source, high-target}
 use Rattle.paths.proofs.edge_of.Statement.{statement}
 use Rattle.paths.proofs.edge_of.Tie as tie
 use Rattle.paths.proofs.edge_of.Reads as reads
 use Rattle.paths.proofs.edge_of.Lts as lts
-use Rattle.chart_files.proofs.fields.home_of.Reads as home-of-reads
-use Rattle.chart_files.proofs.fields.source_of.Reads as source-of-reads
-use Rattle.chart_files.proofs.fields.target_of.Reads as target-of-reads
+use Rattle.chart_records.proofs.fields.home_of.Reads as home-of-reads
+use Rattle.chart_records.proofs.fields.source_of.Reads as source-of-reads
+use Rattle.chart_records.proofs.fields.target_of.Reads as target-of-reads
 
 -- src/lib.rt:54:13
-source-of-requires : tie.Need-source-of-requires
-source-of-requires c κs = search needs
-
 -- src/lib.rt:55:13
-target-of-requires : tie.Need-target-of-requires
-target-of-requires c κs = search needs
-
 -- src/lib.rt:56:13
-home-of-requires : tie.Need-home-of-requires
-home-of-requires c κs = search needs
-
 -- src/lib.rt:64:13
-home-of-requires-2 : tie.Need-home-of-requires-2
-home-of-requires-2 c κs = search needs
-
 returns : tie.Need-returns
 returns c =
     let b = c .before .before .before .before .before .before in
@@ -73,9 +61,9 @@ pub edge-of-spec : {M : Type 1} → statement M
 edge-of-spec =
     tie.close
     (tie.spec
-    source-of-requires
-    target-of-requires
-    home-of-requires
-    home-of-requires-2
+    (λ c κs. search needs)
+    (λ c κs. search needs)
+    (λ c κs. search needs)
+    (λ c κs. search needs)
     returns
     returns-2)

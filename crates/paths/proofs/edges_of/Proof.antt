@@ -10,9 +10,9 @@ use lib.Dec.{eqb}
 use lib.ListN.{length, getD, set, length-set}
 use lib.Seq.{getD-set-same, getD-set-other}
 use Rattle.model.specs.Limits.{mostEdges}
-use Rattle.chart_files.proofs.PlacesRead.{most-states, most-transitions}
-use Rattle.chart_files.specs.declared.Shape.{Shape}
-use Rattle.chart_files.specs.Shape.{IsShape}
+use Rattle.chart_records.proofs.PlacesRead.{most-states, most-transitions}
+use Rattle.chart_records.specs.declared.Shape.{Shape}
+use Rattle.chart_records.specs.Shape.{IsShape}
 use Rattle.paths.specs.declared.Edge.{Edge}
 use Rattle.paths.specs.LedOf.{IsEdge}
 use Rattle.paths.proofs.edges_of.Statement.{statement}

@@ -29,9 +29,6 @@ few c =
 cast-a : tie.Need-cast-a
 cast-a c = omega (arith, few c)
 
-mul-locations : tie.Need-mul-locations
-mul-locations c = search needs
-
 element-copy-out-locations : tie.Need-element-copy-out-locations
 element-copy-out-locations c = element-copy-out-a (c .before)
 
@@ -61,7 +58,7 @@ follow-step-spec =
     (tie.spec
     element-copy-out-a
     cast-a
-    mul-locations
+    (λ c. search needs)
     element-copy-out-locations
     mul-locations-2
     element-write-locations

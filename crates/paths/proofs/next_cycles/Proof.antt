@@ -7,9 +7,6 @@ use borrow.Author.Tests.{eq-eqb, ne-eqb}
 use Rattle.paths.proofs.next_cycles.Statement.{statement}
 use Rattle.paths.proofs.next_cycles.Tie as tie
 
-add-result : tie.Need-add-result
-add-result c = search needs
-
 returns : tie.Need-returns
 returns c = sym (ap (λ b. cond b (c .before .args .cycles + 1) (c .before .args .cycles)) (eq-eqb (c .before .args .e) 65535 (c .if1 .taken)))
 
@@ -17,4 +14,4 @@ returns-2 : tie.Need-returns-2
 returns-2 c = sym (ap (λ b. cond b (c .before .args .cycles + 1) (c .before .args .cycles)) (ne-eqb (c .before .args .e) 65535 (c .if1 .left)))
 
 pub next-cycles-spec : {M : Type 1} → statement M
-next-cycles-spec = tie.close (tie.spec add-result returns returns-2)
+next-cycles-spec = tie.close (tie.spec (λ c. search needs) returns returns-2)

@@ -9,18 +9,6 @@ use Rattle.paths.proofs.LedOf.{led-broken, led-many, led-short, led-roo
 use Rattle.paths.proofs.path_back.Statement.{statement}
 use Rattle.paths.proofs.path_back.Tie as tie
 
-edges-of-requires : tie.Need-edges-of-requires
-edges-of-requires c κs = search needs
-
-count-rows-requires : tie.Need-count-rows-requires
-count-rows-requires c κs = search needs
-
-enum-told : tie.Need-enum-told
-enum-told c = search needs
-
-enum-known-n : tie.Need-enum-known-n
-enum-known-n c = search needs
-
 returns : tie.Need-returns
 returns c =
     let b = c .before .before .before .before .before .before .before .before .before .before .before .before .before .before .before in
@@ -44,9 +32,6 @@ returns-2 c =
     let a = c .before .before .before .before .before .before .before .before .before .before .before .before .before .args in
     sym (led-broken (readCharts (now (a .s))) (now (a .path)) (now (a .rows)) (sym (ap countOf (c .enum-told .given .1)) ∙ c .before .before .count-rows .ensures))
 
-same-length : tie.Need-same-length
-same-length c = search needs
-
 returns-3 : tie.Need-returns-3
 returns-3 c =
     let b = c .before .before .before .before .before .before .before .before .before .before .before .before .before .before .before .before .before .before .before in
@@ -61,12 +46,12 @@ pub path-back-spec : {M : Type 1} → statement M
 path-back-spec =
     tie.close
     (tie.spec
-    edges-of-requires
-    count-rows-requires
-    enum-told
-    enum-known-n
+    (λ c κs. search needs)
+    (λ c κs. search needs)
+    (λ c. search needs)
+    (λ c. search needs)
     returns
     put-rows-requires
     returns-2
-    same-length
+    (λ c. search needs)
     returns-3)

@@ -9,7 +9,7 @@ use lib.Dec.{eqb}
 use lib.ListN.{length, length-set, set}
 use Rattle.model.specs.ChartSet.{readCharts}
 use Rattle.model.specs.PathBack.{edgeFits, stepFits}
-use Rattle.chart_files.proofs.PlacesRead.{most-charts, most-states, most-transitions}
+use Rattle.chart_records.proofs.PlacesRead.{most-charts, most-states, most-transitions}
 use borrow.Author.Needs.{needs}
 use Rattle.paths.proofs.put_row.Statement.{statement}
 use Rattle.paths.proofs.put_row.Tie as tie
@@ -17,45 +17,18 @@ use Rattle.paths.proofs.put_row.Reads as reads
 use Rattle.paths.proofs.put_row.Lts as lts
 
 -- src/lib.rt:171:10
-mul-rows : tie.Need-mul-rows
-mul-rows c = search needs
-
 -- src/lib.rt:171:5
-mul-rows-2 : tie.Need-mul-rows-2
-mul-rows-2 c = search needs
-
 -- src/lib.rt:171:5
-slice-write-rows : tie.Need-slice-write-rows
-slice-write-rows c = search needs
-
 -- src/lib.rt:172:10
-mul-rows-3 : tie.Need-mul-rows-3
-mul-rows-3 c = search needs
-
 -- src/lib.rt:172:10
-add-rows : tie.Need-add-rows
-add-rows c = search needs
-
 -- src/lib.rt:172:5
-mul-rows-4 : tie.Need-mul-rows-4
-mul-rows-4 c = search needs
-
 -- src/lib.rt:172:5
 slice-write-rows-2 : tie.Need-slice-write-rows-2
 slice-write-rows-2 c = omega (arith, length-set (c .args .rows .now) (3 * c .args .k) (c .args .cycle), c .pre)
 
 -- src/lib.rt:173:10
-mul-rows-5 : tie.Need-mul-rows-5
-mul-rows-5 c = search needs
-
 -- src/lib.rt:173:10
-add-rows-2 : tie.Need-add-rows-2
-add-rows-2 c = search needs
-
 -- src/lib.rt:173:5
-mul-rows-6 : tie.Need-mul-rows-6
-mul-rows-6 c = search needs
-
 -- src/lib.rt:173:5
 slice-write-rows-3 : tie.Need-slice-write-rows-3
 slice-write-rows-3 c =
@@ -63,9 +36,6 @@ slice-write-rows-3 c =
     omega (arith, length-set l (3 * c .args .k + 1) (c .args .chart), length-set (c .args .rows .now) (3 * c .args .k) (c .args .cycle), c .pre)
 
 -- src/lib.rt:167:1
-same-length : tie.Need-same-length
-same-length c = search needs
-
 -- src/lib.rt:167:1
 returns : tie.Need-returns
 returns c =
@@ -79,16 +49,16 @@ pub put-row-spec : {M : Type 1} → statement M
 put-row-spec =
     tie.close
     (tie.spec
-    mul-rows
-    mul-rows-2
-    slice-write-rows
-    mul-rows-3
-    add-rows
-    mul-rows-4
+    (λ c. search needs)
+    (λ c. search needs)
+    (λ c. search needs)
+    (λ c. search needs)
+    (λ c. search needs)
+    (λ c. search needs)
     slice-write-rows-2
-    mul-rows-5
-    add-rows-2
-    mul-rows-6
+    (λ c. search needs)
+    (λ c. search needs)
+    (λ c. search needs)
     slice-write-rows-3
-    same-length
+    (λ c. search needs)
     returns)

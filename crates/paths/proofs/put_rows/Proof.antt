@@ -12,9 +12,9 @@ use lib.ListN.{length, getD, take}
 use lib.Seq.{sets, length-sets, take-all}
 use Rattle.model.specs.ChartSet.{readCharts}
 use Rattle.model.specs.PathBack.{walkStart, rowWords}
-use Rattle.chart_files.specs.declared.Shape.{Shape}
-use Rattle.chart_steps.specs.Accepted.{Accepted}
-use Rattle.chart_files.proofs.PlacesRead.{length-transitions, most-transitions}
+use Rattle.chart_records.specs.declared.Shape.{Shape}
+use Rattle.chart_records.specs.Accepted.{Accepted}
+use Rattle.chart_records.proofs.PlacesRead.{length-transitions, most-transitions}
 use Rattle.paths.specs.LedOf.{stepWords, nextPosition, nextCycles}
 use Rattle.paths.specs.Along.{allFit, walkAlong, rowsAlong}
 use Rattle.paths.proofs.AlongFollowed.{Followed, at-most-one, followed-none, followed-more, followed-fits, rows-many, words-are, room-next, written, written-none, written-more, walk-next}
@@ -39,12 +39,6 @@ loop-holds c =
     let cs = readCharts (now (a .s)) in
     (followed-none cs (now (a .path)) (walkStart cs) refl, refl, refl, sym (written-none cs (now (a .path)) (now (a .rows))))
 
-mul-e : tie.Need-mul-e Inv-loop μ-loop
-mul-e c = search needs
-
-shared-slice-read-e : tie.Need-shared-slice-read-e Inv-loop μ-loop
-shared-slice-read-e c = search needs
-
 put-step-requires : tie.Need-put-step-requires Inv-loop μ-loop
 put-step-requires c κs =
     let b = c .before .before .before .before .before .before .before in
@@ -62,9 +56,6 @@ put-step-requires c κs =
           (omega (arith, b .pre .1 .room, ap length (l .inv .3), length-sets (now (a .rows)) 0 (rowWords (rowsAlong cs (take (l .i) (now (a .path))) (walkStart cs))))),
       (let p = fits-edge s (a .shape) (b .pre .0) e w (λ z. let y : e ≡ 65535 = z in omega (arith, h, most-transitions s (a .shape) (b .pre .0 .shape))) fits .1 in omega (arith, l .inv .1)),
     )
-
-rows-of-step-requires : tie.Need-rows-of-step-requires Inv-loop μ-loop
-rows-of-step-requires c κs = tt
 
 add-k : tie.Need-add-k Inv-loop μ-loop
 add-k c =
@@ -147,10 +138,10 @@ put-rows-spec =
     Inv-loop
     μ-loop
     loop-holds
-    mul-e
-    shared-slice-read-e
+    (λ c. search needs)
+    (λ c. search needs)
     put-step-requires
-    rows-of-step-requires
+    (λ c κs. tt)
     add-k
     next-position-requires
     next-cycles-requires

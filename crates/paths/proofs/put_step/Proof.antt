@@ -21,9 +21,6 @@ sub-put-row c = c .before .before .before .before .pre (c .before .if1 .left) .1
 put-row-requires : tie.Need-put-row-requires
 put-row-requires c κs = c .before .before .before .before .pre (c .before .if1 .left) .0
 
-same-length : tie.Need-same-length
-same-length c = search needs
-
 returns-2 : tie.Need-returns-2
 returns-2 c =
     let a = c .before .before .before .before .before .before .before .args in
@@ -31,4 +28,4 @@ returns-2 c =
     ∙ ap (λ b. sets (now (a .rows)) (3 * a .k) (cond b (a .cycles ∷ (a .position - 1) ∷ a .e ∷ []) [])) (sym (lt-ltb (a .e) (a .shape .transitions) (c .before .before .before .before .if1 .left)))
 
 pub put-step-spec : {M : Type 1} → statement M
-put-step-spec = tie.close (tie.spec returns sub-put-row put-row-requires same-length returns-2)
+put-step-spec = tie.close (tie.spec returns sub-put-row put-row-requires (λ c. search needs) returns-2)

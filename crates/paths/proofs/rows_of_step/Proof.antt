@@ -9,7 +9,7 @@ use lib.Dec.{eqb}
 use lib.ListN.{length, getD, take}
 use Rattle.model.specs.ChartSet.{readCharts}
 use Rattle.model.specs.PathBack.{edgeFits, stepFits}
-use Rattle.chart_files.proofs.PlacesRead.{most-charts, most-states, most-transitions}
+use Rattle.chart_records.proofs.PlacesRead.{most-charts, most-states, most-transitions}
 use Rattle.paths.proofs.rows_of_step.Statement.{statement}
 use Rattle.paths.proofs.rows_of_step.Tie as tie
 use Rattle.paths.proofs.rows_of_step.Reads as reads

@@ -5,13 +5,10 @@ use denote.Ref.{now}
 use lib.ListN.{length, take, replicate}
 use lib.Seq.{take-at}
 use Rattle.model.specs.ChartSet.{readCharts}
-use Rattle.chart_files.proofs.PlacesRead.{length-initial}
+use Rattle.chart_records.proofs.PlacesRead.{length-initial}
 use borrow.Author.Needs.{needs}
 use Rattle.paths.proofs.start_locations.Statement.{statement}
 use Rattle.paths.proofs.start_locations.Tie as tie
-
-start-requires : tie.Need-start-requires
-start-requires c κs = search needs
 
 returns : tie.Need-returns
 returns c =
@@ -23,4 +20,4 @@ returns c =
     ∙ (λ i. record { locations = take-at (readCharts s .initial) (replicate (8 - length (readCharts s .initial)) 0) (sh .charts) (length-initial s sh is) i; position = 1; cycles = 0 })
 
 pub start-locations-spec : {M : Type 1} → statement M
-start-locations-spec = tie.close (tie.spec start-requires returns)
+start-locations-spec = tie.close (tie.spec (λ c κs. search needs) returns)

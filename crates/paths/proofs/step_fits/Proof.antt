@@ -13,15 +13,6 @@ returns c =
     let a = b .args in
     sym (step-late (now (a .s)) (a .shape) (b .pre .0) (a .e) (walkIn (a .shape .charts) (now (a .locations)) (a .position) (a .cycles)) (c .if1 .taken))
 
-cast-result : tie.Need-cast-result
-cast-result c = search needs
-
-add-result : tie.Need-add-result
-add-result c = search needs
-
-edge-fits-requires : tie.Need-edge-fits-requires
-edge-fits-requires c κs = search needs
-
 returns-2 : tie.Need-returns-2
 returns-2 c =
     let b = c .before .before .before .before in
@@ -36,4 +27,4 @@ returns-3 c =
     ∙ sym (step-edge (now (a .s)) (a .shape) (b .pre .0) (a .e) (walkIn (a .shape .charts) (now (a .locations)) (a .position) (a .cycles)) (c .before .before .if1 .left) (c .before .if2 .left))
 
 pub step-fits-spec : {M : Type 1} → statement M
-step-fits-spec = tie.close (tie.spec returns cast-result add-result edge-fits-requires returns-2 returns-3)
+step-fits-spec = tie.close (tie.spec returns (λ c. search needs) (λ c. search needs) (λ c κs. search needs) returns-2 returns-3)

@@ -8,14 +8,8 @@ use Rattle.records.specs.Bytes.{signed}
 use Rattle.records.proofs.i32_at.Statement.{statement}
 use Rattle.records.proofs.i32_at.Tie as tie
 
-u32-at-requires : tie.Need-u32-at-requires
-u32-at-requires c κs = search needs
-
-signed32-requires : tie.Need-signed32-requires
-signed32-requires c κs = search needs
-
 returns : tie.Need-returns
 returns c = toZ-ofZ {w = w32} (record { sfits = c .signed32 .ok }) ∙ c .signed32 .ensures ∙ ap (signed (2 ^ 31)) (c .before .u32-at .ensures)
 
 pub i32-at-spec : {M : Type 1} → statement M
-i32-at-spec = tie.close (tie.spec u32-at-requires signed32-requires returns)
+i32-at-spec = tie.close (tie.spec (λ c κs. search needs) (λ c κs. search needs) returns)

@@ -8,14 +8,8 @@ use Rattle.records.specs.Bytes.{signed}
 use Rattle.records.proofs.i32_within.Statement.{statement}
 use Rattle.records.proofs.i32_within.Tie as tie
 
-u32-within-requires : tie.Need-u32-within-requires
-u32-within-requires c κs = search needs
-
-signed32-requires : tie.Need-signed32-requires
-signed32-requires c κs = search needs
-
 returns : tie.Need-returns
 returns c = toZ-ofZ {w = w32} (record { sfits = c .signed32 .ok }) ∙ c .signed32 .ensures ∙ ap (signed (2 ^ 31)) (c .before .u32-within .ensures)
 
 pub i32-within-spec : {M : Type 1} → statement M
-i32-within-spec = tie.close (tie.spec u32-within-requires signed32-requires returns)
+i32-within-spec = tie.close (tie.spec (λ c κs. search needs) (λ c κs. search needs) returns)

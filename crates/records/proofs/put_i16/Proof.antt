@@ -8,19 +8,10 @@ use Rattle.records.specs.Bytes.{bytes2, unsigned}
 use Rattle.records.proofs.put_i16.Statement.{statement}
 use Rattle.records.proofs.put_i16.Tie as tie
 
-unsigned16-requires : tie.Need-unsigned16-requires
-unsigned16-requires c κs = search needs
-
-put-u16-requires : tie.Need-put-u16-requires
-put-u16-requires c κs = search needs
-
-same-length : tie.Need-same-length
-same-length c = search needs
-
 returns : tie.Need-returns
 returns c =
     let a = c .before .before .before .before .before .before .args in
     c .before .before .put-u16 .ensures ∙ ap (λ n. sets (a .s .now) (a .at) (bytes2 n)) (c .before .before .before .unsigned16 .ensures ∙ ap (unsigned (2 ^ 15)) (toZ-ofZ (c .before .before .before .before .before .before .fits .v)))
 
 pub put-i16-spec : {M : Type 1} → statement M
-put-i16-spec = tie.close (tie.spec unsigned16-requires put-u16-requires same-length returns)
+put-i16-spec = tie.close (tie.spec (λ c κs. search needs) (λ c κs. search needs) (λ c. search needs) returns)

@@ -8,19 +8,10 @@ use Rattle.records.specs.Bytes.{bytes4, unsigned}
 use Rattle.records.proofs.put_i32.Statement.{statement}
 use Rattle.records.proofs.put_i32.Tie as tie
 
-unsigned32-requires : tie.Need-unsigned32-requires
-unsigned32-requires c κs = search needs
-
-put-u32-requires : tie.Need-put-u32-requires
-put-u32-requires c κs = search needs
-
-same-length : tie.Need-same-length
-same-length c = search needs
-
 returns : tie.Need-returns
 returns c =
     let a = c .before .before .before .before .before .before .args in
     c .before .before .put-u32 .ensures ∙ ap (λ n. sets (a .s .now) (a .at) (bytes4 n)) (c .before .before .before .unsigned32 .ensures ∙ ap (unsigned (2 ^ 31)) (toZ-ofZ (c .before .before .before .before .before .before .fits .v)))
 
 pub put-i32-spec : {M : Type 1} → statement M
-put-i32-spec = tie.close (tie.spec unsigned32-requires put-u32-requires same-length returns)
+put-i32-spec = tie.close (tie.spec (λ c κs. search needs) (λ c κs. search needs) (λ c. search needs) returns)

@@ -2,22 +2,10 @@
 use mathlib.Core.Path.{refl}
 use borrow.Author.Needs.{needs}
 use denote.Ref.{now}
-use Rattle.chart_steps.specs.Accepted.{Accepted}
-use Rattle.chart_steps.proofs.AcceptedByCheck.{accepted-of}
+use Rattle.chart_records.specs.Accepted.{Accepted}
+use Rattle.chart_files.proofs.AcceptedByCheck.{accepted-of}
 use Rattle.replay.proofs.play_file.Statement.{statement}
 use Rattle.replay.proofs.play_file.Tie as tie
-
-check-requires : tie.Need-check-requires
-check-requires c κs = search needs
-
-enum-known-w : tie.Need-enum-known-w
-enum-known-w c = search needs
-
-refuse-set-requires : tie.Need-refuse-set-requires
-refuse-set-requires c κs = search needs
-
-enum-known-shape : tie.Need-enum-known-shape
-enum-known-shape c = search needs
 
 accepted : (c : tie.After-known-told2) → Accepted (now (c .before .before .before .before .before .args .s)) (c .before .shape .given .0 .0)
 accepted c =
@@ -36,22 +24,16 @@ play-requires c κs =
     let r = a .before .before .before in
     record { accepted = accepted (r .before .before .before); has-rows = r .fill-rows .ensures .0; has-ends = r .fill-rows .ensures .1; has-actions = a .fill-actions .ensures .0 }
 
-returns : tie.Need-returns
-returns c = search needs
-
-returns-2 : tie.Need-returns-2
-returns-2 c = search needs
-
 pub play-file-spec : {M : Type 1} → statement M
 play-file-spec =
     tie.close
     (tie.spec
-    check-requires
-    enum-known-w
-    refuse-set-requires
-    enum-known-shape
+    (λ c κs. search needs)
+    (λ c. search needs)
+    (λ c κs. search needs)
+    (λ c. search needs)
     fill-rows-requires
     fill-actions-requires
     play-requires
-    returns
-    returns-2)
+    (λ c. search needs)
+    (λ c. search needs))

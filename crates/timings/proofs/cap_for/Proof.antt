@@ -9,9 +9,6 @@ use Rattle.timings.proofs.GrowthBounds.{top-most}
 use Rattle.timings.proofs.cap_for.Statement.{statement}
 use Rattle.timings.proofs.cap_for.Tie as tie
 
-top-requires : tie.Need-top-requires
-top-requires c κs = search needs
-
 cast-result : tie.Need-cast-result
 cast-result c =
     let a = c .before .before .args in
@@ -23,8 +20,5 @@ returns c =
     let a = c .before .before .args in
     c .top .ensures ∙ ap (λ b. top (timingIf b) (a .ticks)) (c .before .if1 .taken) ∙ ap (λ b. capFor (timingIf b) (a .ticks)) (sym (c .before .if1 .taken))
 
-returns-2 : tie.Need-returns-2
-returns-2 c = search needs
-
 pub cap-for-spec : {M : Type 1} → statement M
-cap-for-spec = tie.close (tie.spec top-requires cast-result returns returns-2)
+cap-for-spec = tie.close (tie.spec (λ c κs. search needs) cast-result returns (λ c. search needs))

@@ -4,11 +4,8 @@ use borrow.Author.Needs.{needs}
 use Rattle.timings.proofs.every_holds.Statement.{statement}
 use Rattle.timings.proofs.every_holds.Tie as tie
 
-rem-result : tie.Need-rem-result
-rem-result c = search needs
-
 returns : tie.Need-returns
 returns c = refl
 
 pub every-holds-spec : {M : Type 1} → statement M
-every-holds-spec = tie.close (tie.spec rem-result returns)
+every-holds-spec = tie.close (tie.spec (λ c. search needs) returns)

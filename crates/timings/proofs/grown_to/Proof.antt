@@ -13,9 +13,6 @@ returns c =
     let a = c .before .args in
     sym (ap (λ b. cond b 1 (min (a .x + 1) (a .cap))) (eq-eqb (a .x) (a .turn) (c .if1 .taken)))
 
-add-result : tie.Need-add-result
-add-result c = search needs
-
 returns-2 : tie.Need-returns-2
 returns-2 c =
     let a = c .before .before .args in
@@ -29,4 +26,4 @@ returns-3 c =
     e ∙ sym (ap (λ b. cond b 1 (min (a .x + 1) (a .cap))) (ne-eqb (a .x) (a .turn) (c .before .if1 .left)))
 
 pub grown-to-spec : {M : Type 1} → statement M
-grown-to-spec = tie.close (tie.spec returns add-result returns-2 returns-3)
+grown-to-spec = tie.close (tie.spec returns (λ c. search needs) returns-2 returns-3)

@@ -4,11 +4,8 @@ use borrow.Author.Needs.{needs}
 use Rattle.timings.proofs.ticks.Statement.{statement}
 use Rattle.timings.proofs.ticks.Tie as tie
 
-add-result : tie.Need-add-result
-add-result c = search needs
-
 returns : tie.Need-returns
 returns c = refl
 
 pub ticks-spec : {M : Type 1} → statement M
-ticks-spec = tie.close (tie.spec add-result returns)
+ticks-spec = tie.close (tie.spec (λ c. search needs) returns)

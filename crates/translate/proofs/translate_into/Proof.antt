@@ -8,18 +8,6 @@ use borrow.Author.Needs.{needs}
 use Rattle.translate.proofs.translate_into.Statement.{statement}
 use Rattle.translate.proofs.translate_into.Tie as tie
 
-translate-requires : tie.Need-translate-requires
-translate-requires c κs = search needs
-
-enum-known-w : tie.Need-enum-known-w
-enum-known-w c = search needs
-
-refuse-set-requires : tie.Need-refuse-set-requires
-refuse-set-requires c κs = search needs
-
-enum-known-n : tie.Need-enum-known-n
-enum-known-n c = search needs
-
 slice-reshare-prefix-write-twin : tie.Need-slice-reshare-prefix-write-twin
 slice-reshare-prefix-write-twin c =
     let call = c .before .before .before .before .before .translate in
@@ -37,30 +25,18 @@ write-twin-requires c κs =
     let h = length-take-le n (call .last .1 .0) (slice-reshare-prefix-write-twin (c .before)) in
     omega (arith, h, slice-reshare-prefix-write-twin (c .before), call .kept .1 .0)
 
-same-length : tie.Need-same-length
-same-length c = search needs
-
-returns : tie.Need-returns
-returns c = search needs
-
-same-length-2 : tie.Need-same-length-2
-same-length-2 c = search needs
-
-returns-2 : tie.Need-returns-2
-returns-2 c = search needs
-
 pub translate-into-spec : {M : Type 1} → statement M
 translate-into-spec =
     tie.close
     (tie.spec
-    translate-requires
-    enum-known-w
-    refuse-set-requires
-    enum-known-n
+    (λ c κs. search needs)
+    (λ c. search needs)
+    (λ c κs. search needs)
+    (λ c. search needs)
     slice-reshare-prefix-write-twin
     slice-aggregate-write-twin
     write-twin-requires
-    same-length
-    returns
-    same-length-2
-    returns-2)
+    (λ c. search needs)
+    (λ c. search needs)
+    (λ c. search needs)
+    (λ c. search needs))

@@ -29,9 +29,6 @@ put-resets-requires c κs =
     let entry = c .before .before .before .before .before .before .before .before .before .before .before .before .before .before .before .before .before in
     (entry .pre .0, entry .pre .1, c .before .before .before .fill-leaving .ensures .0, omega (arith, entry .pre .2, c .before .before .before .before .before .before .before .before .put-updates .ensures .near))
 
-same-length : tie.Need-same-length
-same-length c = search needs
-
 returns : tie.Need-returns
 returns c =
     let entry = c .before .before .before .before .before .before .before .before .before .before .before .before .before .before .before .before .before .before .before .before in
@@ -47,5 +44,5 @@ put-effects-spec =
     put-updates-requires
     fill-leaving-requires
     put-resets-requires
-    same-length
+    (λ c. search needs)
     returns)

@@ -16,28 +16,10 @@ use Rattle.translation.proofs.TextsFile.{byEdge-text}
 use Rattle.translation.proofs.put_tests.Statement.{statement}
 use Rattle.translation.proofs.put_tests.Tie as tie
 
-fill-rows-requires : tie.Need-fill-rows-requires
-fill-rows-requires c κs = search needs
-
-put-literals-requires : tie.Need-put-literals-requires
-put-literals-requires c κs = search needs
-
-put-idle-literals-requires : tie.Need-put-idle-literals-requires
-put-idle-literals-requires c κs = search needs
-
-put-clocks-requires : tie.Need-put-clocks-requires
-put-clocks-requires c κs = search needs
-
-put-variables-requires : tie.Need-put-variables-requires
-put-variables-requires c κs = search needs
-
 put-nodes-requires : tie.Need-put-nodes-requires
 put-nodes-requires c κs =
     let entry = c .before .before .before .before .before .before .before .before .before .before .before .before .before .before .before .before .before .before .before .before .before .before .before .before .before in
     (entry .pre .0, omega (arith, entry .pre .2, c .before .before .before .before .before .before .before .before .before .before .before .before .before .before .before .before .before .put-literals .ensures .near, c .before .before .before .before .before .before .before .before .before .before .before .put-idle-literals .ensures .near, c .before .before .before .before .before .before .before .put-clocks .ensures .near, c .before .before .before .put-variables .ensures .near))
-
-same-length : tie.Need-same-length
-same-length c = search needs
 
 returns : tie.Need-returns
 returns c =
@@ -56,11 +38,11 @@ pub put-tests-spec : {M : Type 1} → statement M
 put-tests-spec =
     tie.close
     (tie.spec
-    fill-rows-requires
-    put-literals-requires
-    put-idle-literals-requires
-    put-clocks-requires
-    put-variables-requires
+    (λ c κs. search needs)
+    (λ c κs. search needs)
+    (λ c κs. search needs)
+    (λ c κs. search needs)
+    (λ c κs. search needs)
     put-nodes-requires
-    same-length
+    (λ c. search needs)
     returns)

@@ -27,9 +27,6 @@ put-effects-requires c κs =
     let entry = c .before .before .before .before .before .before .before .before .before .before .before .before .before .before .before in
     (entry .pre, c .before .before .before .before .before .before .before .before .before .before .before .fill-clocks .ensures, omega (arith, c .before .before .before .before .before .before .before .before .before .put-places .ensures .near, c .before .before .before .before .put-tests .ensures .near))
 
-same-length : tie.Need-same-length
-same-length c = search needs
-
 returns : tie.Need-returns
 returns c =
     let entry = c .before .before .before .before .before .before .before .before .before .before .before .before .before .before .before .before .before .before in
@@ -44,5 +41,5 @@ put-twin-spec =
     put-places-requires
     put-tests-requires
     put-effects-requires
-    same-length
+    (λ c. search needs)
     returns)

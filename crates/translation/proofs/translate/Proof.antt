@@ -15,21 +15,12 @@ use Rattle.translation.proofs.TextsFile.{too-short, long-enough, from-s
 use Rattle.translation.proofs.translate.Statement.{statement}
 use Rattle.translation.proofs.translate.Tie as tie
 
-has-room-requires : tie.Need-has-room-requires
-has-room-requires c κs = search needs
-
 returns : tie.Need-returns
 returns c =
     let x = c .before .before .before .before .args in
     let text = twinBytes (now (x .s)) in
     let h : length (now (x .out)) < length text = nleb→lt (length text) (length (now (x .out))) (not-false (sym (c .before .has-room .ensures) ∙ tests.not-true _ (c .if1 .taken))) in
     sym (ap (settled (now (x .out))) (too-short text (now (x .out)) h))
-
-put-twin-requires : tie.Need-put-twin-requires
-put-twin-requires c κs = search needs
-
-same-length : tie.Need-same-length
-same-length c = search needs
 
 returns-2 : tie.Need-returns-2
 returns-2 c =
@@ -42,4 +33,4 @@ returns-2 c =
     ∙ sym (ap (settled (now (x .out))) (long-enough text (now (x .out)) h))
 
 pub translate-spec : {M : Type 1} → statement M
-translate-spec = tie.close (tie.spec has-room-requires returns put-twin-requires same-length returns-2)
+translate-spec = tie.close (tie.spec (λ c κs. search needs) returns (λ c κs. search needs) (λ c. search needs) returns-2)

@@ -4,7 +4,7 @@ use Rattle.twins.proofs.Matched.{corresponding-alike, next-alike, then-
 use Rattle.alike.specs.Alike.{callFor}
 use Rattle.twins.specs.Compared.{alike}
 use Rattle.automata.specs.RunOf as automata-run
-use Rattle.charts.specs.RunOf as charts-run
+use Rattle.chart_runs.specs.RunOf as charts-run
 use Rattle.prelude.proofs.Bools.{clash, of-true}
 use Rattle.model.specs.Calls.{chartSets, automataTables}
 use Rattle.model.specs.Correspondence.{MoveAlike}
@@ -56,9 +56,6 @@ loop-holds c =
       leads-first chartSets (now (b .args .s)) (now (b .args .kinds)) (now (b .args .masks)) (c .before .before .before .start .ensures),
       leads-first automataTables (now (b .args .t)) (now (b .args .kinds)) (now (b .args .masks)) (c .before .before .start2 .ensures),
     )
-
-is-turn-requires : tie.Need-is-turn-requires Inv-loop μ-loop
-is-turn-requires c κs = tt
 
 mul-events : tie.Need-mul-events Inv-loop μ-loop
 mul-events c =
@@ -136,7 +133,7 @@ calls-compared-spec =
     runs-alike-requires
     returns
     loop-holds
-    is-turn-requires
+    (λ c κs. tt)
     mul-events
     shared-slice-read-events
     call-both-requires

@@ -13,7 +13,7 @@ use Rattle.machines.specs.Playing.{playing, playCall}
 use Rattle.model.specs.Calls.{chartSets, automataTables}
 use Rattle.twins.specs.Compared.{alike}
 use Rattle.twins.proofs.AlikeBoth.{unrefused}
-use Rattle.charts.specs.RunOf as charts-run
+use Rattle.chart_runs.specs.RunOf as charts-run
 use Rattle.automata.specs.RunOf as automata-run
 use lib.Dec.{eqb}
 use lib.ListN.{length}
@@ -24,24 +24,6 @@ use mathlib.Core.Path.{_≡_, ap, _∙_}
 use borrow.Author.Needs.{needs}
 use Rattle.twins.proofs.plays_compared.Statement.{statement}
 use Rattle.twins.proofs.plays_compared.Tie as tie
-
-start-requires : tie.Need-start-requires
-start-requires c κs = search needs
-
-start-requires-2 : tie.Need-start-requires-2
-start-requires-2 c κs = search needs
-
-play-in-place-requires : tie.Need-play-in-place-requires
-play-in-place-requires c κs = search needs
-
-play-in-place-requires-2 : tie.Need-play-in-place-requires-2
-play-in-place-requires-2 c κs = search needs
-
-counts-alike-requires : tie.Need-counts-alike-requires
-counts-alike-requires c κs = search needs
-
-runs-alike-requires : tie.Need-runs-alike-requires
-runs-alike-requires c κs = search needs
 
 returns : tie.Need-returns
 returns c =
@@ -86,11 +68,11 @@ pub plays-compared-spec : {M : Type 1} → statement M
 plays-compared-spec =
     tie.close
     (tie.spec
-    start-requires
-    start-requires-2
-    play-in-place-requires
-    play-in-place-requires-2
-    counts-alike-requires
-    runs-alike-requires
+    (λ c κs. search needs)
+    (λ c κs. search needs)
+    (λ c κs. search needs)
+    (λ c κs. search needs)
+    (λ c κs. search needs)
+    (λ c κs. search needs)
     returns
     returns-2)

@@ -12,15 +12,6 @@ use borrow.Author.Needs.{needs}
 use Rattle.twins.proofs.set_compared.Statement.{statement}
 use Rattle.twins.proofs.set_compared.Tie as tie
 
-translate-requires : tie.Need-translate-requires
-translate-requires c κs = search needs
-
-enum-known-w : tie.Need-enum-known-w
-enum-known-w c = search needs
-
-enum-known-n : tie.Need-enum-known-n
-enum-known-n c = search needs
-
 slice-reshare-prefix-twin-compared : tie.Need-slice-reshare-prefix-twin-compared
 slice-reshare-prefix-twin-compared c =
     let b = c .before .before .before .before .before .before .before .before .before .before .before in
@@ -56,12 +47,6 @@ twin-compared-requires c κs =
     let made = sym (ap (λ z. translatedOf z out) (g .1)) ∙ y .ensures in
     (b .pre, translated s buffer (g .0 .0) out (sym (sym (ap (λ z. translatedOf z out) (g .1)) ∙ translated-is s buffer (y .result) out (b .pre .unrefused) (y .ensures))) .1)
 
-same-length : tie.Need-same-length
-same-length c = search needs
-
-nothing-compared-requires : tie.Need-nothing-compared-requires
-nothing-compared-requires c κs = search needs
-
 returns : tie.Need-returns
 returns c =
     let b = c .before .before .before .before .before .before .before .before .before .before .before .before in
@@ -74,9 +59,6 @@ returns c =
     let e = sym (ap (λ z. translatedOf z out) (g .1)) ∙ translated-is s buffer (y .result) out (b .pre .unrefused) (y .ensures) in
     let both = movedBoth s (twinBytes s) (now (b .args .masks)) (b .args .plays) (now (b .args .kinds)) in
     (c .nothing-compared .ensures ∙ ap (λ z. compared (z .answer) both) e, ap (λ z. z .lent) e)
-
-same-length-2 : tie.Need-same-length-2
-same-length-2 c = search needs
 
 returns-2 : tie.Need-returns-2
 returns-2 c =
@@ -95,14 +77,14 @@ pub set-compared-spec : {M : Type 1} → statement M
 set-compared-spec =
     tie.close
     (tie.spec
-    translate-requires
-    enum-known-w
-    nothing-compared-requires
-    enum-known-n
+    (λ c κs. search needs)
+    (λ c. search needs)
+    (λ c κs. search needs)
+    (λ c. search needs)
     slice-reshare-prefix-twin-compared
     slice-aggregate-twin-compared
     twin-compared-requires
-    same-length
+    (λ c. search needs)
     returns
-    same-length-2
+    (λ c. search needs)
     returns-2)

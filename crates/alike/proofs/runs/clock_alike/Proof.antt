@@ -1,6 +1,6 @@
 -- `runs::clock_alike` meets its contract. Assumes nothing.
-use Rattle.automata_files.proofs.NamedThings.{ticks-known}
-use Rattle.automata_files.proofs.PlacesRead.{most-clocks}
+use Rattle.automata_records.proofs.NamedThings.{ticks-known}
+use Rattle.automata_records.proofs.PlacesRead.{most-clocks}
 use lib.ListN.{getD}
 use Rattle.model.specs.Correspondence.{clockFor}
 use lib.Dec.{eqb}
@@ -11,20 +11,8 @@ use borrow.Author.Needs.{needs}
 use Rattle.alike.proofs.runs.clock_alike.Statement.{statement}
 use Rattle.alike.proofs.runs.clock_alike.Tie as tie
 
-mul-x : tie.Need-mul-x
-mul-x c = search needs
-
 array-read-x : tie.Need-array-read-x
 array-read-x c = let b = c .before in omega (arith, b .pre .1, most-clocks (now (b .args .t)) (b .args .shape) (b .pre .0 .shape))
-
-cast-x : tie.Need-cast-x
-cast-x c = search needs
-
-is-after-requires : tie.Need-is-after-requires
-is-after-requires c κs = search needs
-
-ticks-of-requires : tie.Need-ticks-of-requires
-ticks-of-requires c κs = search needs
 
 clock-for-requires : tie.Need-clock-for-requires
 clock-for-requires c κs =
@@ -40,10 +28,10 @@ pub clock-alike-spec : {M : Type 1} → statement M
 clock-alike-spec =
     tie.close
     (tie.spec
-    mul-x
+    (λ c. search needs)
     array-read-x
-    cast-x
-    is-after-requires
-    ticks-of-requires
+    (λ c. search needs)
+    (λ c κs. search needs)
+    (λ c κs. search needs)
     clock-for-requires
     returns)

@@ -25,9 +25,6 @@ every-new d age h = sym (ap (λ b. cond b 0 ((age - 1) % d + 1)) (eq-eqb age 0 h
 every-old : (d age : ℕ) → (age ≡ 0 → ⊥) → (age - 1) % d + 1 ≡ clockFor every d age
 every-old d age h = sym (ap (λ b. cond b 0 ((age - 1) % d + 1)) (ne-eqb age 0 h))
 
-top-requires : tie.Need-top-requires
-top-requires c κs = search needs
-
 -- an after-clock's top
 high : (c : tie.After-top) → let a = c .before .before .args in c .top .result ≡ top after (a .ticks)
 high c = c .top .ensures ∙ ap (λ b. top (timingIf b) (c .before .before .args .ticks)) (c .before .if1 .taken)
@@ -51,12 +48,6 @@ returns-3 c =
     every-new (a .ticks) (a .age) (c .if3 .taken)
     ∙ ap (λ b. clockFor (timingIf b) (a .ticks) (a .age)) (sym (c .before .if1 .left))
 
-sub-result : tie.Need-sub-result
-sub-result c = search needs
-
-rem-result : tie.Need-rem-result
-rem-result c = search needs
-
 add-result : tie.Need-add-result
 add-result c =
     let a = c .before .before .args in
@@ -72,4 +63,4 @@ returns-4 c =
 pub clock-for-spec : {M : Type 1} → statement M
 clock-for-spec =
     tie.close
-    (tie.spec top-requires returns returns-2 returns-3 sub-result rem-result add-result returns-4)
+    (tie.spec (λ c κs. search needs) returns returns-2 returns-3 (λ c. search needs) (λ c. search needs) add-result returns-4)

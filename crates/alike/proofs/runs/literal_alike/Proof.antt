@@ -1,32 +1,17 @@
 -- `runs::literal_alike` meets its contract. Assumes nothing.
 use Rattle.model.specs.AutomataTable.{always, event, clock}
 use Rattle.alike.proofs.Alike.{literal-away, literal-here, automaton-in, clock-in}
-use Rattle.automata_files.specs.Parts.{literalTriggerFor}
+use Rattle.automata_records.specs.Parts.{literalTriggerFor}
 use denote.Ref.{now}
 use mathlib.Core.Path.{sym, ap, _∙_}
 use borrow.Author.Needs.{needs}
 use Rattle.alike.proofs.runs.literal_alike.Statement.{statement}
 use Rattle.alike.proofs.runs.literal_alike.Tie as tie
 
-literal-edge-requires : tie.Need-literal-edge-requires
-literal-edge-requires c κs = search needs
-
-automaton-of-requires : tie.Need-automaton-of-requires
-automaton-of-requires c κs = search needs
-
-cast-a : tie.Need-cast-a
-cast-a c = search needs
-
-mul-if1 : tie.Need-mul-if1
-mul-if1 c = search needs
-
 array-read-if1 : tie.Need-array-read-if1
 array-read-if1 c =
     let b = c .before .before .before in
     automaton-in (now (b .args .t)) (b .args .shape) (b .args .l) _ _ (c .before .literal-edge .ensures) (c .automaton-of .ensures) (b .pre .0) (b .pre .1)
-
-source-of-requires : tie.Need-source-of-requires
-source-of-requires c κs = search needs
 
 returns : tie.Need-returns
 returns c =
@@ -35,21 +20,6 @@ returns c =
     let q = c .before .before .automaton-of .ensures in
     let r = c .before .source-of .ensures in
     literal-away (now (a .t)) (a .shape) (a .l) _ _ p q (a .t3) (a .t4) (a .clocks) _ r (c .if1 .taken)
-
-literal-trigger-of-requires : tie.Need-literal-trigger-of-requires
-literal-trigger-of-requires c κs = search needs
-
-enum-told : tie.Need-enum-told
-enum-told c = search needs
-
-enum-told-2 : tie.Need-enum-told-2
-enum-told-2 c = search needs
-
-enum-known-k : tie.Need-enum-known-k
-enum-known-k c = search needs
-
-mul-clock-alike : tie.Need-mul-clock-alike
-mul-clock-alike c = search needs
 
 array-read-clock-alike : tie.Need-array-read-clock-alike
 array-read-clock-alike c =
@@ -93,18 +63,18 @@ pub literal-alike-spec : {M : Type 1} → statement M
 literal-alike-spec =
     tie.close
     (tie.spec
-    literal-edge-requires
-    automaton-of-requires
-    cast-a
-    mul-if1
+    (λ c κs. search needs)
+    (λ c κs. search needs)
+    (λ c. search needs)
+    (λ c. search needs)
     array-read-if1
-    source-of-requires
+    (λ c κs. search needs)
     returns
-    literal-trigger-of-requires
-    enum-told
-    enum-told-2
-    enum-known-k
-    mul-clock-alike
+    (λ c κs. search needs)
+    (λ c. search needs)
+    (λ c. search needs)
+    (λ c. search needs)
+    (λ c. search needs)
     array-read-clock-alike
     clock-alike-requires
     returns-2

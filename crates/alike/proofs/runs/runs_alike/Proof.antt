@@ -1,5 +1,5 @@
 -- `runs::runs_alike` meets its contract. Assumes nothing.
-use Rattle.automata_files.proofs.PlacesRead.{most-automata}
+use Rattle.automata_records.proofs.PlacesRead.{most-automata}
 use lib.Dec.{eqb}
 use denote.Ref.{now}
 use mathlib.Core.Bool.{_&&_}
@@ -7,16 +7,10 @@ use borrow.Author.Needs.{needs}
 use Rattle.alike.proofs.runs.runs_alike.Statement.{statement}
 use Rattle.alike.proofs.runs.runs_alike.Tie as tie
 
-variables-alike-requires : tie.Need-variables-alike-requires
-variables-alike-requires c κs = search needs
-
 places-alike-requires : tie.Need-places-alike-requires
 places-alike-requires c κs =
     let b = c .before .before .before .before .before .before .before .before .before .before .before .before .before .before in
     most-automata (now (b .args .t)) (b .args .shape) (b .pre .shape)
-
-timers-alike-requires : tie.Need-timers-alike-requires
-timers-alike-requires c κs = search needs
 
 returns : tie.Need-returns
 returns c =
@@ -31,4 +25,4 @@ returns c =
 pub runs-alike-spec : {M : Type 1} → statement M
 runs-alike-spec =
     tie.close
-    (tie.spec variables-alike-requires places-alike-requires timers-alike-requires returns)
+    (tie.spec (λ c κs. search needs) places-alike-requires (λ c κs. search needs) returns)

@@ -1,7 +1,7 @@
 -- `runs::timers_alike` meets its contract. Assumes nothing.
 use Rattle.alike.specs.Alike.{literalAlike}
 use Rattle.prelude.proofs.Loops.{Passed, passed-none, passed-more, passed-all, passed-not}
-use Rattle.automata_files.proofs.PlacesRead.{most-literals}
+use Rattle.automata_records.proofs.PlacesRead.{most-literals}
 use denote.Ref.{now}
 use borrow.Author.Tests.{not-true, not-false}
 use native.Mathlib.Omega.{arith}

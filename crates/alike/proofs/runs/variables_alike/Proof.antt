@@ -38,9 +38,6 @@ mul-values-alike-2 c = omega arith
 array-copy-out-values-alike-2 : tie.Need-array-copy-out-values-alike-2 Inv-loop μ-loop
 array-copy-out-values-alike-2 c = omega arith
 
-values-alike-requires : tie.Need-values-alike-requires Inv-loop μ-loop
-values-alike-requires c κs = tt
-
 decided : (c : tie.After-values-alike Inv-loop μ-loop) →
     let a = c .before .before .before .before .before .args in
     c .values-alike .result ≡ same (a .t1) (a .t2) (c .before .before .before .before .loop .v)
@@ -85,7 +82,7 @@ variables-alike-spec =
     array-copy-out-values-alike
     mul-values-alike-2
     array-copy-out-values-alike-2
-    values-alike-requires
+    (λ c κs. tt)
     returns
     add-v
     loop-less

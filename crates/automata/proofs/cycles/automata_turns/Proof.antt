@@ -10,11 +10,11 @@ use Rattle.records.specs.Refusal.{val, fault, _>>=_}
 use Rattle.model.specs.Runs.{Run, moved, stepped, taken}
 use Rattle.model.specs.AutomataTable.{readAutomata}
 use Rattle.model.specs.Automata.{automata}
-use Rattle.automata_files.proofs.PlacesRead.{most-automata, length-initial}
-use Rattle.machines.specs.Answers.{reasonOf}
+use Rattle.automata_records.proofs.PlacesRead.{most-automata, length-initial}
+use Rattle.answers.specs.Answers.{reasonOf}
 use Rattle.machines.specs.Turns.{after}
 use Rattle.machines.proofs.Turns.{cycle-more, cycle-stop, cycle-end}
-use Rattle.machines.specs.Worlds.{runIn}
+use Rattle.machines.specs.Worlds.{moment, runIn}
 use Rattle.automata_steps.specs.StepOf.{steppedOf}
 use Rattle.automata.specs.TurnOf.{Ready}
 use Rattle.automata.proofs.TurnOf.{ready-next, part-stepped}
@@ -23,9 +23,9 @@ use Rattle.automata.proofs.cycles.automata_turns.Tie as tie
 
 abbrev Inv-loop : tie.InvT-loop
 Inv-loop s shape first next locations₀ clocks₀ vars₀ events position cycles present₀ automaton₀ locations clocks vars present automaton =
-    Ready shape (runIn locations clocks vars present (automaton + 1) cycles)
-    × (after (automata (readAutomata s)) (shape .automata + 2 - position) (runIn locations₀ clocks₀ vars₀ events position cycles)
-    ≡ after (automata (readAutomata s)) (shape .automata + 2 - (automaton + 1)) (runIn locations clocks vars present (automaton + 1) cycles))
+    Ready shape (runIn locations clocks vars present (moment (automaton + 1) cycles))
+    × (after (automata (readAutomata s)) (shape .automata + 2 - position) (runIn locations₀ clocks₀ vars₀ events (moment position cycles))
+    ≡ after (automata (readAutomata s)) (shape .automata + 2 - (automaton + 1)) (runIn locations clocks vars present (moment (automaton + 1) cycles)))
     × (length clocks ≡ length clocks₀)
 
 abbrev μ-loop : tie.MeasureT-loop
@@ -44,8 +44,8 @@ loop-holds c =
     let b = c .before .before in
     let x = b .args in
     let e : x .position ≡ x .position - 1 + 1 = omega (arith, b .pre .1 .begun) in (
-      subst (λ k. Ready (x .shape) (runIn (now (x .locations)) (now (x .clocks)) (now (x .vars)) (x .events) k (x .cycles))) e (b .pre .1),
-      ap (λ k. after (automata (readAutomata (now (x .s)))) (x .shape .automata + 2 - k) (runIn (now (x .locations)) (now (x .clocks)) (now (x .vars)) (x .events) k (x .cycles))) e,
+      subst (λ k. Ready (x .shape) (runIn (now (x .locations)) (now (x .clocks)) (now (x .vars)) (x .events) (moment k (x .cycles)))) e (b .pre .1),
+      ap (λ k. after (automata (readAutomata (now (x .s)))) (x .shape .automata + 2 - k) (runIn (now (x .locations)) (now (x .clocks)) (now (x .vars)) (x .events) (moment k (x .cycles)))) e,
       refl,
     )
 
@@ -56,7 +56,7 @@ edge-step-requires c κs = let k = c .before .before .before .before .before .be
 abbrev at : (c : tie.After-edge-step Inv-loop μ-loop) → Run
 at c =
     let l = c .before .before .before .before .before .before .loop in
-    runIn (l .locations) (l .clocks) (l .vars) (l .present) (l .automaton + 1) (c .before .before .before .before .before .before .before .before .before .args .cycles)
+    runIn (l .locations) (l .clocks) (l .vars) (l .present) (moment (l .automaton + 1) (c .before .before .before .before .before .before .before .before .before .args .cycles))
 
 -- the turn of the present run, from its answer
 stepping : (c : tie.After-edge-step Inv-loop μ-loop) →
@@ -64,15 +64,12 @@ stepping : (c : tie.After-edge-step Inv-loop μ-loop) →
     let l = c .before .before .before .before .before .before .loop in
     let x = c .edge-step in
     stepped (automata (readAutomata (now (b .args .s)))) (at c)
-    ≡ (steppedOf (x .result) (x .last .1 .1 .1 .1 .1 .0) (x .last .1 .1 .1 .1 .1 .1 .0) (x .last .1 .1 .1 .1 .1 .1 .1 .0) (l .automaton + 1) (b .args .cycles) >>= λ y. val (y .0, moved (y .1)))
+    ≡ (steppedOf (x .result) (x .last .1 .1 .1 .1 .1 .0) (x .last .1 .1 .1 .1 .1 .1 .0) (x .last .1 .1 .1 .1 .1 .1 .1 .0) (moment (l .automaton + 1) (b .args .cycles)) >>= λ y. val (y .0, moved (y .1)))
 stepping c =
     let b = c .before .before .before .before .before .before .before .before .before in
     let l = c .before .before .before .before .before .before .loop in
     part-stepped (now (b .args .s)) (b .args .shape) (b .pre .0 .accepted) (l .automaton) (at c) refl (c .before .before .before .before .if1 .taken)
-    ∙ ap (λ o. o >>= λ y. val (y .0, moved (y .1))) (sym (c .edge-step .ensures .0 (l .automaton + 1) (b .args .cycles)))
-
-enum-known-w : tie.Need-enum-known-w Inv-loop μ-loop
-enum-known-w c = search needs
+    ∙ ap (λ o. o >>= λ y. val (y .0, moved (y .1))) (sym (c .edge-step .ensures .0 (moment (l .automaton + 1) (b .args .cycles))))
 
 returns : tie.Need-returns Inv-loop μ-loop
 returns c =
@@ -81,15 +78,12 @@ returns c =
     let t = c .before .before .before in
     let x = t .edge-step in
     let w = c .before .w .given in
-    let is = stepping t ∙ ap (λ g. steppedOf g (x .last .1 .1 .1 .1 .1 .0) (x .last .1 .1 .1 .1 .1 .1 .0) (x .last .1 .1 .1 .1 .1 .1 .1 .0) (l .automaton + 1) (b .args .cycles) >>= λ y. val (y .0, moved (y .1))) (w .1) in (
+    let is = stepping t ∙ ap (λ g. steppedOf g (x .last .1 .1 .1 .1 .1 .0) (x .last .1 .1 .1 .1 .1 .1 .0) (x .last .1 .1 .1 .1 .1 .1 .1 .0) (moment (l .automaton + 1) (b .args .cycles)) >>= λ y. val (y .0, moved (y .1))) (w .1) in (
       sym
           (l .inv .1
           ∙ cycle-stop (automata (readAutomata (now (b .args .s)))) (b .args .shape .automata) (length-initial (now (b .args .s)) (b .args .shape) (b .pre .0 .accepted .shape)) (at t) (reasonOf (w .0 .0)) (omega (arith, c .before .before .before .before .before .before .before .if1 .taken)) is),
       tt,
     )
-
-enum-known-x : tie.Need-enum-known-x Inv-loop μ-loop
-enum-known-x c = search needs
 
 add-automaton : tie.Need-add-automaton Inv-loop μ-loop
 add-automaton c =
@@ -106,8 +100,8 @@ loop-again c =
     let t = c .before .before .before in
     let x = t .edge-step in
     let g = c .before .x .given in
-    let q = runIn (x .last .1 .1 .1 .1 .1 .0) (x .last .1 .1 .1 .1 .1 .1 .0) (x .last .1 .1 .1 .1 .1 .1 .1 .0) (g .0 .1 .0) (l .automaton + 1 + 1) (b .args .cycles) in
-    let is : stepped (automata (readAutomata (now (b .args .s)))) (at t) ≡ val (taken (g .0 .0), q) = stepping t ∙ ap (λ h. steppedOf h (x .last .1 .1 .1 .1 .1 .0) (x .last .1 .1 .1 .1 .1 .1 .0) (x .last .1 .1 .1 .1 .1 .1 .1 .0) (l .automaton + 1) (b .args .cycles) >>= λ y. val (y .0, moved (y .1))) (g .1) in
+    let q = runIn (x .last .1 .1 .1 .1 .1 .0) (x .last .1 .1 .1 .1 .1 .1 .0) (x .last .1 .1 .1 .1 .1 .1 .1 .0) (g .0 .1 .0) (moment (l .automaton + 1 + 1) (b .args .cycles)) in
+    let is : stepped (automata (readAutomata (now (b .args .s)))) (at t) ≡ val (taken (g .0 .0), q) = stepping t ∙ ap (λ h. steppedOf h (x .last .1 .1 .1 .1 .1 .0) (x .last .1 .1 .1 .1 .1 .1 .0) (x .last .1 .1 .1 .1 .1 .1 .1 .0) (moment (l .automaton + 1) (b .args .cycles)) >>= λ y. val (y .0, moved (y .1))) (g .1) in
     let h = c .before .before .before .before .before .before .before .if1 .taken in (
       ready-next (now (b .args .s)) (b .args .shape) (b .pre .0 .accepted) (at t) (taken (g .0 .0), q) (l .inv .0) (omega (arith, h)) is .0,
       l .inv .1
@@ -119,7 +113,7 @@ returns-2 : tie.Need-returns-2 Inv-loop μ-loop
 returns-2 c =
     let b = c .before .before .before .before .before in
     let l = c .before .before .loop in
-    let r = runIn (l .locations) (l .clocks) (l .vars) (l .present) (l .automaton + 1) (b .args .cycles) in (
+    let r = runIn (l .locations) (l .clocks) (l .vars) (l .present) (moment (l .automaton + 1) (b .args .cycles)) in (
       sym
           (l .inv .1
           ∙ cycle-end (automata (readAutomata (now (b .args .s)))) (b .args .shape .automata) (length-initial (now (b .args .s)) (b .args .shape) (b .pre .0 .accepted .shape)) r (omega (arith, l .inv .0 .within, c .if1 .left))),
@@ -136,9 +130,9 @@ automata-turns-spec =
     cast-automaton
     loop-holds
     edge-step-requires
-    enum-known-w
+    (λ c. search needs)
     returns
-    enum-known-x
+    (λ c. search needs)
     add-automaton
     loop-less
     loop-again

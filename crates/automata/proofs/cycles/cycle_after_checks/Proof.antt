@@ -7,32 +7,20 @@ use Rattle.records.specs.RefusalOf.{refusalOf}
 use Rattle.model.specs.Runs.{Run, checked, cycle}
 use Rattle.model.specs.AutomataTable.{readAutomata}
 use Rattle.model.specs.Automata.{automata}
-use Rattle.automata_files.proofs.PlacesRead.{length-initial}
+use Rattle.automata_records.proofs.PlacesRead.{length-initial}
 use Rattle.machines.specs.Checks.{beforeOf}
 use Rattle.machines.specs.Turns.{finish}
 use Rattle.machines.proofs.Turns.{cycle-refused, cycle-given}
-use Rattle.machines.specs.Worlds.{runIn}
+use Rattle.machines.specs.Worlds.{moment, runIn}
 use Rattle.automata.specs.TurnOf.{Ready, cycledOf}
 use Rattle.automata.proofs.TurnOf.{ready}
 use borrow.Author.Needs.{needs}
 use Rattle.automata.proofs.cycles.cycle_after_checks.Statement.{statement}
 use Rattle.automata.proofs.cycles.cycle_after_checks.Tie as tie
 
-before-turn-requires : tie.Need-before-turn-requires
-before-turn-requires c κs = search needs
-
-enum-known-w : tie.Need-enum-known-w
-enum-known-w c = search needs
-
-enum-told : tie.Need-enum-told
-enum-told c = search needs
-
-events-given-requires : tie.Need-events-given-requires
-events-given-requires c κs = search needs
-
 -- the run, and that it passed the checks
 abbrev lent : tie.Start → Run
-lent c = let x = c .args in runIn (now (x .locations)) (now (x .clocks)) (now (x .vars)) (x .present) (x .position) (x .cycles)
+lent c = let x = c .args in runIn (now (x .locations)) (now (x .clocks)) (now (x .vars)) (x .present) (moment (x .position) (x .cycles))
 
 passed : (c : tie.After-enum-told) → let b = c .before .before .before .before .before .before .before .before in checked (automata (readAutomata (now (b .args .s)))) (b .args .events) (lent b) ≡ val tt
 passed c = sym (c .before .before .before-turn .ensures) ∙ ap beforeOf (c .enum-told .given .1)
@@ -44,14 +32,14 @@ cycle-or-none-requires c κs =
     let x = b .args in (
       b .pre .0,
       (
-        subst (λ e. Ready (x .shape) (runIn (now (x .locations)) (now (x .clocks)) (now (x .vars)) e (x .position) (x .cycles))) (sym (c .before .before .before .events-given .ensures)) (ready (now (x .s)) (x .shape) (b .pre .0 .accepted) (x .events) (lent b) (passed d)),
+        subst (λ e. Ready (x .shape) (runIn (now (x .locations)) (now (x .clocks)) (now (x .vars)) e (moment (x .position) (x .cycles)))) (sym (c .before .before .before .events-given .ensures)) (ready (now (x .s)) (x .shape) (b .pre .0 .accepted) (x .events) (lent b) (passed d)),
         (b .pre .1 .0 .1, b .pre .1 .1),
       ),
     )
 
 -- the run in the places, and the cycle that led to it
 abbrev left : tie.After-cycle-or-none → Run
-left c = let l = c .cycle-or-none .last in runIn (l .1 .1 .1 .1 .1 .1 .0) (l .1 .1 .1 .1 .1 .1 .1 .0) (l .1 .1 .1 .1 .1 .1 .1 .1 .0) 0 1 (c .before .before .before .before .before .before .before .before .before .before .before .before .before .args .cycles + 1)
+left c = let l = c .cycle-or-none .last in runIn (l .1 .1 .1 .1 .1 .1 .0) (l .1 .1 .1 .1 .1 .1 .1 .0) (l .1 .1 .1 .1 .1 .1 .1 .1 .0) 0 (moment 1 (c .before .before .before .before .before .before .before .before .before .before .before .before .before .args .cycles + 1))
 
 cycling : (c : tie.After-cycle-or-none) → let b = c .before .before .before .before .before .before .before .before .before .before .before .before .before in cycle (automata (readAutomata (now (b .args .s)))) (b .args .events) (lent b) ≡ finish (cycledOf (c .cycle-or-none .result) (left c))
 cycling c =
@@ -60,14 +48,8 @@ cycling c =
     let x = b .args in
     let g = c .before .before .before .before .events-given in
     cycle-given (automata (readAutomata (now (x .s)))) (x .shape .automata) (length-initial (now (x .s)) (x .shape) (b .pre .0 .accepted .shape)) (x .events) (lent b)
-    (runIn (now (x .locations)) (now (x .clocks)) (now (x .vars)) (g .result) (x .position) (x .cycles)) (passed d) (ap (λ e. runIn (now (x .locations)) (now (x .clocks)) (now (x .vars)) e (x .position) (x .cycles)) (g .ensures))
+    (runIn (now (x .locations)) (now (x .clocks)) (now (x .vars)) (g .result) (moment (x .position) (x .cycles))) (passed d) (ap (λ e. runIn (now (x .locations)) (now (x .clocks)) (now (x .vars)) e (moment (x .position) (x .cycles))) (g .ensures))
     ∙ ap finish (sym (c .cycle-or-none .ensures .0))
-
-enum-known-w-2 : tie.Need-enum-known-w-2
-enum-known-w-2 c = search needs
-
-enum-told-2 : tie.Need-enum-told-2
-enum-told-2 c = search needs
 
 returns : tie.Need-returns
 returns c =
@@ -85,13 +67,13 @@ pub cycle-after-checks-spec : {M : Type 1} → statement M
 cycle-after-checks-spec =
     tie.close
     (tie.spec
-    before-turn-requires
-    enum-known-w
-    enum-told
-    events-given-requires
+    (λ c κs. search needs)
+    (λ c. search needs)
+    (λ c. search needs)
+    (λ c κs. search needs)
     cycle-or-none-requires
-    enum-known-w-2
-    enum-told-2
+    (λ c. search needs)
+    (λ c. search needs)
     returns
     returns-2
     returns-3)

@@ -4,31 +4,19 @@ use Rattle.automata_steps.proofs.IndexRecords.{room-short, room-long}
 use Rattle.automata.proofs.cycles.cycle_by_turns.Statement.{statement}
 use Rattle.automata.proofs.cycles.cycle_by_turns.Tie as tie
 
-slice-aggregate-cycle-making-index : tie.Need-slice-aggregate-cycle-making-index
-slice-aggregate-cycle-making-index c = search needs
-
 cycle-making-index-requires : tie.Need-cycle-making-index-requires
 cycle-making-index-requires c κs = let b = c .before .before .before in (b .pre, room-short _ _ (b .pre .shape) (c .before .if1 .taken))
 
-slice-aggregate-cycle-making-index-2 : tie.Need-slice-aggregate-cycle-making-index-2
-slice-aggregate-cycle-making-index-2 c = search needs
-
 cycle-making-index-requires-2 : tie.Need-cycle-making-index-requires-2
 cycle-making-index-requires-2 c κs = let b = c .before .before .before in (b .pre, room-long _ _ (b .pre .shape))
-
-returns : tie.Need-returns
-returns c = search needs
-
-returns-2 : tie.Need-returns-2
-returns-2 c = search needs
 
 pub cycle-by-turns-spec : {M : Type 1} → statement M
 cycle-by-turns-spec =
     tie.close
     (tie.spec
-    slice-aggregate-cycle-making-index
+    (λ c. search needs)
     cycle-making-index-requires
-    slice-aggregate-cycle-making-index-2
+    (λ c. search needs)
     cycle-making-index-requires-2
-    returns
-    returns-2)
+    (λ c. search needs)
+    (λ c. search needs))

@@ -7,14 +7,5 @@ use Rattle.automata.proofs.cycles.cycle_making_index.Tie as tie
 index-of-requires : tie.Need-index-of-requires
 index-of-requires c κs = (search needs, (blank, search needs))
 
-turns-of-cycle-requires : tie.Need-turns-of-cycle-requires
-turns-of-cycle-requires c κs = search needs
-
-same-length : tie.Need-same-length
-same-length c = search needs
-
-returns : tie.Need-returns
-returns c = search needs
-
 pub cycle-making-index-spec : {M : Type 1} → statement M
-cycle-making-index-spec = tie.close (tie.spec index-of-requires turns-of-cycle-requires same-length returns)
+cycle-making-index-spec = tie.close (tie.spec index-of-requires (λ c κs. search needs) (λ c. search needs) (λ c. search needs))

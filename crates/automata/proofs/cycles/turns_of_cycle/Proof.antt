@@ -11,7 +11,7 @@ use Rattle.model.specs.AutomataTable.{readAutomata}
 use Rattle.model.specs.Automata.{automata}
 use Rattle.model.proofs.ChecksKept.{NotTime, Steady}
 use Rattle.model.proofs.ChecksKeptBySteps.{steady-automata, sound-table}
-use Rattle.machines.specs.Answers.{reasonOf, answerOf}
+use Rattle.answers.specs.Answers.{reasonOf, answerOf}
 use Rattle.automata.specs.RunOf.{runOf}
 use Rattle.automata.specs.TurnOf.{turnOf}
 use Rattle.machines.proofs.TurnsCycle.{goes-on, moves-on, ends-at-time, ends-in-fault}
@@ -48,17 +48,11 @@ further : (c : tie.After-turn Inv-loop μ-loop) (a : M.Answer) → answerOf (c .
     (c .before .loop .present .position ≤ M.parts (m c)) × (c .turn .result .run .position ≡ c .before .loop .present .position + 1)
 further c a e n = let l = c .before .loop in moves-on (m c) (steady c) (l .given) (runOf (l .present)) (turnOf (c .turn .result)) (c .turn .ensures) a e n
 
-enum-told : tie.Need-enum-told Inv-loop μ-loop
-enum-told c = search needs
-
 loop-less : tie.Need-loop-less Inv-loop μ-loop
 loop-less c = let g = c .enum-told .given in let f = further (c .before .before .before) (M.taken (g .0 .0)) (ap answerOf (g .1)) tt in omega (arith, f .0, f .1)
 
 loop-again : tie.Need-loop-again Inv-loop μ-loop
 loop-again c = let g = c .enum-told .given in on (c .before .before .before) (M.taken (g .0 .0)) (ap answerOf (g .1)) tt
-
-enum-told-2 : tie.Need-enum-told-2 Inv-loop μ-loop
-enum-told-2 c = search needs
 
 loop-less-2 : tie.Need-loop-less-2 Inv-loop μ-loop
 loop-less-2 c = let f = further (c .before .before .before) M.idle (ap answerOf (c .enum-told2 .given .1)) tt in omega (arith, f .0, f .1)
@@ -66,17 +60,11 @@ loop-less-2 c = let f = further (c .before .before .before) M.idle (ap answerOf 
 loop-again-2 : tie.Need-loop-again-2 Inv-loop μ-loop
 loop-again-2 c = on (c .before .before .before) M.idle (ap answerOf (c .enum-told2 .given .1)) tt
 
-enum-told-3 : tie.Need-enum-told-3 Inv-loop μ-loop
-enum-told-3 c = search needs
-
 returns : tie.Need-returns Inv-loop μ-loop
 returns c =
     let t = c .before .before .before in
     let l = t .before .loop in
     sym (ap (settled (runOf (t .before .before .before .before .args .run))) (l .inv ∙ ends-at-time (m t) (steady t) (l .given) (runOf (l .present)) (turnOf (t .turn .result)) (t .turn .ensures) (ap answerOf (c .enum-told3 .given .1))))
-
-enum-known-answer : tie.Need-enum-known-answer Inv-loop μ-loop
-enum-known-answer c = search needs
 
 returns-2 : tie.Need-returns-2 Inv-loop μ-loop
 returns-2 c =
@@ -84,9 +72,6 @@ returns-2 c =
     let l = t .before .loop in
     let w = c .before .answer .given in
     sym (ap (settled (runOf (t .before .before .before .before .args .run))) (l .inv ∙ ends-in-fault (m t) (steady t) (l .given) (runOf (l .present)) (turnOf (t .turn .result)) (t .turn .ensures) (reasonOf (w .0 .0)) (ap answerOf (w .1))))
-
-enum-known-answer-2 : tie.Need-enum-known-answer-2 Inv-loop μ-loop
-enum-known-answer-2 c = search needs
 
 returns-3 : tie.Need-returns-3 Inv-loop μ-loop
 returns-3 c =
@@ -103,15 +88,15 @@ turns-of-cycle-spec =
     μ-loop
     loop-holds
     turn-requires
-    enum-told
+    (λ c. search needs)
     loop-less
     loop-again
-    enum-told-2
+    (λ c. search needs)
     loop-less-2
     loop-again-2
-    enum-told-3
+    (λ c. search needs)
     returns
-    enum-known-answer
+    (λ c. search needs)
     returns-2
-    enum-known-answer-2
+    (λ c. search needs)
     returns-3)

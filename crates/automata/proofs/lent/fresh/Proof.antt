@@ -5,11 +5,8 @@ use borrow.Author.Needs.{needs}
 use Rattle.automata.proofs.lent.fresh.Statement.{statement}
 use Rattle.automata.proofs.lent.fresh.Tie as tie
 
-start-requires : tie.Need-start-requires
-start-requires c κs = search needs
-
 returns : tie.Need-returns
 returns c = ap (λ q. record { answer = val tt; lent = q }) (c .start .ensures)
 
 pub fresh-spec : {M : Type 1} → statement M
-fresh-spec = tie.close (tie.spec start-requires returns)
+fresh-spec = tie.close (tie.spec (λ c κs. search needs) returns)

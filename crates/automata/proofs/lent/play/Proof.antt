@@ -5,11 +5,11 @@ use denote.Triple.Table.{entered, cited}
 use Rattle.model.specs.Outcome.{settled}
 use Rattle.model.specs.AutomataTable.{readAutomata}
 use Rattle.model.specs.Automata.{automata}
-use Rattle.machines.specs.Answers.{cyclesOf}
+use Rattle.answers.specs.Answers.{cyclesOf}
 use Rattle.machines.specs.Playing.{playing}
-use Rattle.machines.proofs.LentAnswers.{cycles-type}
-use Rattle.machines.proofs.LentMasks.{lent}
-use Rattle.automata_steps.specs.Accepted.{Accepted}
+use Rattle.lent_runs.proofs.LentAnswers.{cycles-type}
+use Rattle.lent_runs.proofs.LentMasks.{lent}
+use Rattle.automata_records.specs.Accepted.{Accepted}
 use Rattle.automata.specs.RunOf.{runOf}
 use Rattle.automata.proofs.LentTypes.{run-type, shape-type, played-type}
 use Rattle.automata.proofs.plays.play_in_place as step

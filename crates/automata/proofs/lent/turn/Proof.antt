@@ -6,10 +6,10 @@ use Rattle.model.specs.Outcome.{settled}
 use Rattle.model.specs.Runs.{turn}
 use Rattle.model.specs.AutomataTable.{readAutomata}
 use Rattle.model.specs.Automata.{automata}
-use Rattle.machines.specs.Answers.{answerOf}
-use Rattle.machines.proofs.LentAnswers.{answer-type}
-use Rattle.machines.proofs.LentEvents.{lent}
-use Rattle.automata_steps.specs.Accepted.{Accepted}
+use Rattle.answers.specs.Answers.{answerOf}
+use Rattle.lent_runs.proofs.LentAnswers.{answer-type}
+use Rattle.lent_runs.proofs.LentEvents.{lent}
+use Rattle.automata_records.specs.Accepted.{Accepted}
 use Rattle.automata.specs.RunOf.{runOf}
 use Rattle.automata.proofs.LentTypes.{run-type, shape-type, turned-type}
 use Rattle.automata.proofs.turns.one_turn as step

@@ -10,13 +10,13 @@ use Rattle.records.specs.Refusal.{cycles-done}
 use Rattle.model.specs.Runs.{Run, cycle, give}
 use Rattle.model.specs.AutomataTable.{readAutomata}
 use Rattle.model.specs.Automata.{automata}
-use Rattle.automata_files.proofs.PlacesRead.{length-initial}
-use Rattle.machines.specs.Answers.{reasonOf}
+use Rattle.automata_records.proofs.PlacesRead.{length-initial}
+use Rattle.answers.specs.Answers.{reasonOf}
 use Rattle.machines.specs.Turns.{finish}
 use Rattle.machines.specs.Playing.{played}
 use Rattle.machines.proofs.Turns.{cycle-given}
 use Rattle.machines.proofs.Playing.{PlayedAfter, playedAfter-none, playedAfter-more, playedAfter-stop, playedAfter-all}
-use Rattle.machines.specs.Worlds.{runIn}
+use Rattle.machines.specs.Worlds.{moment, runIn}
 use Rattle.automata.specs.RunOf.{runOf}
 use Rattle.automata.specs.TurnOf.{cycledOf}
 use Rattle.automata.specs.PlayedOf.{BetweenCycles}
@@ -27,22 +27,22 @@ use Rattle.automata.proofs.plays.further_cycles.Tie as tie
 
 abbrev Inv-loop : tie.InvT-loop
 Inv-loop s shape first next turn cap masks locations₀ clocks₀ variables₀ cycles₀ k₀ locations clocks variables cycles k =
-    PlayedAfter (automata (readAutomata s)) masks (runIn locations₀ clocks₀ variables₀ 0 1 cycles₀) k (runIn locations clocks variables 0 1 cycles)
-    × BetweenCycles (automata (readAutomata s)) (runIn locations clocks variables 0 1 cycles)
+    PlayedAfter (automata (readAutomata s)) masks (runIn locations₀ clocks₀ variables₀ 0 (moment 1 cycles₀)) k (runIn locations clocks variables 0 (moment 1 cycles))
+    × BetweenCycles (automata (readAutomata s)) (runIn locations clocks variables 0 (moment 1 cycles))
     × (k ≤ cycles)
 
 abbrev μ-loop : tie.MeasureT-loop
 μ-loop s shape first next turn cap masks locations₀ clocks₀ variables₀ cycles₀ k₀ locations clocks variables cycles k = length masks - k
 
 -- the run that is given
-given-is : (c : tie.Start Inv-loop μ-loop) → let r = c .args .run in runOf r ≡ runIn (r .locations) (r .clocks) (r .variables) 0 1 (r .cycles)
-given-is c = let r = c .args .run in λ i. runIn (r .locations) (r .clocks) (r .variables) (c .pre .1 .1 .events i) (c .pre .1 .1 .position i) (r .cycles)
+given-is : (c : tie.Start Inv-loop μ-loop) → let r = c .args .run in runOf r ≡ runIn (r .locations) (r .clocks) (r .variables) 0 (moment 1 (r .cycles))
+given-is c = let r = c .args .run in λ i. runIn (r .locations) (r .clocks) (r .variables) (c .pre .1 .1 .events i) (moment (c .pre .1 .1 .position i) (r .cycles))
 
 loop-holds : tie.Need-loop-holds Inv-loop μ-loop
 loop-holds c =
     let b = c .before .before .before .before .before .before in
     let r = b .args .run in (
-      playedAfter-none (automata (readAutomata (now (b .args .s)))) (now (b .args .masks)) (runIn (r .locations) (r .clocks) (r .variables) 0 1 (r .cycles)),
+      playedAfter-none (automata (readAutomata (now (b .args .s)))) (now (b .args .masks)) (runIn (r .locations) (r .clocks) (r .variables) 0 (moment 1 (r .cycles))),
       subst (BetweenCycles (automata (readAutomata (now (b .args .s))))) (given-is b) (b .pre .1 .1),
       omega arith,
     )
@@ -51,13 +51,10 @@ few : (c : tie.At-loop Inv-loop μ-loop) → c .loop .cycles ≤ 1_000_000
 few c =
     let b = c .before .before .before .before .before .before .before in
     let l = c .loop in
-    rested-few (now (b .args .s)) (b .args .shape) (b .pre .0 .accepted) (runIn (l .locations) (l .clocks) (l .variables) 0 1 (l .cycles)) (l .inv .1)
+    rested-few (now (b .args .s)) (b .args .shape) (b .pre .0 .accepted) (runIn (l .locations) (l .clocks) (l .variables) 0 (moment 1 (l .cycles))) (l .inv .1)
 
 cast-further-to : tie.Need-cast-further-to Inv-loop μ-loop
 cast-further-to c = omega (arith, few (c .before .before), c .before .before .loop .inv .2)
-
-further-to-requires : tie.Need-further-to-requires Inv-loop μ-loop
-further-to-requires c κs = search needs
 
 returns : tie.Need-returns Inv-loop μ-loop
 returns c =
@@ -66,16 +63,13 @@ returns c =
     let s = now (b .args .s) in
     let m = automata (readAutomata s) in
     let r = b .args .run in
-    let r₀ = runIn (r .locations) (r .clocks) (r .variables) 0 1 (r .cycles) in
-    let q = runIn (l .locations) (l .clocks) (l .variables) 0 1 (l .cycles) in
+    let r₀ = runIn (r .locations) (r .clocks) (r .variables) 0 (moment 1 (r .cycles)) in
+    let q = runIn (l .locations) (l .clocks) (l .variables) 0 (moment 1 (l .cycles)) in
     rest-of _ _
     (ap (played m (now (b .args .masks))) (given-is b)
     ∙ playedAfter-stop m (now (b .args .masks)) r₀ (l .k) q cycles-done (c .before .before .loop-test .taken) (l .inv .0)
     (rested-done s (b .args .shape) (b .pre .0 .accepted) (getD (now (b .args .masks)) (l .k) 0) q (l .inv .1) (c .before .if1 .taken)))
     _ _ (c .further-to .ensures .0) (c .further-to .ensures .1) (omega (arith, few (c .before .before .before), l .inv .2))
-
-mul-cycle-or-none : tie.Need-mul-cycle-or-none Inv-loop μ-loop
-mul-cycle-or-none c = search needs
 
 shared-slice-read-cycle-or-none : tie.Need-shared-slice-read-cycle-or-none Inv-loop μ-loop
 shared-slice-read-cycle-or-none c = c .before .before .before .before .before .loop-test .taken
@@ -87,7 +81,7 @@ cycle-or-none-requires c κs =
     let s = now (b .args .s) in
     let sh = b .args .shape in
     let ok = b .pre .0 .accepted in
-    let q = runIn (l .locations) (l .clocks) (l .variables) 0 1 (l .cycles) in
+    let q = runIn (l .locations) (l .clocks) (l .variables) 0 (moment 1 (l .cycles)) in
     let given = getD (now (b .args .masks)) (l .k) 0 in
     (b .pre .0, (ready s sh ok given q (rested-fine s sh ok given q (l .inv .1) (c .before .before .before .before .if1 .left)), (rested-clocks s sh ok q (l .inv .1), b .pre .1 .0)))
 
@@ -96,27 +90,21 @@ cycling : (c : tie.After-cycle-or-none Inv-loop μ-loop) →
     let b = c .before .before .before .before .before .before .before .before .before .before .before .before .before .before in
     let l = c .before .before .before .before .before .before .before .loop in
     let x = c .cycle-or-none in
-    cycle (automata (readAutomata (now (b .args .s)))) (getD (now (b .args .masks)) (l .k) 0) (runIn (l .locations) (l .clocks) (l .variables) 0 1 (l .cycles))
-    ≡ finish (cycledOf (x .result) (runIn (x .last .1 .1 .1 .1 .1 .1 .0) (x .last .1 .1 .1 .1 .1 .1 .1 .0) (x .last .1 .1 .1 .1 .1 .1 .1 .1 .0) 0 1 (l .cycles + 1)))
+    cycle (automata (readAutomata (now (b .args .s)))) (getD (now (b .args .masks)) (l .k) 0) (runIn (l .locations) (l .clocks) (l .variables) 0 (moment 1 (l .cycles)))
+    ≡ finish (cycledOf (x .result) (runIn (x .last .1 .1 .1 .1 .1 .1 .0) (x .last .1 .1 .1 .1 .1 .1 .1 .0) (x .last .1 .1 .1 .1 .1 .1 .1 .1 .0) 0 (moment 1 (l .cycles + 1))))
 cycling c =
     let b = c .before .before .before .before .before .before .before .before .before .before .before .before .before .before in
     let l = c .before .before .before .before .before .before .before .loop in
     let s = now (b .args .s) in
     let sh = b .args .shape in
     let ok = b .pre .0 .accepted in
-    let q = runIn (l .locations) (l .clocks) (l .variables) 0 1 (l .cycles) in
+    let q = runIn (l .locations) (l .clocks) (l .variables) 0 (moment 1 (l .cycles)) in
     let given = getD (now (b .args .masks)) (l .k) 0 in
     cycle-given (automata (readAutomata s)) (sh .automata) (length-initial s sh (ok .shape)) given q (give given q) (rested-fine s sh ok given q (l .inv .1) (c .before .before .before .before .before .if1 .left)) refl
     ∙ ap finish (sym (c .cycle-or-none .ensures .0))
 
-enum-told : tie.Need-enum-told Inv-loop μ-loop
-enum-told c = search needs
-
 cast-further-to-2 : tie.Need-cast-further-to-2 Inv-loop μ-loop
 cast-further-to-2 c = omega (arith, few (c .before .before .before .before .before .before .before .before .before), c .before .before .before .before .before .before .before .before .before .loop .inv .2)
-
-further-to-requires-2 : tie.Need-further-to-requires-2 Inv-loop μ-loop
-further-to-requires-2 c κs = search needs
 
 returns-2 : tie.Need-returns-2 Inv-loop μ-loop
 returns-2 c =
@@ -127,16 +115,13 @@ returns-2 c =
     let g = c .before .enum-told .given in
     let m = automata (readAutomata (now (b .args .s))) in
     let r = b .args .run in
-    let r₀ = runIn (r .locations) (r .clocks) (r .variables) 0 1 (r .cycles) in
-    let q = runIn (l .locations) (l .clocks) (l .variables) 0 1 (l .cycles) in
-    let after = runIn (x .last .1 .1 .1 .1 .1 .1 .0) (x .last .1 .1 .1 .1 .1 .1 .1 .0) (x .last .1 .1 .1 .1 .1 .1 .1 .1 .0) 0 1 (l .cycles + 1) in
+    let r₀ = runIn (r .locations) (r .clocks) (r .variables) 0 (moment 1 (r .cycles)) in
+    let q = runIn (l .locations) (l .clocks) (l .variables) 0 (moment 1 (l .cycles)) in
+    let after = runIn (x .last .1 .1 .1 .1 .1 .1 .0) (x .last .1 .1 .1 .1 .1 .1 .1 .0) (x .last .1 .1 .1 .1 .1 .1 .1 .1 .0) 0 (moment 1 (l .cycles + 1)) in
     rest-of _ _
     (ap (played m (now (b .args .masks))) (given-is b)
     ∙ playedAfter-stop m (now (b .args .masks)) r₀ (l .k) q (reasonOf (g .0 .0)) (c .before .before .before .before .before .before .before .before .before .loop-test .taken) (l .inv .0) (cycling t ∙ ap (λ o. finish (cycledOf o after)) (g .1)))
-    _ _ (c .further-to2 .ensures .0) (c .further-to2 .ensures .1 ∙ ap (λ f. f 0 1 (l .cycles)) (x .ensures .1 (g .0 .0) (g .1))) (omega (arith, few (c .before .before .before .before .before .before .before .before .before .before), l .inv .2))
-
-enum-told-2 : tie.Need-enum-told-2 Inv-loop μ-loop
-enum-told-2 c = search needs
+    _ _ (c .further-to2 .ensures .0) (c .further-to2 .ensures .1 ∙ ap (λ f. f 0 (moment 1 (l .cycles))) (x .ensures .1 (g .0 .0) (g .1))) (omega (arith, few (c .before .before .before .before .before .before .before .before .before .before), l .inv .2))
 
 add-cycles : tie.Need-add-cycles Inv-loop μ-loop
 add-cycles c = omega (arith, few (c .before .before .before .before .before .before .before .before .before))
@@ -156,9 +141,9 @@ loop-again c =
     let s = now (b .args .s) in
     let m = automata (readAutomata s) in
     let r = b .args .run in
-    let r₀ = runIn (r .locations) (r .clocks) (r .variables) 0 1 (r .cycles) in
-    let q = runIn (l .locations) (l .clocks) (l .variables) 0 1 (l .cycles) in
-    let after = runIn (x .last .1 .1 .1 .1 .1 .1 .0) (x .last .1 .1 .1 .1 .1 .1 .1 .0) (x .last .1 .1 .1 .1 .1 .1 .1 .1 .0) 0 1 (l .cycles + 1) in
+    let r₀ = runIn (r .locations) (r .clocks) (r .variables) 0 (moment 1 (r .cycles)) in
+    let q = runIn (l .locations) (l .clocks) (l .variables) 0 (moment 1 (l .cycles)) in
+    let after = runIn (x .last .1 .1 .1 .1 .1 .1 .0) (x .last .1 .1 .1 .1 .1 .1 .1 .0) (x .last .1 .1 .1 .1 .1 .1 .1 .1 .0) 0 (moment 1 (l .cycles + 1)) in
     let done = cycling t ∙ ap (λ o. finish (cycledOf o after)) (c .enum-told2 .given .1) in (
       playedAfter-more m (now (b .args .masks)) r₀ (l .k) q after (c .before .before .before .before .before .before .before .before .loop-test .taken) (l .inv .0) done,
       rested-next s (b .args .shape) (b .pre .0 .accepted) (getD (now (b .args .masks)) (l .k) 0) q after done .0,
@@ -168,17 +153,14 @@ loop-again c =
 cast-further-to-3 : tie.Need-cast-further-to-3 Inv-loop μ-loop
 cast-further-to-3 c = omega (arith, few (c .before), c .before .loop .inv .2)
 
-further-to-requires-3 : tie.Need-further-to-requires-3 Inv-loop μ-loop
-further-to-requires-3 c κs = search needs
-
 returns-3 : tie.Need-returns-3 Inv-loop μ-loop
 returns-3 c =
     let b = c .before .before .before .before .before .before .before .before .before in
     let l = c .before .before .loop in
     let m = automata (readAutomata (now (b .args .s))) in
     let r = b .args .run in
-    let r₀ = runIn (r .locations) (r .clocks) (r .variables) 0 1 (r .cycles) in
-    let q = runIn (l .locations) (l .clocks) (l .variables) 0 1 (l .cycles) in
+    let r₀ = runIn (r .locations) (r .clocks) (r .variables) 0 (moment 1 (r .cycles)) in
+    let q = runIn (l .locations) (l .clocks) (l .variables) 0 (moment 1 (l .cycles)) in
     rest-of _ _
     (ap (played m (now (b .args .masks))) (given-is b) ∙ playedAfter-all m (now (b .args .masks)) r₀ (l .k) q (let h = c .before .loop-test .left in omega (arith, h)) (l .inv .0))
     _ _ (c .further-to3 .ensures .0) (c .further-to3 .ensures .1) (omega (arith, few (c .before .before), l .inv .2))
@@ -191,20 +173,20 @@ further-cycles-spec =
     μ-loop
     loop-holds
     cast-further-to
-    further-to-requires
+    (λ c κs. search needs)
     returns
-    mul-cycle-or-none
+    (λ c. search needs)
     shared-slice-read-cycle-or-none
     cycle-or-none-requires
-    enum-told
+    (λ c. search needs)
     cast-further-to-2
-    further-to-requires-2
+    (λ c κs. search needs)
     returns-2
-    enum-told-2
+    (λ c. search needs)
     add-cycles
     add-k
     loop-less
     loop-again
     cast-further-to-3
-    further-to-requires-3
+    (λ c κs. search needs)
     returns-3)

@@ -4,31 +4,19 @@ use Rattle.automata_steps.proofs.IndexRecords.{room-short, room-long}
 use Rattle.automata.proofs.plays.play_in_place.Statement.{statement}
 use Rattle.automata.proofs.plays.play_in_place.Tie as tie
 
-slice-aggregate-play-making-index : tie.Need-slice-aggregate-play-making-index
-slice-aggregate-play-making-index c = search needs
-
 play-making-index-requires : tie.Need-play-making-index-requires
 play-making-index-requires c κs = let b = c .before .before .before .before in (b .pre, room-short _ _ (b .pre .shape) (c .before .if1 .taken))
 
-slice-aggregate-play-making-index-2 : tie.Need-slice-aggregate-play-making-index-2
-slice-aggregate-play-making-index-2 c = search needs
-
 play-making-index-requires-2 : tie.Need-play-making-index-requires-2
 play-making-index-requires-2 c κs = let b = c .before .before .before .before in (b .pre, room-long _ _ (b .pre .shape))
-
-returns : tie.Need-returns
-returns c = search needs
-
-returns-2 : tie.Need-returns-2
-returns-2 c = search needs
 
 pub play-in-place-spec : {M : Type 1} → statement M
 play-in-place-spec =
     tie.close
     (tie.spec
-    slice-aggregate-play-making-index
+    (λ c. search needs)
     play-making-index-requires
-    slice-aggregate-play-making-index-2
+    (λ c. search needs)
     play-making-index-requires-2
-    returns
-    returns-2)
+    (λ c. search needs)
+    (λ c. search needs))

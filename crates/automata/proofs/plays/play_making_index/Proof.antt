@@ -19,11 +19,5 @@ play-with-index-requires c κs =
       has-limits (now (b .args .s)) (b .args .shape) (b .pre .0 .shape) _ _ _ _ room-for-limits (c .before .before .before .before .limits-of .ensures),
     )
 
-same-length : tie.Need-same-length
-same-length c = search needs
-
-returns : tie.Need-returns
-returns c = search needs
-
 pub play-making-index-spec : {M : Type 1} → statement M
-play-making-index-spec = tie.close (tie.spec index-of-requires limits-of-requires play-with-index-requires same-length returns)
+play-making-index-spec = tie.close (tie.spec index-of-requires limits-of-requires play-with-index-requires (λ c. search needs) (λ c. search needs))

@@ -12,10 +12,10 @@ use Rattle.model.specs.Outcome.{settled}
 use Rattle.model.specs.Runs.{Run, cycle}
 use Rattle.model.specs.AutomataTable.{readAutomata}
 use Rattle.model.specs.Automata.{automata}
-use Rattle.machines.specs.Answers.{reasonOf}
+use Rattle.answers.specs.Answers.{reasonOf}
 use Rattle.machines.specs.Playing.{played, stoppedAt}
 use Rattle.machines.proofs.Playing.{playedAfter-none, playedAfter-more, playedAfter-stop, playedAfter-all}
-use Rattle.machines.specs.Worlds.{runIn}
+use Rattle.machines.specs.Worlds.{moment, runIn}
 use Rattle.automata.specs.RunOf.{runOf, Sized}
 use Rattle.automata.specs.TurnOf.{endedOf}
 use Rattle.automata.specs.PlayedOf.{BetweenCycles}
@@ -46,13 +46,10 @@ cycle-after-checks-requires c κs = let b = c .before .before .before .before .b
 
 -- the run that the first cycle left in the places, and the cycle from its answer
 abbrev left : tie.After-cycle-after-checks → Run
-left c = let l = c .cycle-after-checks .last in runIn (l .1 .1 .1 .1 .1 .1 .0) (l .1 .1 .1 .1 .1 .1 .1 .0) (l .1 .1 .1 .1 .1 .1 .1 .1 .0) 0 1 (c .before .before .before .before .before .before .before .before .before .before .before .before .args .run .cycles + 1)
+left c = let l = c .cycle-after-checks .last in runIn (l .1 .1 .1 .1 .1 .1 .0) (l .1 .1 .1 .1 .1 .1 .1 .0) (l .1 .1 .1 .1 .1 .1 .1 .1 .0) 0 (moment 1 (c .before .before .before .before .before .before .before .before .before .before .before .before .args .run .cycles + 1))
 
 cycling : (c : tie.After-cycle-after-checks) → let x = c .before .before .before .before .before .before .before .before .before .before .before .before .args in cycle (automata (readAutomata (now (x .s)))) (getD (now (x .masks)) 0 0) (runOf (x .run)) ≡ endedOf (c .cycle-after-checks .result) (left c)
 cycling c = sym (c .cycle-after-checks .ensures)
-
-enum-told : tie.Need-enum-told
-enum-told c = search needs
 
 -- it was done, and left a run that can go on
 done : (c : tie.After-enum-told) → let x = c .before .before .before .before .before .before .before .before .before .before .before .before .before .before .args in cycle (automata (readAutomata (now (x .s)))) (getD (now (x .masks)) 0 0) (runOf (x .run)) ≡ val (tt, left (c .before .before))
@@ -68,9 +65,6 @@ add-run-in c =
     let d = c .before .before .before .before in
     let b = d .before .before .before .before .before .before .before .before .before .before .before .before .before .before in
     omega (arith, rested-few (now (b .args .s)) (b .args .shape) (b .pre .0 .accepted) (left (d .before .before)) (rests d))
-
-run-in-requires : tie.Need-run-in-requires
-run-in-requires c κs = search needs
 
 sub-further-cycles : tie.Need-sub-further-cycles
 sub-further-cycles c = omega (arith, some-mask (c .before .before .before .before .before .before .before .before .before .before .before .before .before .before .before))
@@ -88,12 +82,6 @@ further-cycles-requires c κs =
 
 add-t30 : tie.Need-add-t30
 add-t30 c = omega (arith, c .before .before .further-cycles .ensures .few)
-
-enum-known-w : tie.Need-enum-known-w
-enum-known-w c = search needs
-
-enum-known-w-2 : tie.Need-enum-known-w-2
-enum-known-w-2 c = search needs
 
 returns-2 : tie.Need-returns-2
 returns-2 c =
@@ -139,16 +127,16 @@ play-with-index-spec =
     returns
     shared-slice-read-cycle-after-checks
     cycle-after-checks-requires
-    enum-told
+    (λ c. search needs)
     add-run-in
-    run-in-requires
+    (λ c κs. search needs)
     sub-further-cycles
     part-further-cycles-start
     part-further-cycles-end
     further-cycles-requires
     add-t30
-    enum-known-w
-    enum-known-w-2
+    (λ c. search needs)
+    (λ c. search needs)
     returns-2
     returns-3
     returns-4)

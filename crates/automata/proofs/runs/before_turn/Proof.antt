@@ -5,14 +5,8 @@ use borrow.Author.Needs.{needs}
 use Rattle.automata.proofs.runs.before_turn.Statement.{statement}
 use Rattle.automata.proofs.runs.before_turn.Tie as tie
 
-is-possible-requires : tie.Need-is-possible-requires
-is-possible-requires c κs = search needs
-
-decide-requires : tie.Need-decide-requires
-decide-requires c κs = search needs
-
 returns : tie.Need-returns
 returns c = let a = c .before .before .before .args in c .decide .ensures ∙ ap (λ b. checkedBy b (a .events) (a .position) (a .cycles)) (c .before .is-possible .ensures)
 
 pub before-turn-spec : {M : Type 1} → statement M
-before-turn-spec = tie.close (tie.spec is-possible-requires decide-requires returns)
+before-turn-spec = tie.close (tie.spec (λ c κs. search needs) (λ c κs. search needs) returns)

@@ -5,9 +5,9 @@ use native.Mathlib.Omega.{arith}
 use borrow.Author.Needs.{needs}
 use denote.Ref.{now}
 use Rattle.model.specs.Limits.{mostClocks}
-use Rattle.automata_files.specs.Places.{clockAt}
-use Rattle.automata_files.proofs.PlacesRead.{most-clocks}
-use Rattle.automata_files.proofs.NamedThings.{ticks-known}
+use Rattle.automata_records.specs.Places.{clockAt}
+use Rattle.automata_records.proofs.PlacesRead.{most-clocks}
+use Rattle.automata_records.proofs.NamedThings.{ticks-known}
 use Rattle.timings.specs.Growth.{grownTo}
 use Rattle.timings.proofs.GrowthBounds.{grownTo-grown}
 use Rattle.automata.proofs.runs.clock_grown.Statement.{statement}

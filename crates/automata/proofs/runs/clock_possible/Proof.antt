@@ -6,15 +6,6 @@ use borrow.Author.Needs.{needs}
 use Rattle.automata.proofs.runs.clock_possible.Statement.{statement}
 use Rattle.automata.proofs.runs.clock_possible.Tie as tie
 
-is-after-requires : tie.Need-is-after-requires
-is-after-requires c κs = search needs
-
-ticks-of-requires : tie.Need-ticks-of-requires
-ticks-of-requires c κs = search needs
-
-top-requires : tie.Need-top-requires
-top-requires c κs = search needs
-
 returns : tie.Need-returns
 returns c =
     let a = c .before .before .before .before .args in
@@ -22,4 +13,4 @@ returns c =
 
 pub clock-possible-spec : {M : Type 1} → statement M
 clock-possible-spec =
-    tie.close (tie.spec is-after-requires ticks-of-requires top-requires returns)
+    tie.close (tie.spec (λ c κs. search needs) (λ c κs. search needs) (λ c κs. search needs) returns)

@@ -8,8 +8,8 @@ use denote.Ref.{now}
 use lib.Dec.{leb}
 use lib.ListN.{getD}
 use Rattle.model.specs.Limits.{mostClocks}
-use Rattle.automata_files.specs.declared.Shape.{Shape}
-use Rattle.automata_files.proofs.PlacesRead.{most-clocks}
+use Rattle.automata_records.specs.declared.Shape.{Shape}
+use Rattle.automata_records.proofs.PlacesRead.{most-clocks}
 use Rattle.automata.specs.RunOf.{topAt}
 use Rattle.prelude.proofs.Loops.{Flagged, flagged-none, flagged-more, flagged-all}
 use Rattle.automata.proofs.runs.clocks_possible.Statement.{statement}
@@ -26,9 +26,6 @@ abbrev μ-loop : tie.MeasureT-loop
 
 loop-holds : tie.Need-loop-holds Inv-loop μ-loop
 loop-holds c = let a = c .before .args in flagged-none (inside (now (a .s)) (a .shape) (now (a .clocks))) (a .shape .clocks)
-
-cast-i : tie.Need-cast-i Inv-loop μ-loop
-cast-i c = search needs
 
 -- a place of the array
 few : (c : tie.Then1 Inv-loop μ-loop) → c .before .before .loop .k < mostClocks
@@ -70,7 +67,7 @@ clocks-possible-spec =
     Inv-loop
     μ-loop
     loop-holds
-    cast-i
+    (λ c. search needs)
     mul-clock-possible
     element-copy-out-clock-possible
     clock-possible-requires

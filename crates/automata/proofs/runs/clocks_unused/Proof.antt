@@ -19,18 +19,6 @@ abbrev μ-loop : tie.MeasureT-loop
 loop-holds : tie.Need-loop-holds Inv-loop μ-loop
 loop-holds c = refl
 
-mul-unused : tie.Need-mul-unused Inv-loop μ-loop
-mul-unused c = search needs
-
-element-copy-out-unused : tie.Need-element-copy-out-unused Inv-loop μ-loop
-element-copy-out-unused c = search needs
-
-add-k : tie.Need-add-k Inv-loop μ-loop
-add-k c = search needs
-
-loop-less : tie.Need-loop-less Inv-loop μ-loop
-loop-less c = search needs
-
 loop-again : tie.Need-loop-again Inv-loop μ-loop
 loop-again c =
     let b = c .before .before .before in
@@ -44,4 +32,4 @@ returns c =
     by-all (λ x. eqb x 0) 0 (b .args .count) (now (b .args .clocks)) (l .unused) (l .k) (l .inv) (omega (arith, b .pre))
 
 pub clocks-unused-spec : {M : Type 1} → statement M
-clocks-unused-spec = tie.close (tie.spec Inv-loop μ-loop loop-holds mul-unused element-copy-out-unused add-k loop-less loop-again returns)
+clocks-unused-spec = tie.close (tie.spec Inv-loop μ-loop loop-holds (λ c. search needs) (λ c. search needs) (λ c. search needs) (λ c. search needs) loop-again returns)

@@ -9,9 +9,9 @@ use borrow.Author.Tests.{le-ltb}
 use denote.Ref.{now}
 use lib.ListN.{getD}
 use Rattle.model.specs.Automata.{grown}
-use Rattle.automata_files.specs.declared.Shape.{Shape}
-use Rattle.automata_files.specs.Places.{clockAt}
-use Rattle.automata_files.proofs.PlacesRead.{most-clocks}
+use Rattle.automata_records.specs.declared.Shape.{Shape}
+use Rattle.automata_records.specs.Places.{clockAt}
+use Rattle.automata_records.proofs.PlacesRead.{most-clocks}
 use Rattle.prelude.proofs.Filled.{Filled, filled-none, filled-more, filled-mapped}
 use Rattle.automata.proofs.runs.grow.Statement.{statement}
 use Rattle.automata.proofs.runs.grow.Tie as tie
@@ -29,9 +29,6 @@ loop-holds : tie.Need-loop-holds Inv-loop μ-loop
 loop-holds c =
     let a = c .before .args in
     (omega arith, filled-none (λ j. more (now (a .s)) (a .shape) j (getD (now (a .clocks)) j 0)) 0 (now (a .clocks)))
-
-cast-i : tie.Need-cast-i Inv-loop μ-loop
-cast-i c = search needs
 
 -- a place of the array
 few : (c : tie.Then1 Inv-loop μ-loop) → c .before .before .loop .k ≤ 255
@@ -95,7 +92,7 @@ grow-spec =
     Inv-loop
     μ-loop
     loop-holds
-    cast-i
+    (λ c. search needs)
     mul-clock-grown
     element-copy-out-clock-grown
     clock-grown-requires

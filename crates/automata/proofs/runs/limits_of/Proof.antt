@@ -5,10 +5,10 @@ use Prim.Native.Nat.{ℕ, _-_, _≤_}
 use native.Mathlib.Omega.{arith}
 use borrow.Author.Needs.{needs}
 use denote.Ref.{now}
-use Rattle.automata_files.specs.declared.Shape.{Shape}
-use Rattle.automata_files.specs.Places.{clockAt}
-use Rattle.automata_files.proofs.PlacesRead.{most-clocks}
-use Rattle.automata_files.proofs.NamedThings.{ticks-known}
+use Rattle.automata_records.specs.declared.Shape.{Shape}
+use Rattle.automata_records.specs.Places.{clockAt}
+use Rattle.automata_records.proofs.PlacesRead.{most-clocks}
+use Rattle.automata_records.proofs.NamedThings.{ticks-known}
 use Rattle.prelude.proofs.Filled.{Filled, filled-none, filled-more, filled-mapped}
 use Rattle.timings.specs.Growth.{turnFor, capFor}
 use Rattle.automata.proofs.runs.limits_of.Statement.{statement}
@@ -31,35 +31,17 @@ loop-holds c =
     let a = c .before .args in
     (omega arith, filled-none (turns (now (a .s)) (a .shape)) 0 (now (a .turn)), filled-none (caps (now (a .s)) (a .shape)) 0 (now (a .cap)))
 
-cast-i : tie.Need-cast-i Inv-loop μ-loop
-cast-i c = search needs
-
-is-after-requires : tie.Need-is-after-requires Inv-loop μ-loop
-is-after-requires c κs = search needs
-
-ticks-of-requires : tie.Need-ticks-of-requires Inv-loop μ-loop
-ticks-of-requires c κs = search needs
-
 -- a place of the array
 few : (c : tie.Then1 Inv-loop μ-loop) → c .before .before .loop .k ≤ 255
 few c =
     let b = c .before .before .before .before in
     omega (arith, c .if1 .taken, most-clocks (now (b .args .s)) (b .args .shape) (b .pre .0 .shape))
 
-turn-for-requires : tie.Need-turn-for-requires Inv-loop μ-loop
-turn-for-requires c κs = search needs
-
 mul-turn : tie.Need-mul-turn Inv-loop μ-loop
 mul-turn c = omega (arith, few (c .before .before .before))
 
 element-write-turn : tie.Need-element-write-turn Inv-loop μ-loop
 element-write-turn c = omega (arith, few (c .before .before .before))
-
-is-after-requires-2 : tie.Need-is-after-requires-2 Inv-loop μ-loop
-is-after-requires-2 c κs = search needs
-
-ticks-of-requires-2 : tie.Need-ticks-of-requires-2 Inv-loop μ-loop
-ticks-of-requires-2 c κs = search needs
 
 cap-for-requires : tie.Need-cap-for-requires Inv-loop μ-loop
 cap-for-requires c κs =
@@ -106,14 +88,14 @@ limits-of-spec =
     Inv-loop
     μ-loop
     loop-holds
-    cast-i
-    is-after-requires
-    ticks-of-requires
-    turn-for-requires
+    (λ c. search needs)
+    (λ c κs. search needs)
+    (λ c κs. search needs)
+    (λ c κs. search needs)
     mul-turn
     element-write-turn
-    is-after-requires-2
-    ticks-of-requires-2
+    (λ c κs. search needs)
+    (λ c κs. search needs)
     cap-for-requires
     mul-cap
     element-write-cap

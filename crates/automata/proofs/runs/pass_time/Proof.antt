@@ -11,8 +11,5 @@ limits-of-requires c κs = (c .before .before .before .pre .0, room-for-limits)
 grow-requires : tie.Need-grow-requires
 grow-requires c κs = let b = c .before .before .before .before .before .before .before in ((b .pre .0, has-limits (now (b .args .s)) (b .args .shape) (b .pre .0 .shape) _ _ _ _ room-for-limits (c .before .before .before .limits-of .ensures)), b .pre .1)
 
-returns : tie.Need-returns
-returns c = search needs
-
 pub pass-time-spec : {M : Type 1} → statement M
-pass-time-spec = tie.close (tie.spec limits-of-requires grow-requires returns)
+pass-time-spec = tie.close (tie.spec limits-of-requires grow-requires (λ c. search needs))

@@ -7,7 +7,7 @@ use lib.ListN.{replicate}
 use Rattle.model.specs.Limits.{mostClocks}
 use Rattle.prelude.specs.Lists.{upto, padded}
 use Rattle.prelude.proofs.Maps.{map-map}
-use Rattle.automata_files.proofs.PlacesRead.{most-automata, initial-are}
+use Rattle.automata_records.proofs.PlacesRead.{most-automata, initial-are}
 use Rattle.machines.specs.Files.{variableIn}
 use Rattle.automata_steps.proofs.ValuesRead.{has-values, variables-in}
 use borrow.Author.Needs.{needs}
@@ -16,9 +16,6 @@ use Rattle.automata.proofs.runs.start.Tie as tie
 
 initial-places-requires : tie.Need-initial-places-requires
 initial-places-requires c κs = let b = c .before in most-automata (now (b .args .s)) (b .args .shape) (b .pre)
-
-values-of-requires : tie.Need-values-of-requires
-values-of-requires c κs = search needs
 
 start-values-requires : tie.Need-start-values-requires
 start-values-requires c κs = let b = c .before .before .before in has-values (now (b .args .s)) (b .args .shape) (b .pre) (c .values-of .result) (c .values-of .ensures)
@@ -37,4 +34,4 @@ returns c =
 
 pub start-spec : {M : Type 1} → statement M
 start-spec =
-    tie.close (tie.spec initial-places-requires values-of-requires start-values-requires returns)
+    tie.close (tie.spec initial-places-requires (λ c κs. search needs) start-values-requires returns)

@@ -4,8 +4,8 @@ use denote.Ref.{now}
 use Rattle.records.specs.Refusal.{val}
 use Rattle.model.specs.Outcome.{Outcome, settled}
 use Rattle.model.specs.Runs as M
-use Rattle.machines.specs.declared.answers.Answer.{Answer}
-use Rattle.machines.specs.Worlds.{runIn}
+use Rattle.answers.specs.declared.Answer.{Answer}
+use Rattle.machines.specs.Worlds.{moment, runIn}
 use Rattle.automata.specs.RunOf.{runOf}
 use Rattle.automata.specs.TurnOf.{takenOf}
 use borrow.Author.Needs.{needs}
@@ -14,31 +14,7 @@ use Rattle.automata.proofs.turns.settle_turn.Tie as tie
 
 -- what is promised, by the answer
 abbrev settles : tie.Start → Answer → Outcome M.Answer M.Run
-settles c a = let x = c .args in settled (runOf (x .lent)) (takenOf a (runIn (now (x .locations)) (now (x .clocks)) (now (x .vars)) (x .events) (x .position) (x .cycles)))
-
-enum-known-answer : tie.Need-enum-known-answer
-enum-known-answer c = search needs
-
-run-in-requires : tie.Need-run-in-requires
-run-in-requires c κs = search needs
-
-enum-told : tie.Need-enum-told
-enum-told c = search needs
-
-run-in-requires-2 : tie.Need-run-in-requires-2
-run-in-requires-2 c κs = search needs
-
-enum-told-2 : tie.Need-enum-told-2
-enum-told-2 c = search needs
-
-run-in-requires-3 : tie.Need-run-in-requires-3
-run-in-requires-3 c κs = search needs
-
-enum-known-answer-2 : tie.Need-enum-known-answer-2
-enum-known-answer-2 c = search needs
-
-enum-known-answer-3 : tie.Need-enum-known-answer-3
-enum-known-answer-3 c = search needs
+settles c a = let x = c .args in settled (runOf (x .lent)) (takenOf a (runIn (now (x .locations)) (now (x .clocks)) (now (x .vars)) (x .events) (moment (x .position) (x .cycles))))
 
 returns : tie.Need-returns
 returns c =
@@ -61,14 +37,14 @@ pub settle-turn-spec : {M : Type 1} → statement M
 settle-turn-spec =
     tie.close
     (tie.spec
-    enum-known-answer
-    run-in-requires
-    enum-told
-    run-in-requires-2
-    enum-told-2
-    run-in-requires-3
-    enum-known-answer-2
-    enum-known-answer-3
+    (λ c. search needs)
+    (λ c κs. search needs)
+    (λ c. search needs)
+    (λ c κs. search needs)
+    (λ c. search needs)
+    (λ c κs. search needs)
+    (λ c. search needs)
+    (λ c. search needs)
     returns
     returns-2
     returns-3

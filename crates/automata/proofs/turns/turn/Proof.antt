@@ -6,14 +6,8 @@ use borrow.Author.Needs.{needs}
 use Rattle.automata.proofs.turns.turn.Statement.{statement}
 use Rattle.automata.proofs.turns.turn.Tie as tie
 
-turn-in-place-requires : tie.Need-turn-in-place-requires
-turn-in-place-requires c κs = search needs
-
-settle-turn-requires : tie.Need-settle-turn-requires
-settle-turn-requires c κs = search needs
-
 returns : tie.Need-returns
 returns c = c .settle-turn .ensures ∙ ap (settled (runOf (c .before .before .before .before .before .before .before .before .before .before .before .before .before .before .before .before .args .run))) (c .before .before .before .before .turn-in-place .ensures)
 
 pub turn-spec : {M : Type 1} → statement M
-turn-spec = tie.close (tie.spec turn-in-place-requires settle-turn-requires returns)
+turn-spec = tie.close (tie.spec (λ c κs. search needs) (λ c κs. search needs) returns)

@@ -7,7 +7,7 @@ use Rattle.model.specs.Runs.{Run, checked, stepped}
 use Rattle.model.specs.AutomataTable.{readAutomata}
 use Rattle.model.specs.Automata.{automata}
 use Rattle.machines.specs.Checks.{beforeOf}
-use Rattle.machines.specs.Worlds.{runIn}
+use Rattle.machines.specs.Worlds.{moment, runIn}
 use Rattle.automata.specs.TurnOf.{Ready}
 use Rattle.machines.proofs.Turns.{turn-refused, turn-fine}
 use Rattle.automata.proofs.TurnOf.{ready}
@@ -15,21 +15,9 @@ use borrow.Author.Needs.{needs}
 use Rattle.automata.proofs.turns.turn_in_place.Statement.{statement}
 use Rattle.automata.proofs.turns.turn_in_place.Tie as tie
 
-before-turn-requires : tie.Need-before-turn-requires
-before-turn-requires c κs = search needs
-
-enum-known-w : tie.Need-enum-known-w
-enum-known-w c = search needs
-
-enum-told : tie.Need-enum-told
-enum-told c = search needs
-
-events-given-requires : tie.Need-events-given-requires
-events-given-requires c κs = search needs
-
 -- the run, and that it passed the checks
 abbrev lent : tie.Start → Run
-lent c = let x = c .args in runIn (now (x .locations)) (now (x .clocks)) (now (x .vars)) (now (x .present)) (now (x .position)) (now (x .cycles))
+lent c = let x = c .args in runIn (now (x .locations)) (now (x .clocks)) (now (x .vars)) (now (x .present)) (moment (now (x .position)) (now (x .cycles)))
 
 passed : (c : tie.After-enum-told) → let b = c .before .before .before .before .before .before .before .before .before .before .before in checked (automata (readAutomata (now (b .args .s)))) (b .args .events) (lent b) ≡ val tt
 passed c = sym (c .before .before .before-turn .ensures) ∙ ap beforeOf (c .enum-told .given .1)
@@ -41,7 +29,7 @@ turn-taken-requires c κs =
     let x = b .args in (
       b .pre .0,
       (
-        subst (λ e. Ready (x .shape) (runIn (now (x .locations)) (now (x .clocks)) (now (x .vars)) e (now (x .position)) (now (x .cycles)))) (sym (c .before .before .before .before .before .before .events-given .ensures)) (ready (now (x .s)) (x .shape) (b .pre .0 .accepted) (x .events) (lent b) (passed d)),
+        subst (λ e. Ready (x .shape) (runIn (now (x .locations)) (now (x .clocks)) (now (x .vars)) e (moment (now (x .position)) (now (x .cycles))))) (sym (c .before .before .before .before .before .before .events-given .ensures)) (ready (now (x .s)) (x .shape) (b .pre .0 .accepted) (x .events) (lent b) (passed d)),
         b .pre .1 .1,
       ),
     )
@@ -59,8 +47,8 @@ returns-2 c =
     let x = b .args in
     let m = automata (readAutomata (now (x .s))) in
     c .turn-taken .ensures
-    ∙ ap (λ e. stepped m (runIn (now (x .locations)) (now (x .clocks)) (now (x .vars)) e (now (x .position)) (now (x .cycles)))) (c .before .before .before .before .before .before .before .events-given .ensures)
+    ∙ ap (λ e. stepped m (runIn (now (x .locations)) (now (x .clocks)) (now (x .vars)) e (moment (now (x .position)) (now (x .cycles))))) (c .before .before .before .before .before .before .before .events-given .ensures)
     ∙ sym (turn-fine m (x .events) (lent b) (passed d))
 
 pub turn-in-place-spec : {M : Type 1} → statement M
-turn-in-place-spec = tie.close (tie.spec before-turn-requires enum-known-w enum-told events-given-requires turn-taken-requires returns returns-2)
+turn-in-place-spec = tie.close (tie.spec (λ c κs. search needs) (λ c. search needs) (λ c. search needs) (λ c κs. search needs) turn-taken-requires returns returns-2)

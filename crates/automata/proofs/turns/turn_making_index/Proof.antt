@@ -7,14 +7,5 @@ use Rattle.automata.proofs.turns.turn_making_index.Tie as tie
 index-of-requires : tie.Need-index-of-requires
 index-of-requires c κs = (search needs, (blank, search needs))
 
-turn-requires : tie.Need-turn-requires
-turn-requires c κs = search needs
-
-same-length : tie.Need-same-length
-same-length c = search needs
-
-returns : tie.Need-returns
-returns c = search needs
-
 pub turn-making-index-spec : {M : Type 1} → statement M
-turn-making-index-spec = tie.close (tie.spec index-of-requires turn-requires same-length returns)
+turn-making-index-spec = tie.close (tie.spec index-of-requires (λ c κs. search needs) (λ c. search needs) (λ c. search needs))

@@ -24,30 +24,6 @@ table r =
     ∷ (40, deedInCode (byte r 1) (byte r 4))
     ∷ []
 
-byte-at-requires : tie.Need-byte-at-requires
-byte-at-requires c κs = search needs
-
-byte-at-requires-2 : tie.Need-byte-at-requires-2
-byte-at-requires-2 c κs = search needs
-
-byte-at-requires-3 : tie.Need-byte-at-requires-3
-byte-at-requires-3 c κs = search needs
-
-literal-in-code-requires : tie.Need-literal-in-code-requires
-literal-in-code-requires c κs = search needs
-
-variable-in-code-requires : tie.Need-variable-in-code-requires
-variable-in-code-requires c κs = search needs
-
-node-in-code-requires : tie.Need-node-in-code-requires
-node-in-code-requires c κs = search needs
-
-byte-at-requires-4 : tie.Need-byte-at-requires-4
-byte-at-requires-4 c κs = search needs
-
-deed-in-code-requires : tie.Need-deed-in-code-requires
-deed-in-code-requires c κs = search needs
-
 returns : tie.Need-returns
 unfolding caseOf
 returns c =
@@ -98,14 +74,14 @@ pub in-code-spec : {M : Type 1} → statement M
 in-code-spec =
     tie.close
     (tie.spec
-    byte-at-requires
-    byte-at-requires-2
-    byte-at-requires-3
-    literal-in-code-requires
-    variable-in-code-requires
-    node-in-code-requires
-    byte-at-requires-4
-    deed-in-code-requires
+    (λ c κs. search needs)
+    (λ c κs. search needs)
+    (λ c κs. search needs)
+    (λ c κs. search needs)
+    (λ c κs. search needs)
+    (λ c κs. search needs)
+    (λ c κs. search needs)
+    (λ c κs. search needs)
     returns
     returns-2
     returns-3

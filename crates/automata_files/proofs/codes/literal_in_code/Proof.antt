@@ -9,18 +9,6 @@ use borrow.Author.Needs.{needs}
 use Rattle.automata_files.proofs.codes.literal_in_code.Statement.{statement}
 use Rattle.automata_files.proofs.codes.literal_in_code.Tie as tie
 
-byte-at-requires : tie.Need-byte-at-requires
-byte-at-requires c κs = search needs
-
-byte-at-requires-2 : tie.Need-byte-at-requires-2
-byte-at-requires-2 c κs = search needs
-
-byte-at-requires-3 : tie.Need-byte-at-requires-3
-byte-at-requires-3 c κs = search needs
-
-literal-trigger-in-code-requires : tie.Need-literal-trigger-in-code-requires
-literal-trigger-in-code-requires c κs = search needs
-
 returns : tie.Need-returns
 returns c =
     let p = c .before .before .before .byte-at .ensures in
@@ -32,8 +20,8 @@ pub literal-in-code-spec : {M : Type 1} → statement M
 literal-in-code-spec =
     tie.close
     (tie.spec
-    byte-at-requires
-    byte-at-requires-2
-    byte-at-requires-3
-    literal-trigger-in-code-requires
+    (λ c κs. search needs)
+    (λ c κs. search needs)
+    (λ c κs. search needs)
+    (λ c κs. search needs)
     returns)

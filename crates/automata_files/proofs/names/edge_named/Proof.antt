@@ -5,18 +5,6 @@ use borrow.Author.Needs.{needs}
 use Rattle.automata_files.proofs.names.edge_named.Statement.{statement}
 use Rattle.automata_files.proofs.names.edge_named.Tie as tie
 
-automaton-of-requires : tie.Need-automaton-of-requires
-automaton-of-requires c κs = search needs
-
-cast-result : tie.Need-cast-result
-cast-result c = search needs
-
-source-of-requires : tie.Need-source-of-requires
-source-of-requires c κs = search needs
-
-target-of-requires : tie.Need-target-of-requires
-target-of-requires c κs = search needs
-
 returns : tie.Need-returns
 returns c =
     let sh = c .before .before .before .before .before .before .before .args .shape in
@@ -28,4 +16,4 @@ returns c =
 pub edge-named-spec : {M : Type 1} → statement M
 edge-named-spec =
     tie.close
-    (tie.spec automaton-of-requires cast-result source-of-requires target-of-requires returns)
+    (tie.spec (λ c κs. search needs) (λ c. search needs) (λ c κs. search needs) (λ c κs. search needs) returns)

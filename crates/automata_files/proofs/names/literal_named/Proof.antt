@@ -8,21 +8,6 @@ use borrow.Author.Needs.{needs}
 use Rattle.automata_files.proofs.names.literal_named.Statement.{statement}
 use Rattle.automata_files.proofs.names.literal_named.Tie as tie
 
-literal-edge-requires : tie.Need-literal-edge-requires
-literal-edge-requires c κs = search needs
-
-literal-trigger-of-requires : tie.Need-literal-trigger-of-requires
-literal-trigger-of-requires c κs = search needs
-
-literal-trigger-named-requires : tie.Need-literal-trigger-named-requires
-literal-trigger-named-requires c κs = search needs
-
-guard-of-requires : tie.Need-guard-of-requires
-guard-of-requires c κs = search needs
-
-guard-named-requires : tie.Need-guard-named-requires
-guard-named-requires c κs = search needs
-
 returns : tie.Need-returns
 returns c =
     let sh = c .before .before .before .before .before .before .before .args .shape in
@@ -35,9 +20,9 @@ pub literal-named-spec : {M : Type 1} → statement M
 literal-named-spec =
     tie.close
     (tie.spec
-    literal-edge-requires
-    literal-trigger-of-requires
-    literal-trigger-named-requires
-    guard-of-requires
-    guard-named-requires
+    (λ c κs. search needs)
+    (λ c κs. search needs)
+    (λ c κs. search needs)
+    (λ c κs. search needs)
+    (λ c κs. search needs)
     returns)

@@ -5,16 +5,10 @@ use borrow.Author.Needs.{needs}
 use Rattle.automata_files.proofs.names.reset_named.Statement.{statement}
 use Rattle.automata_files.proofs.names.reset_named.Tie as tie
 
-reset-edge-requires : tie.Need-reset-edge-requires
-reset-edge-requires c κs = search needs
-
-reset-clock-requires : tie.Need-reset-clock-requires
-reset-clock-requires c κs = search needs
-
 returns : tie.Need-returns
 returns c =
     let sh = c .before .before .before .before .before .args .shape in
     λ i. ltb (c .before .before .before .reset-edge .ensures i) (sh .edges) && ltb (c .before .reset-clock .ensures i) (sh .clocks)
 
 pub reset-named-spec : {M : Type 1} → statement M
-reset-named-spec = tie.close (tie.spec reset-edge-requires reset-clock-requires returns)
+reset-named-spec = tie.close (tie.spec (λ c κs. search needs) (λ c κs. search needs) returns)

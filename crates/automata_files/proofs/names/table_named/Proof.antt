@@ -5,32 +5,11 @@ use Rattle.expressions.specs.Nodes.{nodeAt}
 use Rattle.expressions.specs.Sorts.{nodesNamed, operandsFit}
 use Rattle.expressions.specs.Verdicts.{saysNamed}
 use Rattle.expressions.proofs.Verdicts.{named-said}
-use Rattle.automata_files.specs.Places.{nodePart}
-use Rattle.automata_files.proofs.StructureTests.{named-is}
+use Rattle.automata_records.specs.Places.{nodePart}
+use Rattle.automata_records.proofs.NamedTests.{named-is}
 use borrow.Author.Needs.{needs}
 use Rattle.automata_files.proofs.names.table_named.Statement.{statement}
 use Rattle.automata_files.proofs.names.table_named.Tie as tie
-
-initials-named-requires : tie.Need-initials-named-requires
-initials-named-requires c κs = search needs
-
-homes-named-requires : tie.Need-homes-named-requires
-homes-named-requires c κs = search needs
-
-edges-named-requires : tie.Need-edges-named-requires
-edges-named-requires c κs = search needs
-
-literals-named-requires : tie.Need-literals-named-requires
-literals-named-requires c κs = search needs
-
-says-named-requires : tie.Need-says-named-requires
-says-named-requires c κs = search needs
-
-updates-named-requires : tie.Need-updates-named-requires
-updates-named-requires c κs = search needs
-
-resets-named-requires : tie.Need-resets-named-requires
-resets-named-requires c κs = search needs
 
 returns : tie.Need-returns
 returns c =
@@ -52,11 +31,11 @@ pub table-named-spec : {M : Type 1} → statement M
 table-named-spec =
     tie.close
     (tie.spec
-    initials-named-requires
-    homes-named-requires
-    edges-named-requires
-    literals-named-requires
-    says-named-requires
-    updates-named-requires
-    resets-named-requires
+    (λ c κs. search needs)
+    (λ c κs. search needs)
+    (λ c κs. search needs)
+    (λ c κs. search needs)
+    (λ c κs. search needs)
+    (λ c κs. search needs)
+    (λ c κs. search needs)
     returns)

@@ -7,15 +7,6 @@ use borrow.Author.Needs.{needs}
 use Rattle.automata_files.proofs.names.update_named.Statement.{statement}
 use Rattle.automata_files.proofs.names.update_named.Tie as tie
 
-update-edge-requires : tie.Need-update-edge-requires
-update-edge-requires c κs = search needs
-
-deed-of-requires : tie.Need-deed-of-requires
-deed-of-requires c κs = search needs
-
-deed-named-requires : tie.Need-deed-named-requires
-deed-named-requires c κs = search needs
-
 returns : tie.Need-returns
 returns c =
     let sh = c .before .before .before .before .before .args .shape in
@@ -23,4 +14,4 @@ returns c =
 
 pub update-named-spec : {M : Type 1} → statement M
 update-named-spec =
-    tie.close (tie.spec update-edge-requires deed-of-requires deed-named-requires returns)
+    tie.close (tie.spec (λ c κs. search needs) (λ c κs. search needs) (λ c κs. search needs) returns)

@@ -5,7 +5,7 @@ use native.Mathlib.Omega.{arith}
 use borrow.Author.Tests.{not-true, not-false}
 use denote.Ref.{now}
 use Rattle.prelude.proofs.Loops.{Passed, passed-none, passed-more, passed-all, passed-not}
-use Rattle.automata_files.specs.Names.{updateNamed}
+use Rattle.automata_records.specs.Names.{updateNamed}
 use Rattle.automata_files.proofs.names.updates_named.Statement.{statement}
 use Rattle.automata_files.proofs.names.updates_named.Tie as tie
 
@@ -17,9 +17,6 @@ abbrev μ-loop : tie.MeasureT-loop
 
 loop-holds : tie.Need-loop-holds Inv-loop μ-loop
 loop-holds c = let a = c .before .args in passed-none (updateNamed (now (a .s)) (a .shape)) (a .shape .updates)
-
-update-named-requires : tie.Need-update-named-requires Inv-loop μ-loop
-update-named-requires c κs = tt
 
 returns : tie.Need-returns Inv-loop μ-loop
 returns c =
@@ -46,4 +43,4 @@ returns-2 c =
     sym (passed-all (updateNamed (now (a .s)) (a .shape)) (a .shape .updates) (c .before .loop .u) (c .before .loop .inv) (c .loop-test .left))
 
 pub updates-named-spec : {M : Type 1} → statement M
-updates-named-spec = tie.close (tie.spec Inv-loop μ-loop loop-holds update-named-requires returns add-u loop-less loop-again returns-2)
+updates-named-spec = tie.close (tie.spec Inv-loop μ-loop loop-holds (λ c κs. tt) returns add-u loop-less loop-again returns-2)

@@ -7,9 +7,9 @@ use denote.Ref.{now}
 use Rattle.expressions.specs.Nodes.{nodeAt}
 use Rattle.prelude.proofs.Loops.{Passed, passed-none, passed-more, passed-all, passed-not}
 use Rattle.model.specs.ChartFile.{assignedNodes}
-use Rattle.chart_files.specs.Used.{numbers}
-use Rattle.automata_files.specs.Places.{nodePart}
-use Rattle.automata_files.specs.Structure.{assignedAt}
+use Rattle.chart_checks.specs.Used.{numbers}
+use Rattle.automata_records.specs.Places.{nodePart}
+use Rattle.automata_records.specs.Structure.{assignedAt}
 use Rattle.automata_files.proofs.nodes.assigned_fit.Statement.{statement}
 use Rattle.automata_files.proofs.nodes.assigned_fit.Tie as tie
 
@@ -24,12 +24,6 @@ node-records-requires c κs = c .before .pre
 
 loop-holds : tie.Need-loop-holds Inv-loop μ-loop
 loop-holds c = let b = c .before .before in passed-none (λ x. numbers (nodeAt (nodePart (now (b .args .s)) (b .args .shape))) (assignedAt (now (b .args .s)) (b .args .shape) x)) (b .args .shape .updates)
-
-deed-of-requires : tie.Need-deed-of-requires Inv-loop μ-loop
-deed-of-requires c κs = tt
-
-deed-sorted-requires : tie.Need-deed-sorted-requires Inv-loop μ-loop
-deed-sorted-requires c κs = tt
 
 returns : tie.Need-returns Inv-loop μ-loop
 returns c =
@@ -56,4 +50,4 @@ returns-2 c =
     sym (passed-all (λ x. numbers (nodeAt (nodePart (now (b .args .s)) (b .args .shape))) (assignedAt (now (b .args .s)) (b .args .shape) x)) (b .args .shape .updates) (c .before .loop .u) (c .before .loop .inv) (c .loop-test .left))
 
 pub assigned-fit-spec : {M : Type 1} → statement M
-assigned-fit-spec = tie.close (tie.spec Inv-loop μ-loop node-records-requires loop-holds deed-of-requires deed-sorted-requires returns add-u loop-less loop-again returns-2)
+assigned-fit-spec = tie.close (tie.spec Inv-loop μ-loop node-records-requires loop-holds (λ c κs. tt) (λ c κs. tt) returns add-u loop-less loop-again returns-2)

@@ -7,9 +7,9 @@ use denote.Ref.{now}
 use Rattle.expressions.specs.Nodes.{nodeAt}
 use Rattle.prelude.proofs.Loops.{Passed, passed-none, passed-more, passed-all, passed-not}
 use Rattle.model.specs.ChartFile.{guardNodes}
-use Rattle.chart_files.specs.Used.{truths}
-use Rattle.automata_files.specs.Places.{nodePart}
-use Rattle.automata_files.specs.Structure.{guardAt}
+use Rattle.chart_checks.specs.Used.{truths}
+use Rattle.automata_records.specs.Places.{nodePart}
+use Rattle.automata_records.specs.Structure.{guardAt}
 use Rattle.automata_files.proofs.nodes.guards_fit.Statement.{statement}
 use Rattle.automata_files.proofs.nodes.guards_fit.Tie as tie
 
@@ -24,12 +24,6 @@ node-records-requires c κs = c .before .pre
 
 loop-holds : tie.Need-loop-holds Inv-loop μ-loop
 loop-holds c = let b = c .before .before in passed-none (λ x. truths (nodeAt (nodePart (now (b .args .s)) (b .args .shape))) (guardAt (now (b .args .s)) (b .args .shape) x)) (b .args .shape .literals)
-
-guard-of-requires : tie.Need-guard-of-requires Inv-loop μ-loop
-guard-of-requires c κs = tt
-
-guard-sorted-requires : tie.Need-guard-sorted-requires Inv-loop μ-loop
-guard-sorted-requires c κs = tt
 
 returns : tie.Need-returns Inv-loop μ-loop
 returns c =
@@ -56,4 +50,4 @@ returns-2 c =
     sym (passed-all (λ x. truths (nodeAt (nodePart (now (b .args .s)) (b .args .shape))) (guardAt (now (b .args .s)) (b .args .shape) x)) (b .args .shape .literals) (c .before .loop .l) (c .before .loop .inv) (c .loop-test .left))
 
 pub guards-fit-spec : {M : Type 1} → statement M
-guards-fit-spec = tie.close (tie.spec Inv-loop μ-loop node-records-requires loop-holds guard-of-requires guard-sorted-requires returns add-l loop-less loop-again returns-2)
+guards-fit-spec = tie.close (tie.spec Inv-loop μ-loop node-records-requires loop-holds (λ c κs. tt) (λ c κs. tt) returns add-l loop-less loop-again returns-2)

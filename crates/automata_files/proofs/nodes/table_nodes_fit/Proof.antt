@@ -11,21 +11,12 @@ use Rattle.expressions.specs.Verdicts.{saysFit}
 use Rattle.expressions.specs.Uses.{allOperands}
 use Rattle.expressions.proofs.Uses.{adds-length}
 use Rattle.expressions.proofs.Verdicts.{fit-said}
-use Rattle.automata_files.specs.Places.{nodePart}
-use Rattle.automata_files.proofs.PlacesRead.{most-nodes}
+use Rattle.automata_records.specs.Places.{nodePart}
+use Rattle.automata_records.proofs.PlacesRead.{most-nodes}
 use Rattle.automata_files.proofs.StructureTests.{nodes-is, used-is}
 use borrow.Author.Needs.{needs}
 use Rattle.automata_files.proofs.nodes.table_nodes_fit.Statement.{statement}
 use Rattle.automata_files.proofs.nodes.table_nodes_fit.Tie as tie
-
-says-fit-requires : tie.Need-says-fit-requires
-says-fit-requires c κs = search needs
-
-guards-fit-requires : tie.Need-guards-fit-requires
-guards-fit-requires c κs = search needs
-
-assigned-fit-requires : tie.Need-assigned-fit-requires
-assigned-fit-requires c κs = search needs
 
 none-twice-requires : tie.Need-none-twice-requires
 none-twice-requires c κs =
@@ -48,8 +39,8 @@ pub table-nodes-fit-spec : {M : Type 1} → statement M
 table-nodes-fit-spec =
     tie.close
     (tie.spec
-    says-fit-requires
-    guards-fit-requires
-    assigned-fit-requires
+    (λ c κs. search needs)
+    (λ c κs. search needs)
+    (λ c κs. search needs)
     none-twice-requires
     returns)

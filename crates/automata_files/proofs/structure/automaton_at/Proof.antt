@@ -5,12 +5,9 @@ use borrow.Author.Needs.{needs}
 use denote.Ref.{now}
 use lib.ListN.{List·getD-eq-default}
 use Rattle.model.specs.AutomataTable.{readAutomata}
-use Rattle.automata_files.proofs.PlacesRead.{home-is, length-homes}
+use Rattle.automata_records.proofs.PlacesRead.{home-is, length-homes}
 use Rattle.automata_files.proofs.structure.automaton_at.Statement.{statement}
 use Rattle.automata_files.proofs.structure.automaton_at.Tie as tie
-
-home-of-requires : tie.Need-home-of-requires
-home-of-requires c κs = search needs
 
 returns : tie.Need-returns
 returns c =
@@ -23,4 +20,4 @@ returns-2 c =
     sym (List·getD-eq-default (readAutomata (now (b .args .s)) .homes) 0 (omega (arith, length-homes (now (b .args .s)) (b .args .shape) (b .pre), c .if1 .left)))
 
 pub automaton-at-spec : {M : Type 1} → statement M
-automaton-at-spec = tie.close (tie.spec home-of-requires returns returns-2)
+automaton-at-spec = tie.close (tie.spec (λ c κs. search needs) returns returns-2)

@@ -6,11 +6,8 @@ use borrow.Author.Needs.{needs}
 use Rattle.automata_files.proofs.structure.clock_ticks.Statement.{statement}
 use Rattle.automata_files.proofs.structure.clock_ticks.Tie as tie
 
-ticks-of-requires : tie.Need-ticks-of-requires
-ticks-of-requires c κs = search needs
-
 returns : tie.Need-returns
 returns c = ap (between 1 mostTicks) (c .ticks-of .ensures)
 
 pub clock-ticks-spec : {M : Type 1} → statement M
-clock-ticks-spec = tie.close (tie.spec ticks-of-requires returns)
+clock-ticks-spec = tie.close (tie.spec (λ c κs. search needs) returns)

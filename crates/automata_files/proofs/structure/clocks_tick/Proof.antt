@@ -5,8 +5,8 @@ use native.Mathlib.Omega.{arith}
 use borrow.Author.Tests.{not-true, not-false}
 use denote.Ref.{now}
 use Rattle.prelude.proofs.Loops.{Passed, passed-none, passed-more, passed-all, passed-not}
-use Rattle.automata_files.specs.Structure.{clockTicks}
-use Rattle.automata_files.proofs.StructureTests.{clocks-is}
+use Rattle.automata_records.specs.Structure.{clockTicks}
+use Rattle.automata_records.proofs.NamedTests.{clocks-is}
 use Rattle.automata_files.proofs.structure.clocks_tick.Statement.{statement}
 use Rattle.automata_files.proofs.structure.clocks_tick.Tie as tie
 
@@ -18,9 +18,6 @@ abbrev μ-loop : tie.MeasureT-loop
 
 loop-holds : tie.Need-loop-holds Inv-loop μ-loop
 loop-holds c = let a = c .before .args in passed-none (clockTicks (now (a .s)) (a .shape)) (a .shape .clocks)
-
-clock-ticks-requires : tie.Need-clock-ticks-requires Inv-loop μ-loop
-clock-ticks-requires c κs = tt
 
 returns : tie.Need-returns Inv-loop μ-loop
 returns c =
@@ -47,4 +44,4 @@ returns-2 c =
     sym (clocks-is (now (a .s)) (a .shape) (c .before .before .before .pre) ∙ passed-all (clockTicks (now (a .s)) (a .shape)) (a .shape .clocks) (c .before .loop .k) (c .before .loop .inv) (c .loop-test .left))
 
 pub clocks-tick-spec : {M : Type 1} → statement M
-clocks-tick-spec = tie.close (tie.spec Inv-loop μ-loop loop-holds clock-ticks-requires returns add-k loop-less loop-again returns-2)
+clocks-tick-spec = tie.close (tie.spec Inv-loop μ-loop loop-holds (λ c κs. tt) returns add-k loop-less loop-again returns-2)

@@ -9,21 +9,6 @@ use borrow.Author.Needs.{needs}
 use Rattle.automata_files.proofs.structure.edge_inside.Statement.{statement}
 use Rattle.automata_files.proofs.structure.edge_inside.Tie as tie
 
-automaton-of-requires : tie.Need-automaton-of-requires
-automaton-of-requires c κs = search needs
-
-source-of-requires : tie.Need-source-of-requires
-source-of-requires c κs = search needs
-
-automaton-at-requires : tie.Need-automaton-at-requires
-automaton-at-requires c κs = search needs
-
-target-of-requires : tie.Need-target-of-requires
-target-of-requires c κs = search needs
-
-automaton-at-requires-2 : tie.Need-automaton-at-requires-2
-automaton-at-requires-2 c κs = search needs
-
 returns : tie.Need-returns
 returns c =
     let s = now (c .before .before .before .before .before .before .args .s) in
@@ -36,9 +21,9 @@ pub edge-inside-spec : {M : Type 1} → statement M
 edge-inside-spec =
     tie.close
     (tie.spec
-    automaton-of-requires
-    source-of-requires
-    automaton-at-requires
-    target-of-requires
-    automaton-at-requires-2
+    (λ c κs. search needs)
+    (λ c κs. search needs)
+    (λ c κs. search needs)
+    (λ c κs. search needs)
+    (λ c κs. search needs)
     returns)

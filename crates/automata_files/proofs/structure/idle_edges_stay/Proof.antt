@@ -5,7 +5,7 @@ use native.Mathlib.Omega.{arith}
 use borrow.Author.Tests.{not-true, not-false}
 use denote.Ref.{now}
 use Rattle.prelude.proofs.Loops.{Passed, passed-none, passed-more, passed-all, passed-not}
-use Rattle.automata_files.specs.Structure.{idleStays}
+use Rattle.automata_records.specs.Structure.{idleStays}
 use Rattle.automata_files.proofs.StructureTests.{idle-is}
 use Rattle.automata_files.proofs.structure.idle_edges_stay.Statement.{statement}
 use Rattle.automata_files.proofs.structure.idle_edges_stay.Tie as tie
@@ -18,9 +18,6 @@ abbrev μ-loop : tie.MeasureT-loop
 
 loop-holds : tie.Need-loop-holds Inv-loop μ-loop
 loop-holds c = let a = c .before .args in passed-none (idleStays (now (a .s)) (a .shape)) (a .shape .edges)
-
-idle-stays-requires : tie.Need-idle-stays-requires Inv-loop μ-loop
-idle-stays-requires c κs = tt
 
 returns : tie.Need-returns Inv-loop μ-loop
 returns c =
@@ -47,4 +44,4 @@ returns-2 c =
     sym (idle-is (now (a .s)) (a .shape) (c .before .before .before .pre) ∙ passed-all (idleStays (now (a .s)) (a .shape)) (a .shape .edges) (c .before .loop .e) (c .before .loop .inv) (c .loop-test .left))
 
 pub idle-edges-stay-spec : {M : Type 1} → statement M
-idle-edges-stay-spec = tie.close (tie.spec Inv-loop μ-loop loop-holds idle-stays-requires returns add-e loop-less loop-again returns-2)
+idle-edges-stay-spec = tie.close (tie.spec Inv-loop μ-loop loop-holds (λ c κs. tt) returns add-e loop-less loop-again returns-2)

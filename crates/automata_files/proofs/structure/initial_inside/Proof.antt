@@ -8,15 +8,6 @@ use borrow.Author.Needs.{needs}
 use Rattle.automata_files.proofs.structure.initial_inside.Statement.{statement}
 use Rattle.automata_files.proofs.structure.initial_inside.Tie as tie
 
-initial-of-requires : tie.Need-initial-of-requires
-initial-of-requires c κs = search needs
-
-automaton-at-requires : tie.Need-automaton-at-requires
-automaton-at-requires c κs = search needs
-
-cast-home : tie.Need-cast-home
-cast-home c = search needs
-
 returns : tie.Need-returns
 returns c =
     let a = c .before .before .before .args in
@@ -24,4 +15,4 @@ returns c =
 
 pub initial-inside-spec : {M : Type 1} → statement M
 initial-inside-spec =
-    tie.close (tie.spec initial-of-requires automaton-at-requires cast-home returns)
+    tie.close (tie.spec (λ c κs. search needs) (λ c κs. search needs) (λ c. search needs) returns)

@@ -7,16 +7,10 @@ use borrow.Author.Needs.{needs}
 use Rattle.automata_files.proofs.structure.inside_automata.Statement.{statement}
 use Rattle.automata_files.proofs.structure.inside_automata.Tie as tie
 
-edges-inside-requires : tie.Need-edges-inside-requires
-edges-inside-requires c κs = search needs
-
-initials-inside-requires : tie.Need-initials-inside-requires
-initials-inside-requires c κs = search needs
-
 returns : tie.Need-returns
 returns c =
     let b = c .before .before .before in
     (λ j. c .before .edges-inside .ensures j && c .initials-inside .ensures j) ∙ sym (inside-is (now (b .args .s)) (b .args .shape) (b .pre))
 
 pub inside-automata-spec : {M : Type 1} → statement M
-inside-automata-spec = tie.close (tie.spec edges-inside-requires initials-inside-requires returns)
+inside-automata-spec = tie.close (tie.spec (λ c κs. search needs) (λ c κs. search needs) returns)

@@ -10,21 +10,6 @@ use borrow.Author.Needs.{needs}
 use Rattle.automata_files.proofs.unused.literal_clean.Statement.{statement}
 use Rattle.automata_files.proofs.unused.literal_clean.Tie as tie
 
-byte-at-requires : tie.Need-byte-at-requires
-byte-at-requires c κs = search needs
-
-byte-zero-requires : tie.Need-byte-zero-requires
-byte-zero-requires c κs = search needs
-
-two-zero-requires : tie.Need-two-zero-requires
-two-zero-requires c κs = search needs
-
-two-zero-requires-2 : tie.Need-two-zero-requires-2
-two-zero-requires-2 c κs = search needs
-
-four-zero-requires : tie.Need-four-zero-requires
-four-zero-requires c κs = search needs
-
 returns : tie.Need-returns
 returns c =
     let r = c .before .before .before .before .before .before .args .r .now in
@@ -34,4 +19,4 @@ returns c =
     ∙ literal-unused r (byte r 4)
 
 pub literal-clean-spec : {M : Type 1} → statement M
-literal-clean-spec = tie.close (tie.spec byte-at-requires byte-zero-requires two-zero-requires two-zero-requires-2 four-zero-requires returns)
+literal-clean-spec = tie.close (tie.spec (λ c κs. search needs) (λ c κs. search needs) (λ c κs. search needs) (λ c κs. search needs) (λ c κs. search needs) returns)

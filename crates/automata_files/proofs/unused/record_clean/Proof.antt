@@ -27,54 +27,6 @@ table r =
     ∷ (41, (1, 1) ∷ (6, 15) ∷ [])
     ∷ []
 
-byte-at-requires : tie.Need-byte-at-requires
-byte-at-requires c κs = search needs
-
-byte-zero-requires : tie.Need-byte-zero-requires
-byte-zero-requires c κs = search needs
-
-from-four-zero-requires : tie.Need-from-four-zero-requires
-from-four-zero-requires c κs = search needs
-
-two-zero-requires : tie.Need-two-zero-requires
-two-zero-requires c κs = search needs
-
-from-four-zero-requires-2 : tie.Need-from-four-zero-requires-2
-from-four-zero-requires-2 c κs = search needs
-
-byte-zero-requires-2 : tie.Need-byte-zero-requires-2
-byte-zero-requires-2 c κs = search needs
-
-from-eight-zero-requires : tie.Need-from-eight-zero-requires
-from-eight-zero-requires c κs = search needs
-
-literal-clean-requires : tie.Need-literal-clean-requires
-literal-clean-requires c κs = search needs
-
-from-four-zero-requires-3 : tie.Need-from-four-zero-requires-3
-from-four-zero-requires-3 c κs = search needs
-
-byte-zero-requires-3 : tie.Need-byte-zero-requires-3
-byte-zero-requires-3 c κs = search needs
-
-from-eight-zero-requires-2 : tie.Need-from-eight-zero-requires-2
-from-eight-zero-requires-2 c κs = search needs
-
-node-clean-requires : tie.Need-node-clean-requires
-node-clean-requires c κs = search needs
-
-update-clean-requires : tie.Need-update-clean-requires
-update-clean-requires c κs = search needs
-
-byte-zero-requires-4 : tie.Need-byte-zero-requires-4
-byte-zero-requires-4 c κs = search needs
-
-two-zero-requires-2 : tie.Need-two-zero-requires-2
-two-zero-requires-2 c κs = search needs
-
-from-eight-zero-requires-3 : tie.Need-from-eight-zero-requires-3
-from-eight-zero-requires-3 c κs = search needs
-
 returns : tie.Need-returns
 unfolding all caseOf
 returns c =
@@ -143,22 +95,22 @@ pub record-clean-spec : {M : Type 1} → statement M
 record-clean-spec =
     tie.close
     (tie.spec
-    byte-at-requires
-    byte-zero-requires
-    from-four-zero-requires
-    two-zero-requires
-    from-four-zero-requires-2
-    byte-zero-requires-2
-    from-eight-zero-requires
-    literal-clean-requires
-    from-four-zero-requires-3
-    byte-zero-requires-3
-    from-eight-zero-requires-2
-    node-clean-requires
-    update-clean-requires
-    byte-zero-requires-4
-    two-zero-requires-2
-    from-eight-zero-requires-3
+    (λ c κs. search needs)
+    (λ c κs. search needs)
+    (λ c κs. search needs)
+    (λ c κs. search needs)
+    (λ c κs. search needs)
+    (λ c κs. search needs)
+    (λ c κs. search needs)
+    (λ c κs. search needs)
+    (λ c κs. search needs)
+    (λ c κs. search needs)
+    (λ c κs. search needs)
+    (λ c κs. search needs)
+    (λ c κs. search needs)
+    (λ c κs. search needs)
+    (λ c κs. search needs)
+    (λ c κs. search needs)
     returns
     returns-2
     returns-3

@@ -9,18 +9,6 @@ use borrow.Author.Needs.{needs}
 use Rattle.automata_files.proofs.unused.update_clean.Statement.{statement}
 use Rattle.automata_files.proofs.unused.update_clean.Tie as tie
 
-byte-at-requires : tie.Need-byte-at-requires
-byte-at-requires c κs = search needs
-
-byte-zero-requires : tie.Need-byte-zero-requires
-byte-zero-requires c κs = search needs
-
-two-zero-requires : tie.Need-two-zero-requires
-two-zero-requires c κs = search needs
-
-from-eight-zero-requires : tie.Need-from-eight-zero-requires
-from-eight-zero-requires c κs = search needs
-
 returns : tie.Need-returns
 unfolding all
 returns c =
@@ -31,4 +19,4 @@ returns c =
     λ i. c .before .before .byte-zero .ensures i && later i
 
 pub update-clean-spec : {M : Type 1} → statement M
-update-clean-spec = tie.close (tie.spec byte-at-requires byte-zero-requires two-zero-requires from-eight-zero-requires returns)
+update-clean-spec = tie.close (tie.spec (λ c κs. search needs) (λ c κs. search needs) (λ c κs. search needs) (λ c κs. search needs) returns)

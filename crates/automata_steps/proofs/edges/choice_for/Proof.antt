@@ -6,15 +6,6 @@ use borrow.Author.Needs.{needs}
 use Rattle.automata_steps.proofs.edges.choice_for.Statement.{statement}
 use Rattle.automata_steps.proofs.edges.choice_for.Tie as tie
 
-enum-told : tie.Need-enum-told
-enum-told c = search needs
-
-enum-known-tally : tie.Need-enum-known-tally
-enum-known-tally c = search needs
-
-enum-told-2 : tie.Need-enum-told-2
-enum-told-2 c = search needs
-
 returns : tie.Need-returns
 returns c = (ap (λ t. tallyOf t []) (sym (c .enum-told .given .1)), λ edges h. tt)
 
@@ -26,4 +17,4 @@ returns-3 c = (ap (λ t. tallyOf t []) (sym (c .enum-told2 .given .1)), λ edges
 
 pub choice-for-spec : {M : Type 1} → statement M
 choice-for-spec =
-    tie.close (tie.spec enum-told enum-known-tally enum-told-2 returns returns-2 returns-3)
+    tie.close (tie.spec (λ c. search needs) (λ c. search needs) (λ c. search needs) returns returns-2 returns-3)

@@ -9,18 +9,12 @@ use borrow.Author.Tests.{eq-eqb, ne-eqb}
 use Rattle.records.specs.Refusal.{Out, val, fault}
 use Rattle.expressions.specs.Answers.{valueReasonOf, truthOf}
 use Rattle.model.specs.AutomataTable.{readAutomata}
-use Rattle.automata_files.specs.Places.{edgeAt}
+use Rattle.automata_records.specs.Places.{edgeAt}
 use Rattle.automata_steps.specs.StepOf.{bareRun, edgeOpen, oneOpen}
 use Rattle.automata_steps.proofs.StepOfOpen.{open-fault, open-not, open-more}
 use borrow.Author.Needs.{needs}
 use Rattle.automata_steps.proofs.edges.count_edge.Statement.{statement}
 use Rattle.automata_steps.proofs.edges.count_edge.Tie as tie
-
-automaton-of-requires : tie.Need-automaton-of-requires
-automaton-of-requires c κs = search needs
-
-cast-if1 : tie.Need-cast-if1
-cast-if1 c = search needs
 
 abbrev reading : (c : tie.Start) → ℕ → Out Bool
 reading c = edgeOpen (readAutomata (now (c .args .s))) (bareRun (now (c .args .clocks)) (now (c .args .vars)) (c .args .events))
@@ -40,21 +34,6 @@ returns : tie.Need-returns
 returns c =
     let a = c .before .before .before .before in
     (λ es. passed a false (ap (λ k. eqb k (a .args .automaton)) (sym (c .before .automaton-of .ensures)) ∙ ne-eqb _ (a .args .automaton) (c .if1 .taken)) es, a .pre .3)
-
-edge-open-requires : tie.Need-edge-open-requires
-edge-open-requires c κs = search needs
-
-enum-known-w : tie.Need-enum-known-w
-enum-known-w c = search needs
-
-read-fault-requires : tie.Need-read-fault-requires
-read-fault-requires c κs = search needs
-
-enum-known-open : tie.Need-enum-known-open
-enum-known-open c = search needs
-
-with-open-requires : tie.Need-with-open-requires
-with-open-requires c κs = search needs
 
 returns-2 : tie.Need-returns-2
 returns-2 c =
@@ -94,14 +73,14 @@ pub count-edge-spec : {M : Type 1} → statement M
 count-edge-spec =
     tie.close
     (tie.spec
-    automaton-of-requires
-    cast-if1
+    (λ c κs. search needs)
+    (λ c. search needs)
     returns
-    edge-open-requires
-    enum-known-w
-    read-fault-requires
-    enum-known-open
-    with-open-requires
+    (λ c κs. search needs)
+    (λ c. search needs)
+    (λ c κs. search needs)
+    (λ c. search needs)
+    (λ c κs. search needs)
     returns-2
     returns-3
     returns-4)

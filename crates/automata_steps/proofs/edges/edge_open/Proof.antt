@@ -11,8 +11,8 @@ use Rattle.expressions.specs.Answers.{valueReasonOf, truthOf}
 use Rattle.records.specs.Refusal.{val, fault}
 use Rattle.model.specs.AutomataTable.{readAutomata}
 use Rattle.model.specs.Automata.{literalHolds, reads}
-use Rattle.automata_files.specs.Places.{firstLiteral, firstClock, literalIn}
-use Rattle.automata_files.proofs.PlacesRead.{most-edges}
+use Rattle.automata_records.specs.Places.{firstLiteral, firstClock, literalIn}
+use Rattle.automata_records.proofs.PlacesRead.{most-edges}
 use Rattle.automata_steps.specs.Index.{ownerIn}
 use Rattle.automata_steps.specs.StepOf.{bareRun, edgeOpen}
 use Rattle.automata_steps.proofs.IndexWalk.{Walk, walk-from, walk-at, walk-rises, walk-more, walk-ends, walk-done}
@@ -61,9 +61,6 @@ place c = let a = c .before .before .before .before .before in walk-at (small a)
 literal-holds-requires : tie.Need-literal-holds-requires Inv-loop μ-loop
 literal-holds-requires c κs = (c .before .before .before .before .before .pre .0, place c .0, place c .1)
 
-enum-known-w : tie.Need-enum-known-w Inv-loop μ-loop
-enum-known-w c = search needs
-
 returns : tie.Need-returns Inv-loop μ-loop
 returns c =
     let i = c .before .before .before .before in
@@ -74,9 +71,6 @@ returns c =
     (walk-ends (small a) (i .before .loop .inv) (i .loop-test .taken) (fault (valueReasonOf (c .before .w .given .0 .0)))
     (read-fault (literalHolds (readAutomata (now (x .s))) r) (λ m. literalIn (now (x .s)) m .1) (i .before .loop .n) (valueReasonOf (c .before .w .given .0 .0))
     (ap truthOf (sym (c .before .w .given .1)) ∙ c .before .before .before .literal-holds .ensures)))
-
-enum-known-holding : tie.Need-enum-known-holding Inv-loop μ-loop
-enum-known-holding c = search needs
 
 inside : (c : tie.Then1 Inv-loop μ-loop) → c .before .before .before .before .before .before .loop .n < tableRecords
 inside c = let i = c .before .before .before .before .before in omega (arith, place i, small (i .before .before .before .before .before))
@@ -139,9 +133,9 @@ edge-open-spec =
     element-copy-out-n
     loop-holds
     literal-holds-requires
-    enum-known-w
+    (λ c. search needs)
     returns
-    enum-known-holding
+    (λ c. search needs)
     cast-n-2
     mul-n-2
     shared-slice-read-n

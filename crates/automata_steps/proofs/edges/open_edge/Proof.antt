@@ -14,9 +14,9 @@ use Rattle.prelude.specs.Lists.{keep}
 use Rattle.records.specs.Refusal.{Out, fault, _>>=_}
 use Rattle.model.specs.AutomataTable.{readAutomata}
 use Rattle.model.specs.Automata.{opens, theOne}
-use Rattle.automata_files.specs.Places.{firstEdge, firstLiteral, edgeIn, edgeAt}
-use Rattle.automata_files.proofs.PlacesRead.{most-locations}
-use Rattle.machines.specs.Answers.{reasonOf}
+use Rattle.automata_records.specs.Places.{firstEdge, firstLiteral, edgeIn, edgeAt}
+use Rattle.automata_records.proofs.PlacesRead.{most-locations}
+use Rattle.answers.specs.Answers.{reasonOf}
 use Rattle.automata_steps.specs.declared.edges.Tally.the-variants.{Nothing}
 use Rattle.automata_steps.specs.Index.{ownerIn}
 use Rattle.automata_steps.specs.StepOf.{bareRun, edgeOpen, oneOpen, countedOf, theOpen, TallyIn, CountedIn}
@@ -101,9 +101,6 @@ counted-here c rest =
     ∙ ap (λ k. oneOpen (reading a) (l .tally) (cond (eqb (edgeIn (now (x .s)) k .automaton) (x .automaton)) ((l .n - firstEdge (x .shape)) ∷ es) es)) e)
     rest
 
-enum-known-w : tie.Need-enum-known-w Inv-loop μ-loop
-enum-known-w c = search needs
-
 returns-2 : tie.Need-returns-2 Inv-loop μ-loop
 returns-2 c =
     let j = c .before .before .before in
@@ -114,9 +111,6 @@ returns-2 c =
           (λ rest. counted-here j rest ∙ ap (λ k. countedOf (reading a) k (map (λ n. n - firstEdge (a .args .shape)) (keep (ownEdge (now (a .args .s)) (a .args .automaton)) rest))) (c .before .w .given .1))),
       tt,
     )
-
-enum-known-t : tie.Need-enum-known-t Inv-loop μ-loop
-enum-known-t c = search needs
 
 inside : (c : tie.After-known-told2 Inv-loop μ-loop) → c .before .before .before .before .before .loop .n < tableRecords
 inside c = let i = c .before .before .before .before in omega (arith, place i, small (i .before .before .before .before .before .before .before .before))
@@ -149,9 +143,6 @@ loop-again c =
           (λ rest. counted-here j rest ∙ ap (λ k. countedOf (reading a) k (map (λ n. n - firstEdge (a .args .shape)) (keep (ownEdge (now (a .args .s)) (a .args .automaton)) rest))) (c .before .before .t .given .1)),
     )
 
-choice-for-requires : tie.Need-choice-for-requires Inv-loop μ-loop
-choice-for-requires c κs = search needs
-
 returns-3 : tie.Need-returns-3 Inv-loop μ-loop
 returns-3 c =
     let l = c .before .before .loop in
@@ -174,13 +165,13 @@ open-edge-spec =
     loop-holds
     sub-count-edge
     count-edge-requires
-    enum-known-w
+    (λ c. search needs)
     returns-2
-    enum-known-t
+    (λ c. search needs)
     cast-n
     mul-n-2
     shared-slice-read-n
     loop-less
     loop-again
-    choice-for-requires
+    (λ c κs. search needs)
     returns-3)

@@ -6,15 +6,6 @@ use borrow.Author.Needs.{needs}
 use Rattle.automata_steps.proofs.edges.with_open.Statement.{statement}
 use Rattle.automata_steps.proofs.edges.with_open.Tie as tie
 
-enum-told : tie.Need-enum-told
-enum-told c = search needs
-
-enum-told-2 : tie.Need-enum-told-2
-enum-told-2 c = search needs
-
-enum-told-3 : tie.Need-enum-told-3
-enum-told-3 c = search needs
-
 returns : tie.Need-returns
 returns c = (λ es. ap (λ t. tallyOf t (c .before .before .args .e ∷ es)) (sym (c .enum-told .given .1)), λ edges h. h)
 
@@ -25,4 +16,4 @@ returns-3 : tie.Need-returns-3
 returns-3 c = (λ es. ap (λ t. tallyOf t (c .before .before .args .e ∷ es)) (sym (c .enum-told3 .given .1)), λ edges h. tt)
 
 pub with-open-spec : {M : Type 1} → statement M
-with-open-spec = tie.close (tie.spec enum-told enum-told-2 enum-told-3 returns returns-2 returns-3)
+with-open-spec = tie.close (tie.spec (λ c. search needs) (λ c. search needs) (λ c. search needs) returns returns-2 returns-3)

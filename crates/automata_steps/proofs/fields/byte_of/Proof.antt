@@ -13,8 +13,5 @@ add-result c = omega (arith, c .pre .1)
 shared-slice-read-result : tie.Need-shared-slice-read-result
 shared-slice-read-result c = omega (arith, c .before .pre .0, c .before .pre .1)
 
-returns : tie.Need-returns
-returns c = search needs
-
 pub byte-of-spec : {M : Type 1} → statement M
-byte-of-spec = tie.close (tie.spec mul-result add-result shared-slice-read-result returns)
+byte-of-spec = tie.close (tie.spec mul-result add-result shared-slice-read-result (λ c. search needs))

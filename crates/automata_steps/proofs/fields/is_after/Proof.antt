@@ -7,7 +7,7 @@ use lib.Dec.{eqb}
 use Rattle.prelude.specs.Lists.{caseOf}
 use Rattle.records.specs.Bytes.{byte}
 use Rattle.timings.specs.Growth.{timingIf}
-use Rattle.automata_steps.specs.Accepted.{FewRecords}
+use Rattle.automata_records.specs.Accepted.{FewRecords}
 use Rattle.automata_steps.proofs.IndexRecords.{few-records, in-file}
 use Rattle.automata_steps.proofs.fields.is_after.Statement.{statement}
 use Rattle.automata_steps.proofs.fields.is_after.Tie as tie

@@ -17,9 +17,6 @@ add-byte-of c = omega (arith, c .before .before .pre .1)
 byte-of-requires-2 : tie.Need-byte-of-requires-2
 byte-of-requires-2 c κs = let p = c .before .before .pre in (p .0, omega (arith, p .1))
 
-joined-requires : tie.Need-joined-requires
-joined-requires c κs = search needs
-
 returns : tie.Need-returns
 returns c =
     let x = c .before .before .before .before .args in
@@ -27,4 +24,4 @@ returns c =
     c .joined .ensures ∙ (λ i. c .before .before .byte-of .ensures i + 256 * (c .before .byte-of2 .ensures ∙ ap (λ j. byte (now (x .s)) j) e) i)
 
 pub two-of-spec : {M : Type 1} → statement M
-two-of-spec = tie.close (tie.spec byte-of-requires add-byte-of byte-of-requires-2 joined-requires returns)
+two-of-spec = tie.close (tie.spec byte-of-requires add-byte-of byte-of-requires-2 (λ c κs. search needs) returns)

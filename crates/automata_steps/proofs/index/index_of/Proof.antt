@@ -3,9 +3,9 @@ use mathlib.Core.Path.{_≡_, _∙_}
 use Prim.Native.Nat.{_+_}
 use native.Mathlib.Omega.{arith}
 use denote.Ref.{now}
-use Rattle.automata_files.specs.Places.{firstEdge, firstLiteral, firstClock, firstUpdate, firstReset}
-use Rattle.automata_files.proofs.PlacesRead.{inside, most-locations, most-edges}
-use Rattle.automata_steps.specs.Accepted.{FewRecords}
+use Rattle.automata_records.specs.Places.{firstEdge, firstLiteral, firstClock, firstUpdate, firstReset}
+use Rattle.automata_records.proofs.PlacesRead.{inside, most-locations, most-edges}
+use Rattle.automata_records.specs.Accepted.{FewRecords}
 use Rattle.automata_steps.proofs.IndexRecords.{few-records, source-in, literal-in, effect-in}
 use Rattle.automata_steps.proofs.IndexLinked.{apart-within, linkable, linked-before, vacant-behind, relinked}
 use borrow.Author.Needs.{needs}
@@ -40,9 +40,6 @@ link-requires c κs =
     linkable (now (x .s)) _ _ _ (a .pre .1 .0 .keys) (omega arith) (omega arith) (omega arith) (omega arith) (omega arith)
     (λ n h l. omega (arith, source-in (now (x .s)) (x .shape) (a .pre .0) n (omega arith) (omega arith)))
     (a .pre .1 .0 .vacant)
-
-add-t14 : tie.Need-add-t14
-add-t14 c = search needs
 
 link-requires-2 : tie.Need-link-requires-2
 link-requires-2 c κs =
@@ -79,9 +76,6 @@ link-requires-3 c κs =
     (λ n h l. omega (arith, effect-in (now (x .s)) (x .shape) (a .pre .0) n (omega arith) (omega arith)))
     (vacant-behind l2 (vacant-behind l1 (a .pre .1 .0 .vacant)))
 
-same-length : tie.Need-same-length
-same-length c = search needs
-
 returns : tie.Need-returns
 returns c =
     let a = c .before .before .before .before .before .before .before .before .before .before .before .before .before .before .before .before .before .before .before .before .before .before .before in
@@ -114,9 +108,9 @@ index-of-spec =
     first-update-requires
     first-reset-requires
     link-requires
-    add-t14
+    (λ c. search needs)
     link-requires-2
     add-t14-2
     link-requires-3
-    same-length
+    (λ c. search needs)
     returns)

@@ -18,9 +18,6 @@ use Rattle.automata_steps.proofs.literals.condition_holds.Tie as tie
 trigger-holds-requires : tie.Need-trigger-holds-requires
 trigger-holds-requires c κs = c .before .pre
 
-values-of-requires : tie.Need-values-of-requires
-values-of-requires c κs = search needs
-
 two-of-requires : tie.Need-two-of-requires
 two-of-requires c κs =
     let a = c .before .before .before .before in
@@ -57,7 +54,7 @@ condition-holds-spec =
     tie.close
     (tie.spec
     trigger-holds-requires
-    values-of-requires
+    (λ c κs. search needs)
     two-of-requires
     guard-holds-requires
     returns

@@ -4,7 +4,7 @@ use native.Mathlib.Omega.{arith}
 use denote.Ref.{now}
 use Rattle.expressions.specs.Answers.{valueReasonOf, truthOf}
 use Rattle.model.specs.AutomataTable.{readAutomata}
-use Rattle.automata_files.specs.Places.{literalIn}
+use Rattle.automata_records.specs.Places.{literalIn}
 use Rattle.automata_steps.specs.StepOf.{bareRun}
 use Rattle.automata_steps.proofs.IndexRecords.{in-file}
 use Rattle.automata_steps.proofs.StepOfOpen.{literal-fault, literal-must, literal-must-not}
@@ -19,12 +19,6 @@ must-hold-requires c κs =
 
 condition-holds-requires : tie.Need-condition-holds-requires
 condition-holds-requires c κs = c .before .before .pre
-
-enum-known-w : tie.Need-enum-known-w
-enum-known-w c = search needs
-
-enum-known-holding : tie.Need-enum-known-holding
-enum-known-holding c = search needs
 
 returns : tie.Need-returns
 returns c =
@@ -52,8 +46,8 @@ literal-holds-spec =
     (tie.spec
     must-hold-requires
     condition-holds-requires
-    enum-known-w
-    enum-known-holding
+    (λ c. search needs)
+    (λ c. search needs)
     returns
     returns-2
     returns-3)

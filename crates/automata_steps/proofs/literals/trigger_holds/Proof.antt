@@ -12,10 +12,10 @@ use Rattle.records.specs.Bytes.{byte, two}
 use Rattle.model.specs.Runs.{present}
 use Rattle.model.specs.AutomataTable.{readAutomata, always, event, clock}
 use Rattle.model.specs.Automata.{literalTriggerHolds}
-use Rattle.automata_files.specs.Places.{literalIn, literalTriggerBy}
-use Rattle.automata_files.specs.Known.{LiteralTriggerKnown}
-use Rattle.automata_files.proofs.PlacesRead.{most-clocks, clock-is}
-use Rattle.automata_steps.specs.Accepted.{InFile}
+use Rattle.automata_records.specs.Places.{literalIn, literalTriggerBy}
+use Rattle.automata_records.specs.Known.{LiteralTriggerKnown}
+use Rattle.automata_records.proofs.PlacesRead.{most-clocks, clock-is}
+use Rattle.automata_records.specs.Accepted.{InFile}
 use Rattle.automata_steps.specs.StepOf.{bareRun}
 use Rattle.automata_steps.proofs.IndexRecords.{in-file, literal-trigger-in, literal-at}
 use Rattle.automata_steps.proofs.literals.trigger_holds.Statement.{statement}
@@ -73,12 +73,6 @@ returns c vars =
 two-of-requires : tie.Need-two-of-requires
 two-of-requires c κs = (file (c .before .before .before .before), omega arith)
 
-cast-i : tie.Need-cast-i
-cast-i c = search needs
-
-mul-result : tie.Need-mul-result
-mul-result c = search needs
-
 known-clock : (c : tie.After-two-of) → c .two-of .result < c .before .before .before .before .before .args .shape .clocks
 known-clock c =
     let x = c .before .before .before .before .before .args in
@@ -117,8 +111,8 @@ trigger-holds-spec =
     present-requires
     returns
     two-of-requires
-    cast-i
-    mul-result
+    (λ c. search needs)
+    (λ c. search needs)
     element-copy-out-result
     ticks-of-requires
     returns-2

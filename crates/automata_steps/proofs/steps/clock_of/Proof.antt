@@ -3,7 +3,7 @@ use mathlib.Core.Path.{subst}
 use Prim.Native.Nat.{_<_}
 use native.Mathlib.Omega.{arith}
 use denote.Ref.{now}
-use Rattle.automata_files.specs.Places.{resetIn}
+use Rattle.automata_records.specs.Places.{resetIn}
 use Rattle.automata_steps.proofs.IndexRecords.{in-file, clock-in, reset-at}
 use Rattle.automata_steps.proofs.steps.clock_of.Statement.{statement}
 use Rattle.automata_steps.proofs.steps.clock_of.Tie as tie

@@ -6,11 +6,11 @@ use borrow.Author.Needs.{needs}
 use denote.Ref.{now}
 use Rattle.model.specs.Runs.{Deed, assign, raise, deed}
 use Rattle.model.specs.ChartSet.{readDeed}
-use Rattle.automata_files.specs.Places.{updateIn}
-use Rattle.automata_files.specs.Known.{DeedKnown}
+use Rattle.automata_records.specs.Places.{updateIn}
+use Rattle.automata_records.specs.Known.{DeedKnown}
 use Rattle.machines.specs.Deeds.{Doable}
 use Rattle.machines.specs.Worlds.{worldIn}
-use Rattle.automata_steps.specs.Accepted.{InFile}
+use Rattle.automata_records.specs.Accepted.{InFile}
 use Rattle.automata_steps.proofs.ValuesRead.{has-values, variables-in, nodes-in}
 use Rattle.automata_steps.proofs.IndexRecords.{in-file, deed-in, update-at}
 use Rattle.automata_steps.proofs.steps.do_update.Statement.{statement}
@@ -44,9 +44,6 @@ byte-of-requires-2 c κs = (file (c .before .before), omega arith)
 two-of-requires : tie.Need-two-of-requires
 two-of-requires c κs = (file (c .before .before .before), omega arith)
 
-values-of-requires : tie.Need-values-of-requires
-values-of-requires c κs = search needs
-
 do-deed-requires : tie.Need-do-deed-requires
 do-deed-requires c κs =
     let v = c .before .values-of in
@@ -55,20 +52,17 @@ do-deed-requires c κs =
     let x = a .args in
     (has-values (now (x .s)) (x .shape) (a .pre .0 .shape) (v .result) (v .ensures), rw (v .ensures) (subst (Doable (x .shape .variables)) (fields u) (known a)))
 
-done-by-requires : tie.Need-done-by-requires
-done-by-requires c κs = search needs
-
 returns : tie.Need-returns
-returns c = λ p q.
+returns c = λ m.
     let d = c .before in
     let v = d .before .before .values-of in
     let u = d .before .before .before in
     let a = u .before .before .before .before in
     let x = a .args in
     let s = now (x .s) in
-    let w = worldIn (now (x .vars)) (x .events) p q in
-    c .done-by .ensures .0 _ p q
-    ∙ d .do-deed .ensures .0 p q
+    let w = worldIn (now (x .vars)) (x .events) m in
+    c .done-by .ensures .0 _ m
+    ∙ d .do-deed .ensures .0 m
     ∙ (λ i. deed (nodes-in s (x .shape) (a .pre .0 .shape) (v .result) (v .ensures) i) (variables-in s (x .shape) (a .pre .0 .shape) (v .result) (v .ensures) i) (sym (fields u) i) w)
 
 pub do-update-spec : {M : Type 1} → statement M
@@ -78,7 +72,7 @@ do-update-spec =
     byte-of-requires
     byte-of-requires-2
     two-of-requires
-    values-of-requires
+    (λ c κs. search needs)
     do-deed-requires
-    done-by-requires
+    (λ c κs. search needs)
     returns)

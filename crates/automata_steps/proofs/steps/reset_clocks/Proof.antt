@@ -8,8 +8,8 @@ use Rattle.model.specs.Limits.{mostClocks, tableRecords}
 use Rattle.prelude.specs.Owned.{of}
 use Rattle.model.specs.AutomataTable.{readAutomata}
 use Rattle.model.specs.Automata.{reset}
-use Rattle.automata_files.specs.Places.{firstReset, resetIn}
-use Rattle.automata_files.proofs.PlacesRead.{most-clocks}
+use Rattle.automata_records.specs.Places.{firstReset, resetIn}
+use Rattle.automata_records.proofs.PlacesRead.{most-clocks}
 use Rattle.automata_steps.specs.Index.{ownerIn}
 use Rattle.automata_steps.proofs.IndexWalk.{Walk, walk-from, walk-at, walk-rises, walk-more, walk-done}
 use Rattle.automata_steps.proofs.IndexRecords.{few-records, resets-of}

@@ -13,11 +13,11 @@ use Rattle.records.specs.Refusal.{Out, fault}
 use Rattle.prelude.specs.Owned.{of}
 use Rattle.model.specs.Runs.{World, deeds}
 use Rattle.model.specs.AutomataTable.{readAutomata}
-use Rattle.automata_files.specs.Places.{firstUpdate, firstReset, updateIn}
-use Rattle.automata_files.proofs.PlacesRead.{most-edges, edge-is}
+use Rattle.automata_records.specs.Places.{firstUpdate, firstReset, updateIn}
+use Rattle.automata_records.proofs.PlacesRead.{most-edges, edge-is}
 use Rattle.machines.specs.Chains.{earliest}
-use Rattle.machines.specs.Answers.{reasonOf}
-use Rattle.machines.specs.Worlds.{worldIn, worldAfter, runIn}
+use Rattle.answers.specs.Answers.{reasonOf}
+use Rattle.machines.specs.Worlds.{Moment, worldIn, worldAfter, runIn}
 use Rattle.automata_steps.specs.Index.{ownerIn, ownedBy, effectKeys}
 use Rattle.automata_steps.proofs.IndexWalk.{Walk, walk-from, walk-at, walk-to, walk-ends, walk-done, upTo, Ahead, ahead-first, ahead-second, rises}
 use Rattle.model.proofs.TranslationClocks.{length-reset}
@@ -28,7 +28,7 @@ use Rattle.automata_steps.proofs.steps.take_edge.Tie as tie
 
 abbrev Inv-loop : tie.InvT-loop
 Inv-loop s shape first next automaton locations clocks vars₀ events e reset raised₀ n₀ vars raised n =
-    Walk (doOn (readAutomata s .nodes) (readAutomata s .variables) (λ m. updateIn s m .1)) (λ q c. deeds (readAutomata s .nodes) (readAutomata s .variables) (of e (readAutomata s .updates)) (worldIn vars₀ events q c)) s (firstUpdate shape) (firstReset shape) e (worldIn vars raised) (upTo (firstReset shape) n)
+    Walk (doOn (readAutomata s .nodes) (readAutomata s .variables) (λ m. updateIn s m .1)) (λ m. deeds (readAutomata s .nodes) (readAutomata s .variables) (of e (readAutomata s .updates)) (worldIn vars₀ events m)) s (firstUpdate shape) (firstReset shape) e (worldIn vars raised) (upTo (firstReset shape) n)
     × Ahead (ownedBy s e) (firstReset shape) (firstReset shape + shape .resets) n
 
 abbrev μ-loop : tie.MeasureT-loop
@@ -73,7 +73,7 @@ loop-holds c =
     let h : Ahead (ownedBy (now (x .s)) (x .e)) (firstReset (x .shape)) (firstReset (x .shape) + x .shape .resets) (getD (now (x .first)) (effectKeys + x .e) 0)
     = record { since = firstUpdate (x .shape); early = omega arith; at = a .pre .1 .effects .first-of (x .e) (few-edges a) } in (
       walk-from (few-updates a) (worldIn (now (x .vars)) (x .events)) _ (seen a (getD (now (x .first)) (effectKeys + x .e) 0) h)
-          (λ i q c. deeds (readAutomata (now (x .s)) .nodes) (readAutomata (now (x .s)) .variables) (updates-of (now (x .s)) (x .shape) (a .pre .0 .shape) (x .e) i) (worldIn (now (x .vars)) (x .events) q c)),
+          (λ i m. deeds (readAutomata (now (x .s)) .nodes) (readAutomata (now (x .s)) .variables) (updates-of (now (x .s)) (x .shape) (a .pre .0 .shape) (x .e) i) (worldIn (now (x .vars)) (x .events) m)),
       h,
     )
 
@@ -88,11 +88,11 @@ here c = omega (arith, c .loop-test .taken, c .before .before .before .first-res
 some-record : (c : tie.In-loop Inv-loop μ-loop) → c .before .loop .n ≡ 65535 → ⊥
 some-record c q = omega (arith, here c, few-updates (start c))
 
-abbrev work : (c : tie.In-loop Inv-loop μ-loop) → List ℕ → (ℕ → ℕ → World) → ℕ → ℕ → Out World
+abbrev work : (c : tie.In-loop Inv-loop μ-loop) → List ℕ → (Moment → World) → Moment → Out World
 work c = let s = now (start c .args .s) in doOn (readAutomata s .nodes) (readAutomata s .variables) (λ m. updateIn s m .1)
 
-abbrev whole : (c : tie.In-loop Inv-loop μ-loop) → ℕ → ℕ → Out World
-whole c = let x = start c .args in λ q k. deeds (readAutomata (now (x .s)) .nodes) (readAutomata (now (x .s)) .variables) (of (x .e) (readAutomata (now (x .s)) .updates)) (worldIn (now (x .vars)) (x .events) q k)
+abbrev whole : (c : tie.In-loop Inv-loop μ-loop) → Moment → Out World
+whole c = let x = start c .args in λ m. deeds (readAutomata (now (x .s)) .nodes) (readAutomata (now (x .s)) .variables) (of (x .e) (readAutomata (now (x .s)) .updates)) (worldIn (now (x .vars)) (x .events) m)
 
 walk : (c : tie.In-loop Inv-loop μ-loop) →
     let x = start c .args in
@@ -124,9 +124,6 @@ next-is c =
 do-update-requires : tie.Need-do-update-requires Inv-loop μ-loop
 do-update-requires c κs = let p = place (c .before) in (start (c .before) .pre .0, p .0, p .1)
 
-enum-known-w : tie.Need-enum-known-w Inv-loop μ-loop
-enum-known-w c = search needs
-
 returns : tie.Need-returns Inv-loop μ-loop
 returns c =
     let j = c .before .before .before in
@@ -135,18 +132,15 @@ returns c =
     let l = i .before .loop in
     let g = c .before .w .given in
     let w = reasonOf (g .0 .0) in (
-      λ p q.
-          take-fault (readAutomata (now (x .s))) (x .automaton) (runIn (now (x .locations)) (now (x .clocks)) (now (x .vars)) (x .events) p q) (x .e) w
-          (ap (λ f. f p q)
+      λ m.
+          take-fault (readAutomata (now (x .s))) (x .automaton) (runIn (now (x .locations)) (now (x .clocks)) (now (x .vars)) (x .events) m) (x .e) w
+          (ap (λ f. f m)
           (sym
-          (walk-ends (few-updates (start i)) (walk i) (some-record i) (λ y z. fault w)
+          (walk-ends (few-updates (start i)) (walk i) (some-record i) (λ m. fault w)
           (do-fault (readAutomata (now (x .s)) .nodes) (readAutomata (now (x .s)) .variables) (λ m. updateIn (now (x .s)) m .1) (l .n) (worldIn (l .vars) (l .raised)) w
-          (λ y z. ap (λ d. worldAfter d (j .do-update .last .1 .1 .1 .0) y z) (sym (g .1)) ∙ j .do-update .ensures y z))))),
+          (λ m. ap (λ d. worldAfter d (j .do-update .last .1 .1 .1 .0) m) (sym (g .1)) ∙ j .do-update .ensures m))))),
       (refl, (refl, refl)),
     )
-
-enum-known-x : tie.Need-enum-known-x Inv-loop μ-loop
-enum-known-x c = search needs
 
 inside : (c : tie.In-loop Inv-loop μ-loop) → c .before .loop .n < tableRecords
 inside c = omega (arith, here c, few-updates (start c))
@@ -183,7 +177,7 @@ loop-again c =
     = record { since = l .n + 1; early = omega (arith, here i); at = next-is i } in (
       walk-to (few-updates a) (walk i) (some-record i) _ (seen a (getD (now (x .next)) (l .n) 0) h) (worldIn (j .do-update .last .1 .1 .1 .0) (g .0 .0))
           (do-more (readAutomata (now (x .s)) .nodes) (readAutomata (now (x .s)) .variables) (λ m. updateIn (now (x .s)) m .1) (l .n) (worldIn (l .vars) (l .raised)) (worldIn (j .do-update .last .1 .1 .1 .0) (g .0 .0))
-          (λ y z. ap (λ d. worldAfter d (j .do-update .last .1 .1 .1 .0) y z) (sym (g .1)) ∙ j .do-update .ensures y z)),
+          (λ m. ap (λ d. worldAfter d (j .do-update .last .1 .1 .1 .0) m) (sym (g .1)) ∙ j .do-update .ensures m)),
       h,
     )
 
@@ -205,9 +199,6 @@ reset-clocks-requires c κs =
 target-of-requires : tie.Need-target-of-requires Inv-loop μ-loop
 target-of-requires c κs = let a = c .before .before .before .before .before .before .before .before in (a .pre .0 .shape, a .pre .3)
 
-mul-locations : tie.Need-mul-locations Inv-loop μ-loop
-mul-locations c = search needs
-
 element-write-locations : tie.Need-element-write-locations Inv-loop μ-loop
 element-write-locations c = c .before .before .before .before .before .before .before .before .before .pre .2
 
@@ -218,9 +209,9 @@ returns-2 c =
     let x = a .args in
     let l = e .before .loop in
     let k = c .before .reset-clocks in (
-      λ p q.
-          take-done (readAutomata (now (x .s))) (x .automaton) (runIn (now (x .locations)) (now (x .clocks)) (now (x .vars)) (x .events) p q) (x .e) (worldIn (l .vars) (l .raised) p q)
-          (ap (λ f. f p q)
+      λ m.
+          take-done (readAutomata (now (x .s))) (x .automaton) (runIn (now (x .locations)) (now (x .clocks)) (now (x .vars)) (x .events) m) (x .e) (worldIn (l .vars) (l .raised) m)
+          (ap (λ f. f m)
           (sym
           (walk-done (l .inv .0) (ap (λ b. cond b (l .n) 65535) (le-ltb (l .n) (firstReset (x .shape)) (done e)))
           ∙ do-none (readAutomata (now (x .s)) .nodes) (readAutomata (now (x .s)) .variables) (λ m. updateIn (now (x .s)) m .1) (worldIn (l .vars) (l .raised)))))
@@ -242,9 +233,9 @@ take-edge-spec =
     element-copy-out-n
     loop-holds
     do-update-requires
-    enum-known-w
+    (λ c. search needs)
     returns
-    enum-known-x
+    (λ c. search needs)
     cast-n-2
     mul-n-2
     shared-slice-read-n
@@ -252,6 +243,6 @@ take-edge-spec =
     loop-again
     reset-clocks-requires
     target-of-requires
-    mul-locations
+    (λ c. search needs)
     element-write-locations
     returns-2)

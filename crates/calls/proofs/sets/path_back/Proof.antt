@@ -6,19 +6,10 @@ use Rattle.records.specs.Refusal.{unless-refused, _>>=_}
 use Rattle.model.specs.Outcome.{settled}
 use Rattle.model.specs.ChartSet.{readCharts}
 use Rattle.model.specs.PathBack.{walkStart, ledBack, rowsWritten}
-use Rattle.chart_steps.specs.Accepted.{Accepted}
-use Rattle.chart_steps.proofs.AcceptedByCheck.{accepted-of, refused-of}
+use Rattle.chart_records.specs.Accepted.{Accepted}
+use Rattle.chart_files.proofs.AcceptedByCheck.{accepted-of, refused-of}
 use Rattle.calls.proofs.sets.path_back.Statement.{statement}
 use Rattle.calls.proofs.sets.path_back.Tie as tie
-
-check-requires : tie.Need-check-requires
-check-requires c κs = search needs
-
-enum-known-w : tie.Need-enum-known-w
-enum-known-w c = search needs
-
-enum-known-shape : tie.Need-enum-known-shape
-enum-known-shape c = search needs
 
 accepted : (c : tie.After-known-told2) → Accepted (now (c .before .before .before .before .before .before .before .args .s)) (c .before .shape .given .0 .0)
 accepted c =
@@ -35,9 +26,6 @@ returns c =
     let g = c .before .w .given in
     sym (ap (λ o. settled (now (a .rows)) (unless-refused o (ledBack (readCharts (now (a .s))) (now (a .path)) (walkStart (readCharts (now (a .s)))) >>= λ rows. rowsWritten rows (now (a .rows))))) (refused-of (now (a .s)) (k .check .result) (k .check .ensures) (g .0 .0) (g .1)))
 
-same-length : tie.Need-same-length
-same-length c = search needs
-
 returns-2 : tie.Need-returns-2
 returns-2 c =
     let a = c .before .before .before .before .before .before .before .before .before .before .before .args in
@@ -47,10 +35,10 @@ pub path-back-spec : {M : Type 1} → statement M
 path-back-spec =
     tie.close
     (tie.spec
-    check-requires
-    enum-known-w
-    enum-known-shape
+    (λ c κs. search needs)
+    (λ c. search needs)
+    (λ c. search needs)
     path-back-requires
     returns
-    same-length
+    (λ c. search needs)
     returns-2)

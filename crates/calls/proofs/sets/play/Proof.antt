@@ -4,14 +4,14 @@ use contract.Running.{givenOf, tables, tablesOf}
 use denote.Triple.Spec.{tripleOf}
 use denote.Triple.Table.{entered, cited}
 use Rattle.model.specs.Calls.{chartSets}
-use Rattle.machines.specs.Answers.{cyclesOf}
+use Rattle.answers.specs.Answers.{cyclesOf}
 use Rattle.machines.specs.Playing.{playing}
-use Rattle.machines.proofs.LentAnswers.{cycles-type}
+use Rattle.lent_runs.proofs.LentAnswers.{cycles-type}
 use Rattle.chart_files.proofs.check as check
 use Rattle.chart_files.proofs.check.Symbol as check-def
 use Rattle.chart_files.proofs.check.Symbol.{name as #check}
 use Rattle.chart_files.proofs.check.Met as check-thm
-use Rattle.charts.specs.RunOf.{runOf}
+use Rattle.chart_runs.specs.RunOf.{runOf}
 use Rattle.charts.proofs.LentTypes.{run-type, shape-type}
 use Rattle.charts.proofs.lent.play as step
 use Rattle.charts.proofs.lent.play.Symbol as step-def

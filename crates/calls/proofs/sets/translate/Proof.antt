@@ -5,19 +5,10 @@ use denote.Ref.{now}
 use Rattle.records.specs.Refusal.{unless-refused}
 use Rattle.model.specs.Outcome.{settled}
 use Rattle.model.specs.Translation.{twinBytes, written}
-use Rattle.chart_steps.specs.Accepted.{Accepted}
-use Rattle.chart_steps.proofs.AcceptedByCheck.{accepted-of, refused-of}
+use Rattle.chart_records.specs.Accepted.{Accepted}
+use Rattle.chart_files.proofs.AcceptedByCheck.{accepted-of, refused-of}
 use Rattle.calls.proofs.sets.translate.Statement.{statement}
 use Rattle.calls.proofs.sets.translate.Tie as tie
-
-check-requires : tie.Need-check-requires
-check-requires c κs = search needs
-
-enum-known-w : tie.Need-enum-known-w
-enum-known-w c = search needs
-
-enum-known-shape : tie.Need-enum-known-shape
-enum-known-shape c = search needs
 
 accepted : (c : tie.After-known-told2) → Accepted (now (c .before .before .before .before .before .before .args .s)) (c .before .shape .given .0 .0)
 accepted c =
@@ -34,9 +25,6 @@ returns c =
     let g = c .before .w .given in
     sym (ap (λ o. settled (now (a .out)) (unless-refused o (written (twinBytes (now (a .s))) (now (a .out))))) (refused-of (now (a .s)) (k .check .result) (k .check .ensures) (g .0 .0) (g .1)))
 
-same-length : tie.Need-same-length
-same-length c = search needs
-
 returns-2 : tie.Need-returns-2
 returns-2 c =
     let a = c .before .before .before .before .before .before .before .before .before .before .args in
@@ -46,10 +34,10 @@ pub translate-spec : {M : Type 1} → statement M
 translate-spec =
     tie.close
     (tie.spec
-    check-requires
-    enum-known-w
-    enum-known-shape
+    (λ c κs. search needs)
+    (λ c. search needs)
+    (λ c. search needs)
     translate-requires
     returns
-    same-length
+    (λ c. search needs)
     returns-2)

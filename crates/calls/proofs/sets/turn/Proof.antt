@@ -5,13 +5,13 @@ use denote.Triple.Spec.{tripleOf}
 use denote.Triple.Table.{entered, cited}
 use Rattle.model.specs.Calls.{chartSets}
 use Rattle.model.specs.Runs.{turn}
-use Rattle.machines.specs.Answers.{answerOf}
-use Rattle.machines.proofs.LentAnswers.{answer-type}
+use Rattle.answers.specs.Answers.{answerOf}
+use Rattle.lent_runs.proofs.LentAnswers.{answer-type}
 use Rattle.chart_files.proofs.check as check
 use Rattle.chart_files.proofs.check.Symbol as check-def
 use Rattle.chart_files.proofs.check.Symbol.{name as #check}
 use Rattle.chart_files.proofs.check.Met as check-thm
-use Rattle.charts.specs.RunOf.{runOf}
+use Rattle.chart_runs.specs.RunOf.{runOf}
 use Rattle.charts.proofs.LentTypes.{run-type, shape-type}
 use Rattle.charts.proofs.lent.turn as step
 use Rattle.charts.proofs.lent.turn.Symbol as step-def

@@ -4,9 +4,9 @@ use contract.Running.{givenOf, tables, tablesOf}
 use denote.Triple.Spec.{tripleOf}
 use denote.Triple.Table.{entered, cited}
 use Rattle.model.specs.Calls.{automataTables}
-use Rattle.machines.specs.Answers.{cyclesOf}
+use Rattle.answers.specs.Answers.{cyclesOf}
 use Rattle.machines.specs.Playing.{playing}
-use Rattle.machines.proofs.LentAnswers.{cycles-type}
+use Rattle.lent_runs.proofs.LentAnswers.{cycles-type}
 use Rattle.automata_files.proofs.check as check
 use Rattle.automata_files.proofs.check.Symbol as check-def
 use Rattle.automata_files.proofs.check.Symbol.{name as #check}

@@ -6,8 +6,8 @@ use denote.Triple.Table.{entered, cited}
 use Rattle.model.specs.Calls.{automataTables}
 use Rattle.records.specs.Refusal.{val}
 use Rattle.model.specs.Runs.{start}
-use Rattle.machines.specs.Answers.{endingOf}
-use Rattle.machines.proofs.LentAnswers.{ending-type}
+use Rattle.answers.specs.Answers.{endingOf}
+use Rattle.lent_runs.proofs.LentAnswers.{ending-type}
 use Rattle.automata_files.proofs.check as check
 use Rattle.automata_files.proofs.check.Symbol as check-def
 use Rattle.automata_files.proofs.check.Symbol.{name as #check}

@@ -8,18 +8,6 @@ use lib.ListN.{getD}
 use Rattle.chart_files.proofs.structure.action_fits_initials.Statement.{statement}
 use Rattle.chart_files.proofs.structure.action_fits_initials.Tie as tie
 
-place-of-requires : tie.Need-place-of-requires
-place-of-requires c κs = search needs
-
-owner-of-requires : tie.Need-owner-of-requires
-owner-of-requires c κs = search needs
-
-cast-byte-at : tie.Need-cast-byte-at
-cast-byte-at c = search needs
-
-byte-at-requires : tie.Need-byte-at-requires
-byte-at-requires c κs = search needs
-
 returns : tie.Need-returns
 returns c =
     let initial = now (c .before .before .before .before .before .args .initial) in
@@ -28,4 +16,4 @@ returns c =
     λ j. eqb (owner j) 0 || not (leb 1 (place j) && leb (place j) 2)
 
 pub action-fits-initials-spec : {M : Type 1} → statement M
-action-fits-initials-spec = tie.close (tie.spec place-of-requires owner-of-requires cast-byte-at byte-at-requires returns)
+action-fits-initials-spec = tie.close (tie.spec (λ c κs. search needs) (λ c κs. search needs) (λ c. search needs) (λ c κs. search needs) returns)

@@ -5,12 +5,9 @@ use borrow.Author.Needs.{needs}
 use denote.Ref.{now}
 use lib.ListN.{List·getD-eq-default}
 use Rattle.model.specs.ChartSet.{readCharts}
-use Rattle.chart_files.proofs.PlacesRead.{home-is, length-homes}
+use Rattle.chart_records.proofs.PlacesRead.{home-is, length-homes}
 use Rattle.chart_files.proofs.structure.chart_of.Statement.{statement}
 use Rattle.chart_files.proofs.structure.chart_of.Tie as tie
-
-home-of-requires : tie.Need-home-of-requires
-home-of-requires c κs = search needs
 
 returns : tie.Need-returns
 returns c =
@@ -23,4 +20,4 @@ returns-2 c =
     sym (List·getD-eq-default (readCharts (now (b .args .s)) .homes) 0 (omega (arith, length-homes (now (b .args .s)) (b .args .shape) (b .pre), c .if1 .left)))
 
 pub chart-of-spec : {M : Type 1} → statement M
-chart-of-spec = tie.close (tie.spec home-of-requires returns returns-2)
+chart-of-spec = tie.close (tie.spec (λ c κs. search needs) returns returns-2)

@@ -8,7 +8,7 @@ use Rattle.expressions.specs.Uses.{addUse, addUses}
 use Rattle.prelude.specs.Lists.{upto}
 use Rattle.records.specs.Bytes.{two}
 use Rattle.prelude.proofs.Maps.{gather-singles}
-use Rattle.chart_files.proofs.Used.{Gathered, gathered-none, gathered-more, gathered-all}
+use Rattle.chart_checks.proofs.Used.{Gathered, gathered-none, gathered-more, gathered-all}
 use Rattle.chart_files.proofs.structure.count_initials.Statement.{statement}
 use Rattle.chart_files.proofs.structure.count_initials.Tie as tie
 
@@ -20,12 +20,6 @@ abbrev μ-loop : tie.MeasureT-loop
 
 loop-holds : tie.Need-loop-holds Inv-loop μ-loop
 loop-holds c = let a = c .before .before .args in gathered-none (λ c. two (now (a .s)) (16 * c + 2) ∷ []) (a .shape .charts) (now (a .initial))
-
-initial-of-requires : tie.Need-initial-of-requires Inv-loop μ-loop
-initial-of-requires c κs = tt
-
-add-use-requires : tie.Need-add-use-requires Inv-loop μ-loop
-add-use-requires c κs = tt
 
 add-c : tie.Need-add-c Inv-loop μ-loop
 add-c c = omega (arith, c .before .before .before .before .before .before .before .before .before .good)
@@ -52,4 +46,4 @@ returns c =
     ∙ ap (addUses (now (a .initial))) (gather-singles (λ c. two (now (a .s)) (16 * c + 2)) (upto (a .shape .charts)))
 
 pub count-initials-spec : {M : Type 1} → statement M
-count-initials-spec = tie.close (tie.spec Inv-loop μ-loop loop-holds initial-of-requires add-use-requires add-c loop-less loop-again same-length returns)
+count-initials-spec = tie.close (tie.spec Inv-loop μ-loop loop-holds (λ c κs. tt) (λ c κs. tt) add-c loop-less loop-again same-length returns)

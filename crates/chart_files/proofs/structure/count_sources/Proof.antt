@@ -8,7 +8,7 @@ use Rattle.expressions.specs.Uses.{addUse, addUses}
 use Rattle.prelude.specs.Lists.{upto}
 use Rattle.chart_files.specs.Structure.{sourceAt}
 use Rattle.prelude.proofs.Maps.{gather-singles}
-use Rattle.chart_files.proofs.Used.{Gathered, gathered-none, gathered-more, gathered-all}
+use Rattle.chart_checks.proofs.Used.{Gathered, gathered-none, gathered-more, gathered-all}
 use Rattle.chart_files.proofs.structure.count_sources.Statement.{statement}
 use Rattle.chart_files.proofs.structure.count_sources.Tie as tie
 
@@ -20,12 +20,6 @@ abbrev μ-loop : tie.MeasureT-loop
 
 loop-holds : tie.Need-loop-holds Inv-loop μ-loop
 loop-holds c = let a = c .before .before .args in gathered-none (λ t. sourceAt (now (a .s)) (a .shape) t ∷ []) (a .shape .transitions) (now (a .left))
-
-source-of-requires : tie.Need-source-of-requires Inv-loop μ-loop
-source-of-requires c κs = tt
-
-add-use-requires : tie.Need-add-use-requires Inv-loop μ-loop
-add-use-requires c κs = tt
 
 add-t : tie.Need-add-t Inv-loop μ-loop
 add-t c = omega (arith, c .before .before .before .before .before .before .before .before .before .good)
@@ -52,4 +46,4 @@ returns c =
     ∙ ap (addUses (now (a .left))) (gather-singles (λ t. sourceAt (now (a .s)) (a .shape) t) (upto (a .shape .transitions)))
 
 pub count-sources-spec : {M : Type 1} → statement M
-count-sources-spec = tie.close (tie.spec Inv-loop μ-loop loop-holds source-of-requires add-use-requires add-t loop-less loop-again same-length returns)
+count-sources-spec = tie.close (tie.spec Inv-loop μ-loop loop-holds (λ c κs. tt) (λ c κs. tt) add-t loop-less loop-again same-length returns)

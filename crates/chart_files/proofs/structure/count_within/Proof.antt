@@ -16,18 +16,6 @@ returns c =
       sym (set-out (now (a .counts)) (a .k) _ (c .if1 .taken)),
     )
 
-slice-read-n : tie.Need-slice-read-n
-slice-read-n c = search needs
-
-add-counts : tie.Need-add-counts
-add-counts c = search needs
-
-slice-write-counts : tie.Need-slice-write-counts
-slice-write-counts c = search needs
-
-same-length : tie.Need-same-length
-same-length c = search needs
-
 returns-2 : tie.Need-returns-2
 returns-2 c = let a = c .before .before .before .args in (sym (lt-ltb (getD (now (a .counts)) (a .k) 0) (a .most) (c .if2 .taken)), refl)
 
@@ -35,4 +23,4 @@ returns-3 : tie.Need-returns-3
 returns-3 c = let a = c .before .before .before .args in (sym (le-ltb (getD (now (a .counts)) (a .k) 0) (a .most) (c .if2 .left)), refl)
 
 pub count-within-spec : {M : Type 1} → statement M
-count-within-spec = tie.close (tie.spec returns slice-read-n add-counts slice-write-counts same-length returns-2 returns-3)
+count-within-spec = tie.close (tie.spec returns (λ c. search needs) (λ c. search needs) (λ c. search needs) (λ c. search needs) returns-2 returns-3)

@@ -10,21 +10,6 @@ use Rattle.model.specs.ChartSet.{readCharts}
 use Rattle.chart_files.proofs.structure.left_once.Statement.{statement}
 use Rattle.chart_files.proofs.structure.left_once.Tie as tie
 
-initial-of-requires : tie.Need-initial-of-requires
-initial-of-requires c κs = search needs
-
-chart-of-requires : tie.Need-chart-of-requires
-chart-of-requires c κs = search needs
-
-cast-home : tie.Need-cast-home
-cast-home c = search needs
-
-cast-byte-at : tie.Need-cast-byte-at
-cast-byte-at c = search needs
-
-byte-at-requires : tie.Need-byte-at-requires
-byte-at-requires c κs = search needs
-
 returns : tie.Need-returns
 returns c =
     let a = c .before .before .before .before .before .args in
@@ -34,4 +19,4 @@ returns c =
     λ j. eqb (own j) (a .c) && eqb (left j) 1
 
 pub left-once-spec : {M : Type 1} → statement M
-left-once-spec = tie.close (tie.spec initial-of-requires chart-of-requires cast-home cast-byte-at byte-at-requires returns)
+left-once-spec = tie.close (tie.spec (λ c κs. search needs) (λ c κs. search needs) (λ c. search needs) (λ c. search needs) (λ c κs. search needs) returns)

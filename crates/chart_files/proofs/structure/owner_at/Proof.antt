@@ -12,21 +12,6 @@ use Rattle.chart_files.proofs.structure.owner_at.Tie as tie
 picked : (states : ℕ) {x y p q : ℕ} {b : Bool} → x ≡ y → p ≡ q → eqb p 3 ≡ b → cond b (states + x) x ≡ cond (eqb q 3) (states + y) y
 picked states {x} e f t = ap (λ b. cond b (states + x) x) (sym t) ∙ (λ i. cond (eqb (f i) 3) (states + e i) (e i))
 
-owner-of-requires : tie.Need-owner-of-requires
-owner-of-requires c κs = search needs
-
-cast-owner : tie.Need-cast-owner
-cast-owner c = search needs
-
-place-of-requires : tie.Need-place-of-requires
-place-of-requires c κs = search needs
-
-cast-result : tie.Need-cast-result
-cast-result c = search needs
-
-add-result : tie.Need-add-result
-add-result c = search needs
-
 returns : tie.Need-returns
 returns c =
     let p = c .before .before .place-of in
@@ -38,4 +23,4 @@ returns-2 c =
     picked (c .before .before .before .before .args .shape .states) (c .before .before .owner-of .ensures) (p .ensures) (ne-eqb (p .result) 3 (c .if1 .left))
 
 pub owner-at-spec : {M : Type 1} → statement M
-owner-at-spec = tie.close (tie.spec owner-of-requires cast-owner place-of-requires cast-result add-result returns returns-2)
+owner-at-spec = tie.close (tie.spec (λ c κs. search needs) (λ c. search needs) (λ c κs. search needs) (λ c. search needs) (λ c. search needs) returns returns-2)

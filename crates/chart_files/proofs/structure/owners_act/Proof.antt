@@ -8,21 +8,12 @@ use denote.Ref.{now}
 use Rattle.prelude.specs.Lists.{upto}
 use Rattle.chart_files.specs.Tallies.{noneAbove}
 use Rattle.chart_files.specs.Structure.{ownerAt}
-use Rattle.chart_files.proofs.PlacesRead.{most-states, most-transitions}
-use Rattle.chart_files.proofs.NamesFramed.{actions-known}
+use Rattle.chart_records.proofs.PlacesRead.{most-states, most-transitions}
+use Rattle.chart_checks.proofs.NamesFramed.{actions-known}
 use Rattle.chart_files.proofs.StructureFramed.{owners-is}
 use Rattle.chart_files.proofs.Tallies.{take-zeros, length-zeros}
 use Rattle.chart_files.proofs.structure.owners_act.Statement.{statement}
 use Rattle.chart_files.proofs.structure.owners_act.Tie as tie
-
-cast-n : tie.Need-cast-n
-cast-n c = search needs
-
-cast-n-2 : tie.Need-cast-n-2
-cast-n-2 c = search needs
-
-add-n : tie.Need-add-n
-add-n c = search needs
 
 array-borrow-prefix-counts : tie.Need-array-borrow-prefix-counts
 array-borrow-prefix-counts c =
@@ -35,9 +26,6 @@ slice-aggregate-owners-within c =
     length-zeros (b .args .shape .states + b .args .shape .transitions) 384
     (omega (arith, most-states (now (b .args .s)) (b .args .shape) (b .pre .0), most-transitions (now (b .args .s)) (b .args .shape) (b .pre .0)))
 
-owners-within-requires : tie.Need-owners-within-requires
-owners-within-requires c κs = search needs
-
 returns : tie.Need-returns
 returns c =
     let b = c .before .before .before .before .before .before in
@@ -49,4 +37,4 @@ returns c =
     ∙ sym (owners-is s sh (b .pre .0) (b .pre .1) (actions-known s sh (b .pre .0) (b .pre .2)))
 
 pub owners-act-spec : {M : Type 1} → statement M
-owners-act-spec = tie.close (tie.spec cast-n cast-n-2 add-n array-borrow-prefix-counts slice-aggregate-owners-within owners-within-requires returns)
+owners-act-spec = tie.close (tie.spec (λ c. search needs) (λ c. search needs) (λ c. search needs) array-borrow-prefix-counts slice-aggregate-owners-within (λ c κs. search needs) returns)

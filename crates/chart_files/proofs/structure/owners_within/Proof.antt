@@ -23,14 +23,8 @@ abbrev μ-loop : tie.MeasureT-loop
 loop-holds : tie.Need-loop-holds Inv-loop μ-loop
 loop-holds c = let a = c .before .before .args in tallied-none 8 (ownerAt (now (a .s)) (a .shape)) (a .shape .actions) (now (a .counts))
 
-owner-at-requires : tie.Need-owner-at-requires Inv-loop μ-loop
-owner-at-requires c κs = tt
-
 count-within-requires : tie.Need-count-within-requires Inv-loop μ-loop
 count-within-requires c κs = omega arith
-
-same-length : tie.Need-same-length Inv-loop μ-loop
-same-length c = search needs
 
 returns : tie.Need-returns Inv-loop μ-loop
 returns c =
@@ -70,4 +64,4 @@ returns-2 c =
     tallied-all 8 (ownerAt (now (a .s)) (a .shape)) (a .shape .actions) (now (a .counts)) (l .counts) (l .i) (l .inv) (c .loop-test .left)
 
 pub owners-within-spec : {M : Type 1} → statement M
-owners-within-spec = tie.close (tie.spec Inv-loop μ-loop loop-holds owner-at-requires count-within-requires same-length returns add-i loop-less loop-again same-length-2 returns-2)
+owners-within-spec = tie.close (tie.spec Inv-loop μ-loop loop-holds (λ c κs. tt) count-within-requires (λ c. search needs) returns add-i loop-less loop-again same-length-2 returns-2)

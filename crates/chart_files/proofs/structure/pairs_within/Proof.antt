@@ -10,7 +10,7 @@ use lib.Dec.{ltb}
 use lib.ListN.{getD}
 use Rattle.chart_files.specs.Tallies.{addOne}
 use Rattle.chart_files.specs.Structure.{pairAt}
-use Rattle.chart_files.proofs.InCode.{priority-in-code}
+use Rattle.chart_checks.proofs.InCode.{priority-in-code}
 use Rattle.chart_files.proofs.Tallies.{Tallied, tallied-none, tallied-more, tallied-not, tallied-all}
 use Rattle.chart_files.proofs.structure.pairs_within.Statement.{statement}
 use Rattle.chart_files.proofs.structure.pairs_within.Tie as tie
@@ -29,9 +29,6 @@ pair-requires c κs = let b = c .before .before .before .before .before in prior
 
 count-within-requires : tie.Need-count-within-requires Inv-loop μ-loop
 count-within-requires c κs = omega arith
-
-same-length : tie.Need-same-length Inv-loop μ-loop
-same-length c = search needs
 
 returns : tie.Need-returns Inv-loop μ-loop
 returns c =
@@ -71,4 +68,4 @@ returns-2 c =
     tallied-all 1 (pairAt (now (a .s)) (a .shape)) (a .shape .transitions) (now (a .seen)) (l .seen) (l .t) (l .inv) (c .loop-test .left)
 
 pub pairs-within-spec : {M : Type 1} → statement M
-pairs-within-spec = tie.close (tie.spec Inv-loop μ-loop loop-holds pair-requires count-within-requires same-length returns add-t loop-less loop-again same-length-2 returns-2)
+pairs-within-spec = tie.close (tie.spec Inv-loop μ-loop loop-holds pair-requires count-within-requires (λ c. search needs) returns add-t loop-less loop-again same-length-2 returns-2)

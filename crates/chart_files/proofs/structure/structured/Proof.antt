@@ -9,22 +9,13 @@ use Rattle.prelude.specs.Lists.{all, upto}
 use Rattle.prelude.proofs.Loops.{and-assoc}
 use Rattle.model.specs.ChartSet.{readCharts}
 use Rattle.model.specs.ChartFile.{insideCharts, initialFits, prioritiesDiffer, atMostEight}
-use Rattle.chart_files.proofs.NamesFramed.{initials-known}
-use Rattle.chart_files.proofs.PlacesRead.{length-initial}
+use Rattle.chart_checks.proofs.NamesFramed.{initials-known}
+use Rattle.chart_records.proofs.PlacesRead.{length-initial}
 use Rattle.chart_files.proofs.structure.structured.Statement.{statement}
 use Rattle.chart_files.proofs.structure.structured.Tie as tie
 
-inside-charts-requires : tie.Need-inside-charts-requires
-inside-charts-requires c κs = search needs
-
 initials-fit-requires : tie.Need-initials-fit-requires
 initials-fit-requires c κs = let b = c .before .before in (b .pre .0, initials-known (now (b .args .s)) (b .args .shape) (b .pre .0) (b .pre .2))
-
-priorities-differ-requires : tie.Need-priorities-differ-requires
-priorities-differ-requires c κs = search needs
-
-owners-act-requires : tie.Need-owners-act-requires
-owners-act-requires c κs = search needs
 
 returns : tie.Need-returns
 returns c =
@@ -36,4 +27,4 @@ returns c =
     ∙ and-assoc (insideCharts cs && all (initialFits cs) (upto (length (cs .initial))) && all (prioritiesDiffer cs) (upto (length (cs .homes)))) (all (atMostEight (cs .entries ++ cs .exits)) (upto (length (cs .homes)))) (all (atMostEight (cs .transition-actions)) (upto (length (cs .transitions))))
 
 pub structured-spec : {M : Type 1} → statement M
-structured-spec = tie.close (tie.spec inside-charts-requires initials-fit-requires priorities-differ-requires owners-act-requires returns)
+structured-spec = tie.close (tie.spec (λ c κs. search needs) initials-fit-requires (λ c κs. search needs) (λ c κs. search needs) returns)

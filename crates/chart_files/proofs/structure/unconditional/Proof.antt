@@ -6,29 +6,11 @@ use borrow.Author.Needs.{needs}
 use denote.Ref.{now}
 use Rattle.model.specs.ChartSet.{always}
 use Rattle.model.specs.ChartFile.{unconditional}
-use Rattle.chart_files.specs.Places.{transitionAt}
-use Rattle.chart_files.specs.Parts.{triggerFor}
+use Rattle.chart_records.specs.Places.{transitionAt}
+use Rattle.chart_records.specs.Parts.{triggerFor}
 use Rattle.chart_files.specs.Structure.{isFree}
 use Rattle.chart_files.proofs.structure.unconditional.Statement.{statement}
 use Rattle.chart_files.proofs.structure.unconditional.Tie as tie
-
-trigger-of-requires : tie.Need-trigger-of-requires
-trigger-of-requires c κs = search needs
-
-enum-told : tie.Need-enum-told
-enum-told c = search needs
-
-free-requires : tie.Need-free-requires
-free-requires c κs = search needs
-
-enum-told-2 : tie.Need-enum-told-2
-enum-told-2 c = search needs
-
-enum-told-3 : tie.Need-enum-told-3
-enum-told-3 c = search needs
-
-enum-told-4 : tie.Need-enum-told-4
-enum-told-4 c = search needs
 
 -- with no trigger the guard decides
 by-guard : (g : Option ℕ) → isFree g ≡ unconditional always g
@@ -58,4 +40,4 @@ returns-4 c =
     sym (ap (λ x. unconditional x (transitionAt (now (a .s)) (a .shape) (a .t) .guard)) (sym (c .before .before .trigger-of .ensures) ∙ ap triggerFor (c .enum-told4 .given .1)))
 
 pub unconditional-spec : {M : Type 1} → statement M
-unconditional-spec = tie.close (tie.spec trigger-of-requires enum-told free-requires enum-told-2 enum-told-3 enum-told-4 returns returns-2 returns-3 returns-4)
+unconditional-spec = tie.close (tie.spec (λ c κs. search needs) (λ c. search needs) (λ c κs. search needs) (λ c. search needs) (λ c. search needs) (λ c. search needs) returns returns-2 returns-3 returns-4)

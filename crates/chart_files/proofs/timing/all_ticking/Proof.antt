@@ -8,11 +8,11 @@ use Rattle.prelude.specs.Lists.{all, upto}
 use Rattle.prelude.proofs.Loops.{Passed, passed-none, passed-more, passed-all, passed-not}
 use Rattle.model.specs.ChartSet.{readCharts}
 use Rattle.model.specs.ChartFile as F
-use Rattle.chart_files.specs.declared.Shape.{Shape}
-use Rattle.chart_files.specs.Shape.{IsShape}
-use Rattle.chart_files.specs.Places.{transitionAt}
+use Rattle.chart_records.specs.declared.Shape.{Shape}
+use Rattle.chart_records.specs.Shape.{IsShape}
+use Rattle.chart_records.specs.Places.{transitionAt}
 use Rattle.prelude.proofs.Maps.{all-map}
-use Rattle.chart_files.proofs.PlacesRead.{transitions-are}
+use Rattle.chart_records.proofs.PlacesRead.{transitions-are}
 use borrow.Author.Needs.{needs}
 use Rattle.chart_files.proofs.timing.all_ticking.Statement.{statement}
 use Rattle.chart_files.proofs.timing.all_ticking.Tie as tie
@@ -32,12 +32,6 @@ abbrev μ-loop : tie.MeasureT-loop
 loop-holds : tie.Need-loop-holds Inv-loop μ-loop
 loop-holds c = let a = c .before .args in passed-none (test (a .s .now) (a .shape)) (a .shape .transitions)
 
-trigger-of-requires : tie.Need-trigger-of-requires Inv-loop μ-loop
-trigger-of-requires c κs = search needs
-
-ticking-requires : tie.Need-ticking-requires Inv-loop μ-loop
-ticking-requires c κs = search needs
-
 returns : tie.Need-returns Inv-loop μ-loop
 returns c =
     let a = c .before .before .before .before .before .before .before .args in
@@ -45,12 +39,6 @@ returns c =
     sym
     (by-number (a .s .now) (a .shape) (c .before .before .before .before .before .before .before .pre)
     ∙ passed-not (test (a .s .now) (a .shape)) (a .shape .transitions) (l .t) (l .inv) (c .before .before .before .if1 .taken) (sym (c .before .ticking .ensures ∙ ap F.ticking (c .before .before .trigger-of .ensures)) ∙ not-true _ (c .if2 .taken)))
-
-add-t : tie.Need-add-t Inv-loop μ-loop
-add-t c = search needs
-
-loop-less : tie.Need-loop-less Inv-loop μ-loop
-loop-less c = search needs
 
 loop-again : tie.Need-loop-again Inv-loop μ-loop
 loop-again c =
@@ -71,10 +59,10 @@ all-ticking-spec =
     Inv-loop
     μ-loop
     loop-holds
-    trigger-of-requires
-    ticking-requires
+    (λ c κs. search needs)
+    (λ c κs. search needs)
     returns
-    add-t
-    loop-less
+    (λ c. search needs)
+    (λ c. search needs)
     loop-again
     returns-2)

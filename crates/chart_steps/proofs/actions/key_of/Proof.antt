@@ -9,12 +9,6 @@ use borrow.Author.Needs.{needs}
 use Rattle.chart_steps.proofs.actions.key_of.Statement.{statement}
 use Rattle.chart_steps.proofs.actions.key_of.Tie as tie
 
-place-of-requires : tie.Need-place-of-requires
-place-of-requires c κs = search needs
-
-owner-of-requires : tie.Need-owner-of-requires
-owner-of-requires c κs = search needs
-
 key-for-requires : tie.Need-key-for-requires
 key-for-requires c κs =
     let a = c .before .before .before in
@@ -30,4 +24,4 @@ returns c =
     (k, omega (arith, k, key-small _ _ (owner-placed s (a .args .shape) (a .pre .0) (a .args .a) (a .pre .1))))
 
 pub key-of-spec : {M : Type 1} → statement M
-key-of-spec = tie.close (tie.spec place-of-requires owner-of-requires key-for-requires returns)
+key-of-spec = tie.close (tie.spec (λ c κs. search needs) (λ c κs. search needs) key-for-requires returns)

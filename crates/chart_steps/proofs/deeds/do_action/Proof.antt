@@ -7,8 +7,8 @@ use lib.ListN.{length}
 use Rattle.records.specs.Bytes.{byte, two}
 use Rattle.model.specs.Runs.{deed}
 use Rattle.model.specs.ChartSet.{readDeed, readCharts}
-use Rattle.chart_files.specs.Places.{actionAt}
-use Rattle.chart_files.proofs.PlacesRead.{inside}
+use Rattle.chart_records.specs.Places.{actionAt}
+use Rattle.chart_records.proofs.PlacesRead.{inside}
 use Rattle.machines.specs.Deeds.{Doable}
 use Rattle.machines.specs.Worlds.{worldIn}
 use Rattle.chart_steps.proofs.Accepted.{deed-doable}
@@ -16,15 +16,6 @@ use Rattle.chart_steps.proofs.ValuesRead.{has-values, variables-in, nod
 use borrow.Author.Needs.{needs}
 use Rattle.chart_steps.proofs.deeds.do_action.Statement.{statement}
 use Rattle.chart_steps.proofs.deeds.do_action.Tie as tie
-
-first-action-requires : tie.Need-first-action-requires
-first-action-requires c κs = search needs
-
-add-at : tie.Need-add-at
-add-at c = search needs
-
-mul-at : tie.Need-mul-at
-mul-at c = search needs
 
 within : (c : tie.After-first-action) → 16 * (c .first-action .result + c .before .before .args .a) + 15 < length (now (c .before .before .args .s))
 within c =
@@ -43,26 +34,14 @@ fields c =
     ap (λ n. readDeed (byte s (16 * (n + x .a) + 4)) (byte s (16 * (n + x .a) + 5)) (two s (16 * (n + x .a) + 6))) (sym (f .first-action .ensures))
     ∙ ap (readDeed (byte s (16 * (f .first-action .result + x .a) + 4)) (byte s (16 * (f .first-action .result + x .a) + 5))) (sym (c .u16-within .ensures))
 
-add-code : tie.Need-add-code
-add-code c = search needs
-
 shared-slice-read-code : tie.Need-shared-slice-read-code
 shared-slice-read-code c = omega (arith, within (c .before))
-
-add-x : tie.Need-add-x
-add-x c = search needs
 
 shared-slice-read-x : tie.Need-shared-slice-read-x
 shared-slice-read-x c = omega (arith, within (c .before .before))
 
-add-u16-within : tie.Need-add-u16-within
-add-u16-within c = search needs
-
 u16-within-requires : tie.Need-u16-within-requires
 u16-within-requires c κs = omega (arith, within (c .before .before))
-
-values-of-requires : tie.Need-values-of-requires
-values-of-requires c κs = search needs
 
 do-deed-requires : tie.Need-do-deed-requires
 do-deed-requires c κs =
@@ -74,14 +53,14 @@ do-deed-requires c κs =
 
 returns : tie.Need-returns
 returns c = (
-  λ p q.
+  λ m.
       let v = c .before .before .values-of in
       let u = c .before .before .before in
       let a = u .before .before .before .before .before in
       let x = a .args in
       let s = now (x .s) in
-      let w = worldIn (now (x .vars)) (x .events) p q in
-      c .do-deed .ensures .0 p q
+      let w = worldIn (now (x .vars)) (x .events) m in
+      c .do-deed .ensures .0 m
       ∙ (λ i. deed (nodes-in s (x .shape) (a .pre .0 .shape) (v .result) (v .ensures) i) (variables-in s (x .shape) (a .pre .0 .shape) (v .result) (v .ensures) i) (sym (fields u) i) w),
   c .do-deed .ensures .1,
 )
@@ -90,15 +69,15 @@ pub do-action-spec : {M : Type 1} → statement M
 do-action-spec =
     tie.close
     (tie.spec
-    first-action-requires
-    add-at
-    mul-at
-    add-code
+    (λ c κs. search needs)
+    (λ c. search needs)
+    (λ c. search needs)
+    (λ c. search needs)
     shared-slice-read-code
-    add-x
+    (λ c. search needs)
     shared-slice-read-x
-    add-u16-within
+    (λ c. search needs)
     u16-within-requires
-    values-of-requires
+    (λ c κs. search needs)
     do-deed-requires
     returns)

@@ -5,7 +5,7 @@ use Prim.Native.Nat.{ℕ, _+_, _-_, _*_, _≤_, _<_}
 use native.Mathlib.Omega.{arith}
 use denote.Ref.{now}
 use lib.ListN.{getD}
-use Rattle.chart_files.proofs.PlacesRead.{most-actions}
+use Rattle.chart_records.proofs.PlacesRead.{most-actions}
 use Rattle.machines.specs.Chains.{withKey, remaining, Chained}
 use Rattle.machines.specs.Worlds.{codedFault}
 use Rattle.machines.proofs.Chains.{At, chain-start, chain-all, chain-next, chain-one, chain-rises, chain-done}
@@ -57,14 +57,14 @@ cast-result c = let h = c .before .before .loop .inv .0 in omega (arith, h)
 
 returns : tie.Need-returns Inv-loop μ-loop
 returns c = (
-  λ p q.
+  λ m.
       let b = c .before .before .before .before .before in
       let x = b .args in
       let l = c .before .before .loop in
-      world-value (l .present) (l .vars) p q (l .inv .0)
+      world-value (l .present) (l .vars) m (l .inv .0)
       ∙ left-none (now (x .s)) (x .shape) (x .leaving) (x .crossing) (x .entering) (now (x .vars)) (x .events) (l .k) _ (l .vars) (l .present) (l .inv .3)
       (chain-done (withKey (keyAt (now (x .s)) (x .shape)) (keyAfter (now (x .s)) (x .shape) (x .leaving) (x .crossing) (x .entering) (l .k))) (x .shape .actions) (l .a) (c .before .if1 .taken))
-      (c .if2 .taken) p q,
+      (c .if2 .taken) m,
   is-code (c .before .before .loop .present) (c .before .before .loop .inv .0),
 )
 
@@ -132,16 +132,16 @@ do-action-requires c κs = (c .before .before .before .before .before .pre .0, c
 
 returns-2 : tie.Need-returns-2 Inv-loop μ-loop
 returns-2 c = (
-  λ p q.
+  λ m.
       let b = c .before .before .before .before .before .before .before in
       let x = b .args in
       let l = c .before .before .before .before .loop in
       let f = c .before .do-action in
       let wrong = c .if4 .taken in
-      world-fault (f .result) (f .last .1 .1 .1 .0) p q wrong
+      world-fault (f .result) (f .last .1 .1 .1 .0) m wrong
       ∙ left-fault (now (x .s)) (x .shape) (x .leaving) (x .crossing) (x .entering) (now (x .vars)) (x .events) (l .k) _ (l .vars) (l .present) (l .inv .3) (l .a) _
       (chain-one (keyAt (now (x .s)) (x .shape)) 512 (x .shape .actions) (now (x .first)) (now (x .next)) (chains b) (few b) (keyAfter (now (x .s)) (x .shape) (x .leaving) (x .crossing) (x .entering) (l .k)) (one-key b (l .k)) (l .a) _ (l .inv .2) (c .before .before .before .if1 .left) refl)
-      (codedFault (f .result)) (λ p q. sym (world-fault (f .result) (f .last .1 .1 .1 .0) p q wrong) ∙ f .ensures .0 p q) p q,
+      (codedFault (f .result)) (λ m. sym (world-fault (f .result) (f .last .1 .1 .1 .0) m wrong) ∙ f .ensures .0 m) m,
   c .before .do-action .ensures .1,
 )
 
@@ -183,7 +183,7 @@ loop-again-2 c =
       chain-next (keyAt (now (x .s)) (x .shape)) 512 (x .shape .actions) (now (x .first)) (now (x .next)) (chains b) (few b) (keyAfter (now (x .s)) (x .shape) (x .leaving) (x .crossing) (x .entering) (l .k)) (one-key b (l .k)) (l .a) _ (l .inv .2) more refl,
       left-more (now (x .s)) (x .shape) (x .leaving) (x .crossing) (x .entering) (now (x .vars)) (x .events) (l .k) _ (l .vars) (l .present) (l .inv .3) (l .a) _
           (chain-one (keyAt (now (x .s)) (x .shape)) 512 (x .shape .actions) (now (x .first)) (now (x .next)) (chains b) (few b) (keyAfter (now (x .s)) (x .shape) (x .leaving) (x .crossing) (x .entering) (l .k)) (one-key b (l .k)) (l .a) _ (l .inv .2) more refl)
-          (f .last .1 .1 .1 .0) (f .result) (λ p q. sym (world-value (f .result) (f .last .1 .1 .1 .0) p q fine) ∙ f .ensures .0 p q),
+          (f .last .1 .1 .1 .0) (f .result) (λ m. sym (world-value (f .result) (f .last .1 .1 .1 .0) m fine) ∙ f .ensures .0 m),
     )
 
 pub do-deeds-spec : {M : Type 1} → statement M

@@ -4,15 +4,12 @@ use Prim.Native.Nat.{_<_}
 use native.Mathlib.Omega.{arith}
 use borrow.Author.Needs.{needs}
 use denote.Ref.{now}
-use Rattle.chart_files.proofs.PlacesRead.{most-states, most-transitions}
+use Rattle.chart_records.proofs.PlacesRead.{most-states, most-transitions}
 use Rattle.machines.specs.Worlds.{worldIn}
 use Rattle.chart_steps.proofs.Accepted.{source-known, target-known}
 use Rattle.chart_steps.proofs.StepOf.{acted-by-keys}
 use Rattle.chart_steps.proofs.steps.do_actions.Statement.{statement}
 use Rattle.chart_steps.proofs.steps.do_actions.Tie as tie
-
-source-of-requires : tie.Need-source-of-requires
-source-of-requires c κs = search needs
 
 few-transitions : (c : tie.Start) → c .args .t < 256
 few-transitions c = omega (arith, c .pre .2, most-transitions (now (c .args .s)) (c .args .shape) (c .pre .0 .shape))
@@ -33,9 +30,6 @@ add-leaving c = omega (arith, source-small c)
 add-crossing : tie.Need-add-crossing
 add-crossing c = omega (arith, few-transitions (c .before .before))
 
-target-of-requires : tie.Need-target-of-requires
-target-of-requires c κs = search needs
-
 do-deeds-requires : tie.Need-do-deeds-requires
 do-deeds-requires c κs =
     let a = c .before .before .before .before in
@@ -43,11 +37,11 @@ do-deeds-requires c κs =
 
 returns : tie.Need-returns
 returns c = (
-  λ p q.
+  λ m.
       let a = c .before .before .before .before .before in
       let x = a .args in
-      c .do-deeds .ensures .0 p q
-      ∙ sym (acted-by-keys (now (x .s)) (x .shape) (a .pre .0) (x .t) (c .before .before .before .source-of .result) (c .before .before .target-of .result) (a .pre .2) (c .before .before .before .source-of .ensures) (c .before .before .target-of .ensures) (worldIn (now (x .vars)) (x .events) p q)),
+      c .do-deeds .ensures .0 m
+      ∙ sym (acted-by-keys (now (x .s)) (x .shape) (a .pre .0) (x .t) (c .before .before .before .source-of .result) (c .before .before .target-of .result) (a .pre .2) (c .before .before .before .source-of .ensures) (c .before .before .target-of .ensures) (worldIn (now (x .vars)) (x .events) m)),
   c .do-deeds .ensures .1,
 )
 
@@ -55,9 +49,9 @@ pub do-actions-spec : {M : Type 1} → statement M
 do-actions-spec =
     tie.close
     (tie.spec
-    source-of-requires
+    (λ c κs. search needs)
     add-leaving
     add-crossing
-    target-of-requires
+    (λ c κs. search needs)
     do-deeds-requires
     returns)

@@ -14,7 +14,7 @@ use Rattle.expressions.specs.Answers.{truthOf}
 use Rattle.expressions.specs.Answers as expressions-answers
 use Rattle.model.specs.ChartSet.{readCharts}
 use Rattle.model.specs.Charts.{firstThat, transitionHolds}
-use Rattle.chart_files.proofs.PlacesRead.{most-states, most-transitions}
+use Rattle.chart_records.proofs.PlacesRead.{most-states, most-transitions}
 use Rattle.machines.specs.Worlds.{bareWorld}
 use Rattle.machines.proofs.WorldsCodes.{is-code}
 use Rattle.chart_steps.specs.Tables.{slotAt}
@@ -80,12 +80,6 @@ slot-holds-requires c κs =
     let x = a .args in
     (a .pre .0, λ n. named-one (now (x .s)) (x .shape) (a .pre .0) (x .state) (c .before .before .loop .j + 1) (t-of c) (slot-here c) n)
 
-enum-known-w : tie.Need-enum-known-w Inv-loop μ-loop
-enum-known-w c = search needs
-
-fault-code-requires : tie.Need-fault-code-requires Inv-loop μ-loop
-fault-code-requires c κs = tt
-
 returns-2 : tie.Need-returns-2 Inv-loop μ-loop
 returns-2 c =
     let a = c .before .before .before .before .before .before .before .before .before .before .before .before in
@@ -96,9 +90,6 @@ returns-2 c =
           (ap truthOf (sym (c .before .before .w .given .1)) ∙ c .before .before .before .before .slot-holds .ensures),
       record { exact = c .fault-code .ensures .2; small = λ h. absurd (omega (arith, c .fault-code .ensures .0)); known = λ h. absurd (omega (arith, c .fault-code .ensures .0)) },
     )
-
-enum-known-holding : tie.Need-enum-known-holding Inv-loop μ-loop
-enum-known-holding c = search needs
 
 holding : (c : tie.Then2 Inv-loop μ-loop) →
     let x = c .before .before .before .before .before .before .before .before .before .before .before .before .args in
@@ -166,10 +157,10 @@ first-that-spec =
     loop-holds
     slot-of-requires
     slot-holds-requires
-    enum-known-w
-    fault-code-requires
+    (λ c. search needs)
+    (λ c κs. tt)
     returns-2
-    enum-known-holding
+    (λ c. search needs)
     cast-result
     returns-3
     add-j

@@ -7,7 +7,7 @@ use denote.Ref.{now}
 use Rattle.records.specs.Refusal.{val, _>>=_}
 use Rattle.model.specs.ChartSet.{readCharts}
 use Rattle.model.specs.Charts.{follow}
-use Rattle.chart_files.proofs.PlacesRead.{most-charts}
+use Rattle.chart_records.proofs.PlacesRead.{most-charts}
 use Rattle.machines.specs.Worlds.{runIn}
 use Rattle.machines.proofs.WorldsCodes.{is-code}
 use Rattle.chart_steps.specs.StepOf.{answerBy, movedBy}
@@ -18,14 +18,8 @@ use Rattle.chart_steps.proofs.steps.step_in_place.Tie as tie
 few-charts : (c : tie.Start) → c .args .chart < 8
 few-charts c = omega (arith, c .pre .1, most-charts (now (c .args .s)) (c .args .shape) (c .pre .0 .accepted .shape))
 
-mul-state : tie.Need-mul-state
-mul-state c = search needs
-
 element-copy-out-state : tie.Need-element-copy-out-state
 element-copy-out-state c = few-charts (c .before)
-
-mul-age : tie.Need-mul-age
-mul-age c = search needs
 
 element-copy-out-age : tie.Need-element-copy-out-age
 element-copy-out-age c = few-charts (c .before .before)
@@ -35,12 +29,12 @@ first-that-requires c κs = let a = c .before .before .before .before in (a .pre
 
 returns : tie.Need-returns
 returns c = (
-  λ p q.
+  λ m.
       let x = c .before .before .before .before .before .before .args in
       let f = c .before .first-that in
       let wrong = c .if1 .taken in
-      moved-fault (f .result) (answerBy (now (x .chosen))) (now (x .states)) (now (x .ages)) (now (x .vars)) p q wrong
-      ∙ ap (λ o. o >>= follow (readCharts (now (x .s))) (x .chart) (runIn (now (x .states)) (now (x .ages)) (now (x .vars)) (x .events) p q)) (sym (choice-fault (f .result) wrong) ∙ f .ensures .0),
+      moved-fault (f .result) (answerBy (now (x .chosen))) (now (x .states)) (now (x .ages)) (now (x .vars)) m wrong
+      ∙ ap (λ o. o >>= follow (readCharts (now (x .s))) (x .chart) (runIn (now (x .states)) (now (x .ages)) (now (x .vars)) (x .events) m)) (sym (choice-fault (f .result) wrong) ∙ f .ensures .0),
   c .before .first-that .ensures .1 .exact,
 )
 
@@ -53,13 +47,13 @@ cast-chosen c = omega (arith, small c)
 
 returns-2 : tie.Need-returns-2
 returns-2 c = (
-  λ p q.
+  λ m.
       let x = c .before .before .before .before .before .before .before .args in
       let f = c .before .before .first-that in
       let none-holds = c .if2 .taken in
-      moved-value (x .events) (answerBy (f .result)) (now (x .states)) (now (x .ages)) (now (x .vars)) p q (omega arith)
-      ∙ ap (λ n. val (answerBy n, runIn (now (x .states)) (now (x .ages)) (now (x .vars)) (x .events) p q)) none-holds
-      ∙ ap (λ o. o >>= follow (readCharts (now (x .s))) (x .chart) (runIn (now (x .states)) (now (x .ages)) (now (x .vars)) (x .events) p q)) (sym (choice-none (f .result) none-holds) ∙ f .ensures .0),
+      moved-value (x .events) (answerBy (f .result)) (now (x .states)) (now (x .ages)) (now (x .vars)) m (omega arith)
+      ∙ ap (λ n. val (answerBy n, runIn (now (x .states)) (now (x .ages)) (now (x .vars)) (x .events) m)) none-holds
+      ∙ ap (λ o. o >>= follow (readCharts (now (x .s))) (x .chart) (runIn (now (x .states)) (now (x .ages)) (now (x .vars)) (x .events) m)) (sym (choice-none (f .result) none-holds) ∙ f .ensures .0),
   is-code (c .before .before .before .before .before .before .before .args .events) (omega arith),
 )
 
@@ -76,13 +70,13 @@ follow-requires c κs =
 
 returns-3 : tie.Need-returns-3
 returns-3 c = (
-  λ p q.
+  λ m.
       let x = c .before .before .before .before .before .before .before .before .before .before .before .args in
       let f = c .before .before .before .before .before .before .first-that in
       let one = one-chosen (c .before .before .before .before) in
-      ap (λ a. movedBy (c .follow .result) a (c .follow .last .1 .1 .1 .1 .1 .1 .0) (c .follow .last .1 .1 .1 .1 .1 .1 .1 .0) (c .follow .last .1 .1 .1 .1 .1 .1 .1 .1 .0) p q) (answer-taken (f .result) one)
-      ∙ c .follow .ensures .0 p q
-      ∙ ap (λ o. o >>= follow (readCharts (now (x .s))) (x .chart) (runIn (now (x .states)) (now (x .ages)) (now (x .vars)) (x .events) p q)) (sym (choice-some (f .result) one) ∙ f .ensures .0),
+      ap (λ a. movedBy (c .follow .result) a (c .follow .last .1 .1 .1 .1 .1 .1 .0) (c .follow .last .1 .1 .1 .1 .1 .1 .1 .0) (c .follow .last .1 .1 .1 .1 .1 .1 .1 .1 .0) m) (answer-taken (f .result) one)
+      ∙ c .follow .ensures .0 m
+      ∙ ap (λ o. o >>= follow (readCharts (now (x .s))) (x .chart) (runIn (now (x .states)) (now (x .ages)) (now (x .vars)) (x .events) m)) (sym (choice-some (f .result) one) ∙ f .ensures .0),
   c .follow .ensures .1,
 )
 
@@ -90,9 +84,9 @@ pub step-in-place-spec : {M : Type 1} → statement M
 step-in-place-spec =
     tie.close
     (tie.spec
-    mul-state
+    (λ c. search needs)
     element-copy-out-state
-    mul-age
+    (λ c. search needs)
     element-copy-out-age
     first-that-requires
     returns

@@ -3,9 +3,10 @@ use Prim.Native.Nat.{_+_, _-_, _≤_}
 use native.Mathlib.Omega.{arith}
 use denote.Ref.{now}
 use Rattle.model.specs.ChartSet.{readCharts}
-use Rattle.chart_files.proofs.PlacesRead.{most-charts}
+use Rattle.chart_records.proofs.PlacesRead.{most-charts}
 use Rattle.chart_steps.specs.StepOf.{answerBy}
 use Rattle.chart_steps.proofs.StepOfTurns.{LeftTurns, left-all, left-more, left-fault, left-none}
+use Rattle.machines.specs.Worlds.{onward}
 use Rattle.machines.proofs.WorldsCodes.{is-code}
 use Rattle.chart_steps.proofs.steps.turns_in_place.Statement.{statement}
 use Rattle.chart_steps.proofs.steps.turns_in_place.Tie as tie
@@ -29,13 +30,13 @@ step-in-place-requires c κs =
 
 returns : tie.Need-returns Inv-loop μ-loop
 returns c = (
-  λ p q.
+  λ m.
       let x = c .before .before .before .before .before .before .before .before .before .args in
       let l = c .before .before .before .before .before .before .before .loop in
       let f = c .before .step-in-place in
       let more = c .before .before .before .before .before .before .loop-test .taken in
       left-fault (readCharts (now (x .s))) (x .from) (x .to) (answerBy (now (x .chosen))) (now (x .states)) (now (x .ages)) (now (x .vars)) (x .events) (l .chart) (answerBy (l .chosen)) (l .states) (l .ages) (l .vars) (l .present) (l .inv .3)
-      (f .result) (answerBy (f .last .1 .1 .1 .1 .1 .1 .1 .1 .1 .1 .1 .0)) (f .last .1 .1 .1 .1 .1 .1 .1 .0) (f .last .1 .1 .1 .1 .1 .1 .1 .1 .0) (f .last .1 .1 .1 .1 .1 .1 .1 .1 .1 .0) (f .ensures .0) more (c .if1 .taken) p (p + (x .to - x .from)) q,
+      (f .result) (answerBy (f .last .1 .1 .1 .1 .1 .1 .1 .1 .1 .1 .1 .0)) (f .last .1 .1 .1 .1 .1 .1 .1 .0) (f .last .1 .1 .1 .1 .1 .1 .1 .1 .0) (f .last .1 .1 .1 .1 .1 .1 .1 .1 .1 .0) (f .ensures .0) more (c .if1 .taken) m (onward (x .to - x .from) m),
   c .before .step-in-place .ensures .1,
 )
 

@@ -5,7 +5,7 @@ use native.Mathlib.Omega.{arith}
 use denote.Ref.{now}
 use lib.ListN.{drop, replicate}
 use lib.Seq.{drop-set-lt}
-use Rattle.chart_files.proofs.PlacesRead.{most-actions}
+use Rattle.chart_records.proofs.PlacesRead.{most-actions}
 use Rattle.machines.proofs.Chains.{Chains, chains-none, chains-more, chains-made}
 use Rattle.chart_steps.specs.Tables.{keyAt}
 use Rattle.chart_steps.proofs.TablesActions.{key-within}

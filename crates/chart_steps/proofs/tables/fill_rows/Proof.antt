@@ -5,7 +5,7 @@ use Prim.Native.Nat.{ℕ, _+_, _-_, _≤_, _<_, max}
 use native.Mathlib.Omega.{arith}
 use denote.Ref.{now}
 use lib.ListN.{getD, set, replicate}
-use Rattle.chart_files.proofs.PlacesRead.{most-states, most-transitions}
+use Rattle.chart_records.proofs.PlacesRead.{most-states, most-transitions}
 use Rattle.chart_steps.proofs.Accepted.{source-known, priority-known}
 use Rattle.chart_steps.proofs.TablesFilled.{Rows, rows-none, rows-more, Ended, ends-none, ends-more}
 use Rattle.chart_steps.proofs.TablesRow.{sourceAt, priorityAt, rows-are, ends-are}
@@ -37,9 +37,6 @@ source-of-requires c κs = (c .before .before .before .pre .0, omega (arith, c .
 
 cast-source : tie.Need-cast-source Inv-loop μ-loop
 cast-source c = omega arith
-
-priority-of-requires : tie.Need-priority-of-requires Inv-loop μ-loop
-priority-of-requires c κs = tt
 
 -- what was read of transition t - 1 is within bounds
 in-file : (c : tie.After-priority-of Inv-loop μ-loop) → c .before .before .before .loop .t - 1 < c .before .before .before .before .before .args .shape .transitions
@@ -78,9 +75,6 @@ index-2-rows c = omega (arith, priority-fits c)
 
 element-copy-out-higher : tie.Need-element-copy-out-higher Inv-loop μ-loop
 element-copy-out-higher c = source-fits c
-
-higher-requires : tie.Need-higher-requires Inv-loop μ-loop
-higher-requires c κs = tt
 
 element-write-ends : tie.Need-element-write-ends Inv-loop μ-loop
 element-write-ends c = source-fits (c .before .before)
@@ -133,7 +127,7 @@ fill-rows-spec =
     sub-t
     source-of-requires
     cast-source
-    priority-of-requires
+    (λ c κs. tt)
     sub-place
     cast-place
     mul-rows
@@ -141,7 +135,7 @@ fill-rows-spec =
     index-1-rows
     index-2-rows
     element-copy-out-higher
-    higher-requires
+    (λ c κs. tt)
     element-write-ends
     loop-less
     loop-again

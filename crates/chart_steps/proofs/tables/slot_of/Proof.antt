@@ -4,7 +4,7 @@ use Prim.Native.Nat.{_+_, _<_}
 use native.Mathlib.Omega.{arith}
 use borrow.Author.Needs.{needs}
 use denote.Ref.{now}
-use Rattle.chart_files.proofs.PlacesRead.{most-states}
+use Rattle.chart_records.proofs.PlacesRead.{most-states}
 use Rattle.chart_steps.proofs.StepOf.{unnamed, placed-one}
 use Rattle.chart_steps.proofs.tables.slot_of.Statement.{statement}
 use Rattle.chart_steps.proofs.tables.slot_of.Tie as tie

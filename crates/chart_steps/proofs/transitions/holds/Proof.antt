@@ -7,8 +7,8 @@ use Rattle.records.specs.Bytes.{two}
 use Rattle.model.specs.Runs.{guardHolds}
 use Rattle.model.specs.ChartSet.{readGuard}
 use Rattle.model.specs.Charts.{triggered}
-use Rattle.chart_files.specs.Places.{transitionAt, triggerIn}
-use Rattle.chart_files.proofs.PlacesRead.{inside}
+use Rattle.chart_records.specs.Places.{transitionAt, triggerIn}
+use Rattle.chart_records.proofs.PlacesRead.{inside}
 use Rattle.chart_steps.specs.Replies.{Holdable}
 use Rattle.chart_steps.proofs.Accepted.{trigger-holdable}
 use Rattle.chart_steps.proofs.ValuesRead.{has-values, nodes-in}
@@ -17,27 +17,12 @@ use borrow.Author.Needs.{needs}
 use Rattle.chart_steps.proofs.transitions.holds.Statement.{statement}
 use Rattle.chart_steps.proofs.transitions.holds.Tie as tie
 
-first-transition-requires : tie.Need-first-transition-requires
-first-transition-requires c κs = search needs
-
-add-n : tie.Need-add-n
-add-n c = search needs
-
 triggered-requires : tie.Need-triggered-requires
 triggered-requires c κs =
     let a = c .before .before in
     let x = a .args in
     let e = c .first-transition .ensures in
     (omega (arith, e, a .pre .1, inside (now (x .s)) (x .shape) (a .pre .0 .shape)), subst (λ n. Holdable (triggerIn (now (x .s)) (n + x .t))) (sym e) (trigger-holdable (now (x .s)) (x .shape) (a .pre .0) (x .t) (a .pre .1)))
-
-values-of-requires : tie.Need-values-of-requires
-values-of-requires c κs = search needs
-
-mul-u16-within : tie.Need-mul-u16-within
-mul-u16-within c = search needs
-
-add-u16-within : tie.Need-add-u16-within
-add-u16-within c = search needs
 
 u16-within-requires : tie.Need-u16-within-requires
 u16-within-requires c κs =
@@ -75,12 +60,12 @@ pub holds-spec : {M : Type 1} → statement M
 holds-spec =
     tie.close
     (tie.spec
-    first-transition-requires
-    add-n
+    (λ c κs. search needs)
+    (λ c. search needs)
     triggered-requires
-    values-of-requires
-    mul-u16-within
-    add-u16-within
+    (λ c κs. search needs)
+    (λ c. search needs)
+    (λ c. search needs)
     u16-within-requires
     guard-holds-requires
     returns

@@ -5,21 +5,9 @@ use native.Mathlib.Omega.{arith}
 use borrow.Author.Needs.{needs}
 use denote.Ref.{now}
 use Rattle.records.specs.Bytes.{two}
-use Rattle.chart_files.proofs.PlacesRead.{inside}
+use Rattle.chart_records.proofs.PlacesRead.{inside}
 use Rattle.chart_steps.proofs.transitions.source_of.Statement.{statement}
 use Rattle.chart_steps.proofs.transitions.source_of.Tie as tie
-
-first-transition-requires : tie.Need-first-transition-requires
-first-transition-requires c κs = search needs
-
-add-u16-within : tie.Need-add-u16-within
-add-u16-within c = search needs
-
-mul-u16-within : tie.Need-mul-u16-within
-mul-u16-within c = search needs
-
-add-u16-within-2 : tie.Need-add-u16-within-2
-add-u16-within-2 c = search needs
 
 u16-within-requires : tie.Need-u16-within-requires
 u16-within-requires c κs =
@@ -35,9 +23,9 @@ pub source-of-spec : {M : Type 1} → statement M
 source-of-spec =
     tie.close
     (tie.spec
-    first-transition-requires
-    add-u16-within
-    mul-u16-within
-    add-u16-within-2
+    (λ c κs. search needs)
+    (λ c. search needs)
+    (λ c. search needs)
+    (λ c. search needs)
     u16-within-requires
     returns)

@@ -6,26 +6,11 @@ use denote.Ref.{now}
 use Rattle.prelude.specs.Lists.{caseOf}
 use Rattle.records.specs.Bytes.{byte, four}
 use Rattle.model.specs.Charts.{ticks, afterHolds, everyHolds, triggered}
-use Rattle.chart_files.specs.Places.{triggerBy}
+use Rattle.chart_records.specs.Places.{triggerBy}
 use Rattle.chart_steps.specs.Replies.{Holdable}
 use borrow.Author.Needs.{needs}
 use Rattle.chart_steps.proofs.triggers.triggered.Statement.{statement}
 use Rattle.chart_steps.proofs.triggers.triggered.Tie as tie
-
-mul-at : tie.Need-mul-at
-mul-at c = search needs
-
-add-match : tie.Need-add-match
-add-match c = search needs
-
-shared-slice-read-match : tie.Need-shared-slice-read-match
-shared-slice-read-match c = search needs
-
-add-present : tie.Need-add-present
-add-present c = search needs
-
-shared-slice-read-present : tie.Need-shared-slice-read-present
-shared-slice-read-present c = search needs
 
 present-requires : tie.Need-present-requires
 unfolding caseOf
@@ -34,27 +19,6 @@ present-requires c κs =
     let s = now (a .args .s) in
     let n = 16 * a .args .n in
     subst (λ k. Holdable (triggerBy k (byte s (n + 7)) (four s (n + 8)))) (c .before .match .keys1) (a .pre .1)
-
-add-u32-within : tie.Need-add-u32-within
-add-u32-within c = search needs
-
-u32-within-requires : tie.Need-u32-within-requires
-u32-within-requires c κs = search needs
-
-ticks-requires : tie.Need-ticks-requires
-ticks-requires c κs = search needs
-
-add-u32-within-2 : tie.Need-add-u32-within-2
-add-u32-within-2 c = search needs
-
-u32-within-requires-2 : tie.Need-u32-within-requires-2
-u32-within-requires-2 c κs = search needs
-
-after-holds-requires : tie.Need-after-holds-requires
-after-holds-requires c κs = search needs
-
-ticks-requires-2 : tie.Need-ticks-requires-2
-ticks-requires-2 c κs = search needs
 
 every-holds-requires : tie.Need-every-holds-requires
 unfolding caseOf
@@ -103,19 +67,19 @@ pub triggered-spec : {M : Type 1} → statement M
 triggered-spec =
     tie.close
     (tie.spec
-    mul-at
-    add-match
-    shared-slice-read-match
-    add-present
-    shared-slice-read-present
+    (λ c. search needs)
+    (λ c. search needs)
+    (λ c. search needs)
+    (λ c. search needs)
+    (λ c. search needs)
     present-requires
-    add-u32-within
-    u32-within-requires
-    ticks-requires
-    after-holds-requires
-    add-u32-within-2
-    u32-within-requires-2
-    ticks-requires-2
+    (λ c. search needs)
+    (λ c κs. search needs)
+    (λ c κs. search needs)
+    (λ c κs. search needs)
+    (λ c. search needs)
+    (λ c κs. search needs)
+    (λ c κs. search needs)
     every-holds-requires
     returns
     returns-2

@@ -9,8 +9,8 @@ use Rattle.model.specs.Outcome.{settled}
 use Rattle.model.specs.Runs.{cycle}
 use Rattle.model.specs.ChartSet.{readCharts}
 use Rattle.model.specs.Charts.{charts}
-use Rattle.machines.specs.Answers.{reasonOf, answerOf}
-use Rattle.charts.specs.RunOf.{runOf}
+use Rattle.answers.specs.Answers.{reasonOf, answerOf}
+use Rattle.chart_runs.specs.RunOf.{runOf}
 use Rattle.chart_steps.specs.Prepared.{Prepared}
 use Rattle.charts.proofs.TurnOfCycle.{part-turn, goes-on, nearer, ends, fails}
 use Rattle.charts.proofs.cycles.cycle_by_turns.Statement.{statement}
@@ -52,18 +52,12 @@ loop-again c =
     let b = l .before .before .before .before .before .before .before .before in
     l .loop .inv ∙ goes-on (now (b .args .s)) (b .args .shape) (b .pre) (l .loop .given) (l .loop .present) (t .turn .result) (t .turn .ensures) (part-turn (t .turn .result .answer) (c .match .keys1))
 
-enum-told : tie.Need-enum-told Inv-loop μ-loop
-enum-told c = search needs
-
 returns : tie.Need-returns Inv-loop μ-loop
 returns c =
     let t = c .before .before .before in
     let l = t .before .before .before .before .before in
     let b = l .before .before .before .before .before .before .before .before in
     sym (ap (settled (runOf (b .args .run))) (l .loop .inv ∙ ends (now (b .args .s)) (b .args .shape) (b .pre) (l .loop .given) (l .loop .present) (t .turn .result) (t .turn .ensures) (c .enum-told .given .1)))
-
-enum-known-answer : tie.Need-enum-known-answer Inv-loop μ-loop
-enum-known-answer c = search needs
 
 returns-2 : tie.Need-returns-2 Inv-loop μ-loop
 returns-2 c =
@@ -72,9 +66,6 @@ returns-2 c =
     let l = t .before .before .before .before .before in
     let b = l .before .before .before .before .before .before .before .before in
     sym (ap (settled (runOf (b .args .run))) (l .loop .inv ∙ fails (now (b .args .s)) (b .args .shape) (b .pre) (l .loop .given) (l .loop .present) (t .turn .result) (t .turn .ensures) (reasonOf (g .0 .0)) (ap answerOf (g .1))))
-
-enum-known-answer-2 : tie.Need-enum-known-answer-2 Inv-loop μ-loop
-enum-known-answer-2 c = search needs
 
 returns-3 : tie.Need-returns-3 Inv-loop μ-loop
 returns-3 c =
@@ -96,9 +87,9 @@ cycle-by-turns-spec =
     turn-requires
     loop-less
     loop-again
-    enum-told
+    (λ c. search needs)
     returns
-    enum-known-answer
+    (λ c. search needs)
     returns-2
-    enum-known-answer-2
+    (λ c. search needs)
     returns-3)

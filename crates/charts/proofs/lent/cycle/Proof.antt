@@ -6,11 +6,11 @@ use Rattle.model.specs.Outcome.{settled}
 use Rattle.model.specs.Runs.{cycle}
 use Rattle.model.specs.ChartSet.{readCharts}
 use Rattle.model.specs.Charts.{charts}
-use Rattle.machines.specs.Answers.{endingOf}
-use Rattle.machines.proofs.LentAnswers.{ending-type}
-use Rattle.machines.proofs.LentEvents.{lent}
-use Rattle.charts.specs.RunOf.{runOf}
-use Rattle.chart_steps.specs.Accepted.{Accepted}
+use Rattle.answers.specs.Answers.{endingOf}
+use Rattle.lent_runs.proofs.LentAnswers.{ending-type}
+use Rattle.lent_runs.proofs.LentEvents.{lent}
+use Rattle.chart_runs.specs.RunOf.{runOf}
+use Rattle.chart_records.specs.Accepted.{Accepted}
 use Rattle.charts.proofs.LentTypes.{run-type, shape-type, called-type}
 use Rattle.charts.proofs.cycles.cycle_by_turns as step
 use Rattle.charts.proofs.cycles.cycle_by_turns.Symbol as step-def

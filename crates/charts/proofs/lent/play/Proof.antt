@@ -6,11 +6,11 @@ use Rattle.model.specs.Outcome.{settled}
 use Rattle.machines.specs.Playing.{playing}
 use Rattle.model.specs.ChartSet.{readCharts}
 use Rattle.model.specs.Charts.{charts}
-use Rattle.machines.specs.Answers.{cyclesOf}
-use Rattle.machines.proofs.LentAnswers.{cycles-type}
-use Rattle.machines.proofs.LentMasks.{lent}
-use Rattle.charts.specs.RunOf.{runOf}
-use Rattle.chart_steps.specs.Accepted.{Accepted}
+use Rattle.answers.specs.Answers.{cyclesOf}
+use Rattle.lent_runs.proofs.LentAnswers.{cycles-type}
+use Rattle.lent_runs.proofs.LentMasks.{lent}
+use Rattle.chart_runs.specs.RunOf.{runOf}
+use Rattle.chart_records.specs.Accepted.{Accepted}
 use Rattle.charts.proofs.LentTypes.{run-type, shape-type, played-type}
 use Rattle.charts.proofs.plays.play_in_place as step
 use Rattle.charts.proofs.plays.play_in_place.Symbol as step-def

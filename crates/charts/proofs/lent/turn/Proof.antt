@@ -6,11 +6,11 @@ use Rattle.model.specs.Outcome.{settled}
 use Rattle.model.specs.Runs.{turn}
 use Rattle.model.specs.ChartSet.{readCharts}
 use Rattle.model.specs.Charts.{charts}
-use Rattle.machines.specs.Answers.{answerOf}
-use Rattle.machines.proofs.LentAnswers.{answer-type}
-use Rattle.machines.proofs.LentEvents.{lent}
-use Rattle.charts.specs.RunOf.{runOf}
-use Rattle.chart_steps.specs.Accepted.{Accepted}
+use Rattle.answers.specs.Answers.{answerOf}
+use Rattle.lent_runs.proofs.LentAnswers.{answer-type}
+use Rattle.lent_runs.proofs.LentEvents.{lent}
+use Rattle.chart_runs.specs.RunOf.{runOf}
+use Rattle.chart_records.specs.Accepted.{Accepted}
 use Rattle.charts.proofs.LentTypes.{run-type, shape-type, turned-type}
 use Rattle.charts.proofs.turns.one_turn as step
 use Rattle.charts.proofs.turns.one_turn.Symbol as step-def

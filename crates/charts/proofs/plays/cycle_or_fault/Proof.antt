@@ -2,8 +2,8 @@
 use Prim.Native.Nat.{_+_, _-_, _≤_}
 use native.Mathlib.Omega.{arith}
 use denote.Ref.{now}
-use Rattle.chart_files.proofs.PlacesRead.{most-charts}
-use Rattle.machines.specs.Worlds.{runIn}
+use Rattle.chart_records.proofs.PlacesRead.{most-charts}
+use Rattle.machines.specs.Worlds.{moment, runIn}
 use Rattle.chart_steps.specs.StepOf.{answerBy}
 use Rattle.charts.proofs.TurnOfEnd.{cycle-young, cycle-closed}
 use Rattle.charts.proofs.plays.cycle_or_fault.Statement.{statement}
@@ -26,14 +26,14 @@ time-after-requires c κs =
     let b = c .before .before .before .before .before .before .before in
     let x = b .args in
     let f = c .before .turns-in-place in
-    (few b, cycle-young (now (x .s)) (x .shape) (b .pre .0 .accepted .shape) (answerBy 65535) (runIn (now (x .states)) (now (x .ages)) (now (x .vars)) (x .events) (x .position) (x .cycles)) (b .pre .1) (f .result) (answerBy (f .last .1 .1 .1 .1 .1 .1 .1 .1 .1 .1 .1 .1 .0)) (f .last .1 .1 .1 .1 .1 .1 .1 .1 .0) (f .last .1 .1 .1 .1 .1 .1 .1 .1 .1 .0) (f .last .1 .1 .1 .1 .1 .1 .1 .1 .1 .1 .0) (x .position + (x .shape .charts - (x .position - 1))) (x .cycles) (f .ensures .0 (x .position) (x .cycles)))
+    (few b, cycle-young (now (x .s)) (x .shape) (b .pre .0 .accepted .shape) (answerBy 65535) (runIn (now (x .states)) (now (x .ages)) (now (x .vars)) (x .events) (moment (x .position) (x .cycles))) (b .pre .1) (f .result) (answerBy (f .last .1 .1 .1 .1 .1 .1 .1 .1 .1 .1 .1 .1 .0)) (f .last .1 .1 .1 .1 .1 .1 .1 .1 .0) (f .last .1 .1 .1 .1 .1 .1 .1 .1 .1 .0) (f .last .1 .1 .1 .1 .1 .1 .1 .1 .1 .1 .0) (moment (x .position + (x .shape .charts - (x .position - 1))) (x .cycles)) (f .ensures .0 (moment (x .position) (x .cycles))))
 
 returns : tie.Need-returns
 returns c =
     let b = c .before .before .before .before .before .before .before .before in
     let x = b .args in
     let f = c .before .before .turns-in-place in
-    cycle-closed (now (x .s)) (x .shape) (b .pre .0 .accepted .shape) (answerBy 65535) (runIn (now (x .states)) (now (x .ages)) (now (x .vars)) (x .events) (x .position) (x .cycles)) (b .pre .1) (f .result) (answerBy (f .last .1 .1 .1 .1 .1 .1 .1 .1 .1 .1 .1 .1 .0)) (f .last .1 .1 .1 .1 .1 .1 .1 .1 .0) (f .last .1 .1 .1 .1 .1 .1 .1 .1 .1 .0) (f .last .1 .1 .1 .1 .1 .1 .1 .1 .1 .1 .0) (x .position + (x .shape .charts - (x .position - 1))) (x .cycles) (f .ensures .0 (x .position) (x .cycles)) (c .time-after .result) (c .time-after .last .1 .0) (c .time-after .ensures .0) (c .time-after .ensures .1)
+    cycle-closed (now (x .s)) (x .shape) (b .pre .0 .accepted .shape) (answerBy 65535) (runIn (now (x .states)) (now (x .ages)) (now (x .vars)) (x .events) (moment (x .position) (x .cycles))) (b .pre .1) (f .result) (answerBy (f .last .1 .1 .1 .1 .1 .1 .1 .1 .1 .1 .1 .1 .0)) (f .last .1 .1 .1 .1 .1 .1 .1 .1 .0) (f .last .1 .1 .1 .1 .1 .1 .1 .1 .1 .0) (f .last .1 .1 .1 .1 .1 .1 .1 .1 .1 .1 .0) (moment (x .position + (x .shape .charts - (x .position - 1))) (x .cycles)) (f .ensures .0 (moment (x .position) (x .cycles))) (c .time-after .result) (c .time-after .last .1 .0) (c .time-after .ensures .0) (c .time-after .ensures .1)
 
 pub cycle-or-fault-spec : {M : Type 1} → statement M
 cycle-or-fault-spec =

@@ -12,14 +12,14 @@ use Rattle.model.specs.Runs.{cycle}
 use Rattle.model.specs.ChartSet.{readCharts}
 use Rattle.model.specs.Charts.{charts}
 use Rattle.model.proofs.ChecksKeptBySteps.{charts-cycle-possible}
-use Rattle.chart_files.proofs.PlacesRead.{length-initial}
-use Rattle.machines.specs.Answers.{reasonOf}
+use Rattle.chart_records.proofs.PlacesRead.{length-initial}
+use Rattle.answers.specs.Answers.{reasonOf}
 use Rattle.machines.specs.Playing.{played, stoppedAt}
 use Rattle.machines.proofs.Turns.{cycle-given}
 use Rattle.machines.proofs.Playing.{playedAfter-none, playedAfter-more, playedAfter-stop}
-use Rattle.machines.specs.declared.answers.Cycles.the-variants.{Done}
-use Rattle.machines.specs.Worlds.{runIn}
-use Rattle.charts.specs.RunOf.{runOf}
+use Rattle.answers.specs.declared.Cycles.the-variants.{Done}
+use Rattle.machines.specs.Worlds.{moment, runIn}
+use Rattle.chart_runs.specs.RunOf.{runOf}
 use Rattle.charts.specs.EndedBy.{ranTo}
 use Rattle.charts.specs.TurnOf.{finish, Ready}
 use Rattle.charts.proofs.TurnOf.{ready}
@@ -27,19 +27,13 @@ use Rattle.charts.proofs.PlayedOf.{was-possible, later-told}
 use Rattle.charts.proofs.plays.play_from_first.Statement.{statement}
 use Rattle.charts.proofs.plays.play_from_first.Tie as tie
 
-shared-slice-read-events-given : tie.Need-shared-slice-read-events-given
-shared-slice-read-events-given c = search needs
-
-events-given-requires : tie.Need-events-given-requires
-events-given-requires c κs = search needs
-
 -- the run with its events
 begins : (c : tie.After-events-given) →
     let b = c .before .before .before .before .before .before .before in
-    Ready (b .args .shape .charts) (runIn (b .args .run .states) (b .args .run .ages) (b .args .run .variables) (c .events-given .result) (b .args .run .position) (b .args .run .cycles))
+    Ready (b .args .shape .charts) (runIn (b .args .run .states) (b .args .run .ages) (b .args .run .variables) (c .events-given .result) (moment (b .args .run .position) (b .args .run .cycles)))
 begins c =
     let b = c .before .before .before .before .before .before .before in
-    subst (λ e. Ready (b .args .shape .charts) (runIn (b .args .run .states) (b .args .run .ages) (b .args .run .variables) e (b .args .run .position) (b .args .run .cycles))) (sym (c .events-given .ensures))
+    subst (λ e. Ready (b .args .shape .charts) (runIn (b .args .run .states) (b .args .run .ages) (b .args .run .variables) e (moment (b .args .run .position) (b .args .run .cycles)))) (sym (c .events-given .ensures))
     (ready (now (b .args .s)) (b .args .shape) (b .pre .0 .accepted .shape) (getD (now (b .args .masks)) 0 0) (runOf (b .args .run)) (b .pre .2))
 
 cycle-or-fault-requires : tie.Need-cycle-or-fault-requires
@@ -50,27 +44,18 @@ cycled : (c : tie.After-cycle-or-fault) →
     let b = c .before .before .before .before .before .before .before .before .before .before .before in
     let f = c .cycle-or-fault in
     cycle (charts (readCharts (now (b .args .s)))) (getD (now (b .args .masks)) 0 0) (runOf (b .args .run))
-    ≡ finish (ranTo (f .result) (runIn (f .last .1 .1 .1 .1 .1 .1 .0) (f .last .1 .1 .1 .1 .1 .1 .1 .0) (f .last .1 .1 .1 .1 .1 .1 .1 .1 .0) 0 1 (b .args .run .cycles + 1)))
+    ≡ finish (ranTo (f .result) (runIn (f .last .1 .1 .1 .1 .1 .1 .0) (f .last .1 .1 .1 .1 .1 .1 .1 .0) (f .last .1 .1 .1 .1 .1 .1 .1 .1 .0) 0 (moment 1 (b .args .run .cycles + 1))))
 cycled c =
     let b = c .before .before .before .before .before .before .before .before .before .before .before in
     let x = b .args in
     let e = c .before .before .before .before .events-given in
     cycle-given (charts (readCharts (now (x .s)))) (x .shape .charts) (length-initial (now (x .s)) (x .shape) (b .pre .0 .accepted .shape)) (getD (now (x .masks)) 0 0) (runOf (x .run))
-    (runIn (x .run .states) (x .run .ages) (x .run .variables) (e .result) (x .run .position) (x .run .cycles)) (b .pre .2)
-    (ap (λ n. runIn (x .run .states) (x .run .ages) (x .run .variables) n (x .run .position) (x .run .cycles)) (e .ensures))
+    (runIn (x .run .states) (x .run .ages) (x .run .variables) (e .result) (moment (x .run .position) (x .run .cycles))) (b .pre .2)
+    (ap (λ n. runIn (x .run .states) (x .run .ages) (x .run .variables) n (moment (x .run .position) (x .run .cycles))) (e .ensures))
     ∙ ap finish (sym (c .cycle-or-fault .ensures))
-
-enum-known-w : tie.Need-enum-known-w
-enum-known-w c = search needs
-
-enum-told : tie.Need-enum-told
-enum-told c = search needs
 
 add-run-between-cycles : tie.Need-add-run-between-cycles
 add-run-between-cycles c = omega (arith, begins (c .before .before .before .before .before .before .before) .unfinished)
-
-run-between-cycles-requires : tie.Need-run-between-cycles-requires
-run-between-cycles-requires c κs = search needs
 
 -- it was done, and left the run between two cycles
 done : (c : tie.After-run-between-cycles) →
@@ -81,17 +66,8 @@ done c =
     let k = c .before .before .before .before in
     let f = k .cycle-or-fault in
     cycled k
-    ∙ ap (λ d. finish (ranTo d (runIn (f .last .1 .1 .1 .1 .1 .1 .0) (f .last .1 .1 .1 .1 .1 .1 .1 .0) (f .last .1 .1 .1 .1 .1 .1 .1 .1 .0) 0 1 (b .args .run .cycles + 1)))) (c .before .before .enum-told .given .1)
+    ∙ ap (λ d. finish (ranTo d (runIn (f .last .1 .1 .1 .1 .1 .1 .0) (f .last .1 .1 .1 .1 .1 .1 .1 .0) (f .last .1 .1 .1 .1 .1 .1 .1 .1 .0) 0 (moment 1 (b .args .run .cycles + 1))))) (c .before .before .enum-told .given .1)
     ∙ ap (λ q. val (tt, q)) (sym (c .run-between-cycles .ensures))
-
-sub-play-further : tie.Need-sub-play-further
-sub-play-further c = search needs
-
-part-play-further-start : tie.Need-part-play-further-start
-part-play-further-start c = search needs
-
-part-play-further-end : tie.Need-part-play-further-end
-part-play-further-end c = search needs
 
 play-further-requires : tie.Need-play-further-requires
 play-further-requires c κs =
@@ -108,7 +84,7 @@ returns c =
     let f = k .cycle-or-fault in
     let g = c .before .w .given in
     let m = charts (readCharts (now (b .args .s))) in
-    let failed = cycled k ∙ ap (λ d. finish (ranTo d (runIn (f .last .1 .1 .1 .1 .1 .1 .0) (f .last .1 .1 .1 .1 .1 .1 .1 .0) (f .last .1 .1 .1 .1 .1 .1 .1 .1 .0) 0 1 (b .args .run .cycles + 1)))) (g .1) in
+    let failed = cycled k ∙ ap (λ d. finish (ranTo d (runIn (f .last .1 .1 .1 .1 .1 .1 .0) (f .last .1 .1 .1 .1 .1 .1 .1 .0) (f .last .1 .1 .1 .1 .1 .1 .1 .1 .0) 0 (moment 1 (b .args .run .cycles + 1))))) (g .1) in
     sym (ap (λ p. settled (runOf (b .args .run)) (stoppedAt (p .count) (p .run) (p .stop))) (playedAfter-stop m (now (b .args .masks)) (runOf (b .args .run)) 0 (runOf (b .args .run)) (reasonOf (g .0 .0)) (b .pre .1) (playedAfter-none m (now (b .args .masks)) (runOf (b .args .run))) failed))
 
 returns-2 : tie.Need-returns-2
@@ -124,16 +100,16 @@ pub play-from-first-spec : {M : Type 1} → statement M
 play-from-first-spec =
     tie.close
     (tie.spec
-    shared-slice-read-events-given
-    events-given-requires
+    (λ c. search needs)
+    (λ c κs. search needs)
     cycle-or-fault-requires
-    enum-known-w
-    enum-told
+    (λ c. search needs)
+    (λ c. search needs)
     add-run-between-cycles
-    run-between-cycles-requires
-    sub-play-further
-    part-play-further-start
-    part-play-further-end
+    (λ c κs. search needs)
+    (λ c. search needs)
+    (λ c. search needs)
+    (λ c. search needs)
     play-further-requires
     returns
     returns-2)

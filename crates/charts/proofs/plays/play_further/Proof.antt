@@ -10,17 +10,17 @@ use Rattle.model.specs.ChartSet.{readCharts}
 use Rattle.model.specs.Charts.{charts}
 use Rattle.machines.specs.Playing.{played}
 use Rattle.machines.proofs.Playing.{most-played}
-use Rattle.machines.specs.declared.answers.Cycles.the-variants.{Done}
-use Rattle.machines.specs.Worlds.{runIn}
-use Rattle.charts.specs.RunOf.{runOf}
+use Rattle.answers.specs.declared.Cycles.the-variants.{Done}
+use Rattle.machines.specs.Worlds.{moment, runIn}
+use Rattle.chart_runs.specs.RunOf.{runOf}
 use Rattle.charts.proofs.PlayedOf.{count-kept, no-events, few-cycles}
 use Rattle.charts.proofs.plays.play_further.Statement.{statement}
 use Rattle.charts.proofs.plays.play_further.Tie as tie
 
-rests : (b : tie.Start) → runOf (b .args .run) ≡ (runIn (b .args .run .states) (b .args .run .ages) (b .args .run .variables) 0 1 (b .args .run .cycles))
+rests : (b : tie.Start) → runOf (b .args .run) ≡ (runIn (b .args .run .states) (b .args .run .ages) (b .args .run .variables) 0 (moment 1 (b .args .run .cycles)))
 rests b = λ i.
     runIn (b .args .run .states) (b .args .run .ages) (b .args .run .variables)
-    (no-events (charts (readCharts (now (b .args .s)))) (runOf (b .args .run)) (b .pre .1) (b .pre .2) i) (b .pre .2 i) (b .args .run .cycles)
+    (no-events (charts (readCharts (now (b .args .s)))) (runOf (b .args .run)) (b .pre .1) (b .pre .2) i) (moment (b .pre .2 i) (b .args .run .cycles))
 
 further-cycles-requires : tie.Need-further-cycles-requires
 further-cycles-requires c κs =
@@ -31,16 +31,13 @@ further-cycles-requires c κs =
 few : (c : tie.After-further-cycles) → c .before .before .before .before .before .before .before .before .before .args .run .cycles + c .further-cycles .result ≤ 1_000_000
 few c =
     let b = c .before .before .before .before .before .before .before .before .before in
-    omega (arith, c .further-cycles .ensures .0, most-played (charts (readCharts (now (b .args .s)))) (count-kept (readCharts (now (b .args .s)))) (now (b .args .masks)) (runIn (b .args .run .states) (b .args .run .ages) (b .args .run .variables) 0 1 (b .args .run .cycles)), few-cycles (charts (readCharts (now (b .args .s)))) (runOf (b .args .run)) (b .pre .1))
+    omega (arith, c .further-cycles .ensures .0, most-played (charts (readCharts (now (b .args .s)))) (count-kept (readCharts (now (b .args .s)))) (now (b .args .masks)) (runIn (b .args .run .states) (b .args .run .ages) (b .args .run .variables) 0 (moment 1 (b .args .run .cycles))), few-cycles (charts (readCharts (now (b .args .s)))) (runOf (b .args .run)) (b .pre .1))
 
 add-t17 : tie.Need-add-t17
 add-t17 c = omega (arith, few c)
 
 add-run-between-cycles : tie.Need-add-run-between-cycles
 add-run-between-cycles c = omega (arith, few c)
-
-run-between-cycles-requires : tie.Need-run-between-cycles-requires
-run-between-cycles-requires c κs = search needs
 
 returns : tie.Need-returns
 returns c =
@@ -57,5 +54,5 @@ play-further-spec =
     further-cycles-requires
     add-t17
     add-run-between-cycles
-    run-between-cycles-requires
+    (λ c κs. search needs)
     returns)

@@ -12,7 +12,7 @@ use Rattle.machines.specs.Checks.{beforeOf}
 use Rattle.machines.specs.Playing.{stoppedAt}
 use Rattle.machines.proofs.Turns.{cycle-refused}
 use Rattle.machines.proofs.Playing.{playedAfter-none, playedAfter-stop, playedAfter-all}
-use Rattle.charts.specs.RunOf.{runOf}
+use Rattle.chart_runs.specs.RunOf.{runOf}
 use Rattle.charts.proofs.plays.play_with_tables.Statement.{statement}
 use Rattle.charts.proofs.plays.play_with_tables.Tie as tie
 
@@ -22,17 +22,8 @@ returns c =
     let none-left = c .if1 .taken in
     sym (ap (λ p. settled (runOf (b .args .run)) (stoppedAt (p .count) (p .run) (p .stop))) (playedAfter-all (charts (readCharts (now (b .args .s)))) (now (b .args .masks)) (runOf (b .args .run)) 0 (runOf (b .args .run)) (omega (arith, none-left)) (playedAfter-none (charts (readCharts (now (b .args .s)))) (now (b .args .masks)) (runOf (b .args .run)))))
 
-shared-slice-read-before-turn : tie.Need-shared-slice-read-before-turn
-shared-slice-read-before-turn c = search needs
-
 before-turn-requires : tie.Need-before-turn-requires
 before-turn-requires c κs = c .before .before .before .before .pre .accepted .shape
-
-enum-known-w : tie.Need-enum-known-w
-enum-known-w c = search needs
-
-enum-told : tie.Need-enum-told
-enum-told c = search needs
 
 play-from-first-requires : tie.Need-play-from-first-requires
 play-from-first-requires c κs =
@@ -49,18 +40,15 @@ returns-2 c =
     let failed = cycle-refused m (getD (now (b .args .masks)) 0 0) (runOf (b .args .run)) (refusalOf (g .0 .0)) (sym (c .before .before .before .before-turn .ensures) ∙ ap beforeOf (g .1)) in
     sym (ap (λ p. settled (runOf (b .args .run)) (stoppedAt (p .count) (p .run) (p .stop))) (playedAfter-stop m (now (b .args .masks)) (runOf (b .args .run)) 0 (runOf (b .args .run)) (refusalOf (g .0 .0)) (omega (arith, some-left)) (playedAfter-none m (now (b .args .masks)) (runOf (b .args .run))) failed))
 
-returns-3 : tie.Need-returns-3
-returns-3 c = search needs
-
 pub play-with-tables-spec : {M : Type 1} → statement M
 play-with-tables-spec =
     tie.close
     (tie.spec
     returns
-    shared-slice-read-before-turn
+    (λ c. search needs)
     before-turn-requires
-    enum-known-w
-    enum-told
+    (λ c. search needs)
+    (λ c. search needs)
     play-from-first-requires
     returns-2
-    returns-3)
+    (λ c. search needs))

@@ -6,9 +6,6 @@ use Rattle.machines.proofs.WorldsCodes.{coded-value, coded-fault}
 use Rattle.charts.proofs.plays.time_after.Statement.{statement}
 use Rattle.charts.proofs.plays.time_after.Tie as tie
 
-reason-by-requires : tie.Need-reason-by-requires
-reason-by-requires c κs = tt
-
 returns : tie.Need-returns
 returns c =
     let x = c .before .before .args in
@@ -25,4 +22,4 @@ returns-2 c =
     (λ q. sym (ap (λ o. o >>= λ events. val q) (coded-value (x .events) fine)), λ h. c .grow-ages .ensures, λ h. absurd (omega (arith, fine)))
 
 pub time-after-spec : {M : Type 1} → statement M
-time-after-spec = tie.close (tie.spec reason-by-requires returns grow-ages-requires returns-2)
+time-after-spec = tie.close (tie.spec (λ c κs. tt) returns grow-ages-requires returns-2)

@@ -6,10 +6,11 @@ use denote.Ref.{now}
 use Rattle.model.specs.Outcome.{settled}
 use Rattle.model.specs.ChartSet.{readCharts}
 use Rattle.model.specs.Charts.{charts}
-use Rattle.chart_files.proofs.PlacesRead.{most-charts, length-initial}
+use Rattle.chart_records.proofs.PlacesRead.{most-charts, length-initial}
 use Rattle.machines.proofs.Turns.{at-part}
-use Rattle.charts.specs.RunOf.{runOf}
+use Rattle.chart_runs.specs.RunOf.{runOf}
 use Rattle.chart_steps.specs.StepOf.{answerBy}
+use Rattle.machines.specs.Worlds.{moment}
 use Rattle.chart_steps.proofs.StepOfTurns.{alone-turn}
 use Rattle.charts.proofs.turns.chart_turn.Statement.{statement}
 use Rattle.charts.proofs.turns.chart_turn.Tie as tie
@@ -41,7 +42,7 @@ returns c =
     let f = c .before .turns-in-place in
     c .chart-turned .ensures
     ∙ ap (settled (runOf (x .lent)))
-    (alone-turn (readCharts (now (x .s))) (x .run .position - 1) (answerBy 65535) (runOf (x .run)) (f .result) (answerBy (f .last .1 .1 .1 .1 .1 .1 .1 .1 .1 .1 .1 .1 .0)) (f .last .1 .1 .1 .1 .1 .1 .1 .1 .0) (f .last .1 .1 .1 .1 .1 .1 .1 .1 .1 .0) (f .last .1 .1 .1 .1 .1 .1 .1 .1 .1 .1 .0) (x .run .position) (x .run .cycles) (f .ensures .0 (x .run .position) (x .run .cycles))
+    (alone-turn (readCharts (now (x .s))) (x .run .position - 1) (answerBy 65535) (runOf (x .run)) (f .result) (answerBy (f .last .1 .1 .1 .1 .1 .1 .1 .1 .1 .1 .1 .1 .0)) (f .last .1 .1 .1 .1 .1 .1 .1 .1 .0) (f .last .1 .1 .1 .1 .1 .1 .1 .1 .1 .0) (f .last .1 .1 .1 .1 .1 .1 .1 .1 .1 .1 .0) (moment (x .run .position) (x .run .cycles)) (f .ensures .0 (moment (x .run .position) (x .run .cycles)))
     ∙ sym (at-part (charts (readCharts (now (x .s)))) (x .shape .charts) (length-initial (now (x .s)) (x .shape) (b .pre .0 .accepted .shape)) (runOf (x .run)) (b .pre .1 .1)))
 
 pub chart-turn-spec : {M : Type 1} → statement M

@@ -10,7 +10,7 @@ use Rattle.model.specs.ChartSet.{readCharts}
 use Rattle.model.specs.Charts.{charts}
 use Rattle.machines.specs.Checks.{beforeOf}
 use Rattle.machines.proofs.Turns.{turn-fine, turn-refused}
-use Rattle.charts.specs.RunOf.{runOf}
+use Rattle.chart_runs.specs.RunOf.{runOf}
 use Rattle.charts.specs.TurnOf.{Ready}
 use Rattle.charts.proofs.TurnOf.{ready}
 use Rattle.charts.proofs.turns.turn.Statement.{statement}
@@ -18,15 +18,6 @@ use Rattle.charts.proofs.turns.turn.Tie as tie
 
 before-turn-requires : tie.Need-before-turn-requires
 before-turn-requires c κs = c .before .pre .accepted .shape
-
-enum-known-w : tie.Need-enum-known-w
-enum-known-w c = search needs
-
-enum-told : tie.Need-enum-told
-enum-told c = search needs
-
-give-requires : tie.Need-give-requires
-give-requires c κs = search needs
 
 passed : (c : tie.After-enum-told) →
     let b = c .before .before .before .before in
@@ -59,9 +50,9 @@ turn-spec =
     tie.close
     (tie.spec
     before-turn-requires
-    enum-known-w
-    enum-told
-    give-requires
+    (λ c. search needs)
+    (λ c. search needs)
+    (λ c κs. search needs)
     turn-taken-requires
     returns
     returns-2)

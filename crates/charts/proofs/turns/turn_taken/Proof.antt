@@ -8,25 +8,16 @@ use Rattle.model.specs.Outcome.{settled}
 use Rattle.model.specs.Runs.{time}
 use Rattle.model.specs.ChartSet.{readCharts}
 use Rattle.model.specs.Charts.{charts}
-use Rattle.chart_files.proofs.PlacesRead.{most-charts, length-initial}
-use Rattle.charts.specs.RunOf.{runOf}
+use Rattle.chart_records.proofs.PlacesRead.{most-charts, length-initial}
+use Rattle.chart_runs.specs.RunOf.{runOf}
 use Rattle.machines.proofs.Turns.{at-time}
 use Rattle.charts.proofs.turns.turn_taken.Statement.{statement}
 use Rattle.charts.proofs.turns.turn_taken.Tie as tie
-
-cast-if1 : tie.Need-cast-if1
-cast-if1 c = search needs
-
-chart-turn-requires : tie.Need-chart-turn-requires
-chart-turn-requires c κs = search needs
 
 time-passed-requires : tie.Need-time-passed-requires
 time-passed-requires c κs =
     let b = c .before .before .before .before in
     (most-charts (now (b .args .s)) (b .args .shape) (b .pre .0 .accepted .shape), (b .pre .1 .unfinished, b .pre .1 .timers))
-
-returns : tie.Need-returns
-returns c = search needs
 
 returns-2 : tie.Need-returns-2
 returns-2 c =
@@ -37,4 +28,4 @@ returns-2 c =
     ∙ sym (ap (settled (runOf (b .args .lent))) (at-time (charts (readCharts s)) (b .args .shape .charts) (length-initial s (b .args .shape) is) (runOf (b .args .run)) (omega arith)))
 
 pub turn-taken-spec : {M : Type 1} → statement M
-turn-taken-spec = tie.close (tie.spec cast-if1 chart-turn-requires time-passed-requires returns returns-2)
+turn-taken-spec = tie.close (tie.spec (λ c. search needs) (λ c κs. search needs) time-passed-requires (λ c. search needs) returns-2)

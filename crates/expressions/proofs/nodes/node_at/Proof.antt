@@ -11,21 +11,6 @@ use borrow.Author.Needs.{needs}
 use Rattle.expressions.proofs.nodes.node_at.Statement.{statement}
 use Rattle.expressions.proofs.nodes.node_at.Tie as tie
 
-fields-at-requires : tie.Need-fields-at-requires
-fields-at-requires c κs = search needs
-
-mul-i32-at : tie.Need-mul-i32-at
-mul-i32-at c = search needs
-
-add-i32-at : tie.Need-add-i32-at
-add-i32-at c = search needs
-
-i32-at-requires : tie.Need-i32-at-requires
-i32-at-requires c κs = search needs
-
-decode-requires : tie.Need-decode-requires
-decode-requires c κs = search needs
-
 returns : tie.Need-returns
 returns c =
     let k = c .before .before .before .before .args in
@@ -37,4 +22,4 @@ returns c =
 pub node-at-spec : {M : Type 1} → statement M
 node-at-spec =
     tie.close
-    (tie.spec fields-at-requires mul-i32-at add-i32-at i32-at-requires decode-requires returns)
+    (tie.spec (λ c κs. search needs) (λ c. search needs) (λ c. search needs) (λ c κs. search needs) (λ c κs. search needs) returns)

@@ -7,18 +7,6 @@ use lib.Seq.{set-out}
 use Rattle.expressions.proofs.sorts.add_use.Statement.{statement}
 use Rattle.expressions.proofs.sorts.add_use.Tie as tie
 
-slice-read-used : tie.Need-slice-read-used
-slice-read-used c = search needs
-
-one-more-requires : tie.Need-one-more-requires
-one-more-requires c κs = search needs
-
-slice-write-uses : tie.Need-slice-write-uses
-slice-write-uses c = search needs
-
-same-length : tie.Need-same-length
-same-length c = search needs
-
 returns : tie.Need-returns
 returns c = let k = c .before .before .before .before .args in ap (set (now (k .uses)) (k .k)) (c .one-more .ensures)
 
@@ -26,4 +14,4 @@ returns-2 : tie.Need-returns-2
 returns-2 c = let k = c .before .before .args in sym (set-out (now (k .uses)) (k .k) _ (c .if1 .left))
 
 pub add-use-spec : {M : Type 1} → statement M
-add-use-spec = tie.close (tie.spec slice-read-used one-more-requires slice-write-uses same-length returns returns-2)
+add-use-spec = tie.close (tie.spec (λ c. search needs) (λ c κs. search needs) (λ c. search needs) (λ c. search needs) returns returns-2)

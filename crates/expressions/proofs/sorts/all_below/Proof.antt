@@ -14,18 +14,6 @@ use Rattle.expressions.proofs.sorts.all_below.Tie as tie
 tested : (size : ℕ) {o x : Operands} → o ≡ x → all (λ k. ltb (k .0) size) (operandsFor x) ≡ all (λ k. ltb (k .0) size) (operandsFor o)
 tested size e = ap (λ y. all (λ k. ltb (k .0) size) (operandsFor y)) (sym e)
 
-enum-told : tie.Need-enum-told
-enum-told c = search needs
-
-enum-known-o : tie.Need-enum-known-o
-enum-known-o c = search needs
-
-enum-known-o-2 : tie.Need-enum-known-o-2
-enum-known-o-2 c = search needs
-
-enum-known-o-3 : tie.Need-enum-known-o-3
-enum-known-o-3 c = search needs
-
 returns : tie.Need-returns
 unfolding all
 returns c = tested (c .before .before .args .size) (c .enum-told .given .1)
@@ -52,4 +40,4 @@ returns-4 c =
     and-three (ltb (x .0) m) (ltb (x .1 .0) m) (ltb (x .1 .1 .0) m) ∙ tested m (c .before .o3 .given .1)
 
 pub all-below-spec : {M : Type 1} → statement M
-all-below-spec = tie.close (tie.spec enum-told enum-known-o enum-known-o-2 enum-known-o-3 returns returns-2 returns-3 returns-4)
+all-below-spec = tie.close (tie.spec (λ c. search needs) (λ c. search needs) (λ c. search needs) (λ c. search needs) returns returns-2 returns-3 returns-4)

@@ -18,36 +18,6 @@ use Rattle.expressions.proofs.sorts.all_fit.Tie as tie
 tested : (s : List ℕ) (n : ℕ) {o x : Operands} → o ≡ x → all (operandFits (nodeAt s) n) (operandsFor x) ≡ all (operandFits (nodeAt s) n) (operandsFor o)
 tested s n e = ap (λ y. all (operandFits (nodeAt s) n) (operandsFor y)) (sym e)
 
-enum-told : tie.Need-enum-told
-enum-told c = search needs
-
-enum-known-o : tie.Need-enum-known-o
-enum-known-o c = search needs
-
-operand-fits-requires : tie.Need-operand-fits-requires
-operand-fits-requires c κs = search needs
-
-enum-known-o-2 : tie.Need-enum-known-o-2
-enum-known-o-2 c = search needs
-
-operand-fits-requires-2 : tie.Need-operand-fits-requires-2
-operand-fits-requires-2 c κs = search needs
-
-operand-fits-requires-3 : tie.Need-operand-fits-requires-3
-operand-fits-requires-3 c κs = search needs
-
-enum-known-o-3 : tie.Need-enum-known-o-3
-enum-known-o-3 c = search needs
-
-operand-fits-requires-4 : tie.Need-operand-fits-requires-4
-operand-fits-requires-4 c κs = search needs
-
-operand-fits-requires-5 : tie.Need-operand-fits-requires-5
-operand-fits-requires-5 c κs = search needs
-
-operand-fits-requires-6 : tie.Need-operand-fits-requires-6
-operand-fits-requires-6 c κs = search needs
-
 returns : tie.Need-returns
 unfolding all
 returns c = let k = c .before .before .before .args in tested (now (k .nodes)) (k .n) (c .enum-told .given .1)
@@ -85,16 +55,16 @@ pub all-fit-spec : {M : Type 1} → statement M
 all-fit-spec =
     tie.close
     (tie.spec
-    enum-told
-    enum-known-o
-    operand-fits-requires
-    enum-known-o-2
-    operand-fits-requires-2
-    operand-fits-requires-3
-    enum-known-o-3
-    operand-fits-requires-4
-    operand-fits-requires-5
-    operand-fits-requires-6
+    (λ c. search needs)
+    (λ c. search needs)
+    (λ c κs. search needs)
+    (λ c. search needs)
+    (λ c κs. search needs)
+    (λ c κs. search needs)
+    (λ c. search needs)
+    (λ c κs. search needs)
+    (λ c κs. search needs)
+    (λ c κs. search needs)
     returns
     returns-2
     returns-3

@@ -14,58 +14,19 @@ use Rattle.expressions.proofs.sorts.count_uses.Tie as tie
 told : (u : List ℕ) {o x : Operands} → o ≡ x → addUses u (map (λ k. k .0) (operandsFor x)) ≡ addUses u (map (λ k. k .0) (operandsFor o))
 told u e = ap (λ y. addUses u (map (λ k. k .0) (operandsFor y))) (sym e)
 
-enum-told : tie.Need-enum-told
-enum-told c = search needs
-
-enum-known-o : tie.Need-enum-known-o
-enum-known-o c = search needs
-
-add-use-requires : tie.Need-add-use-requires
-add-use-requires c κs = search needs
-
-enum-known-o-2 : tie.Need-enum-known-o-2
-enum-known-o-2 c = search needs
-
-add-use-requires-2 : tie.Need-add-use-requires-2
-add-use-requires-2 c κs = search needs
-
-add-use-requires-3 : tie.Need-add-use-requires-3
-add-use-requires-3 c κs = search needs
-
-enum-known-o-3 : tie.Need-enum-known-o-3
-enum-known-o-3 c = search needs
-
-add-use-requires-4 : tie.Need-add-use-requires-4
-add-use-requires-4 c κs = search needs
-
-add-use-requires-5 : tie.Need-add-use-requires-5
-add-use-requires-5 c κs = search needs
-
-add-use-requires-6 : tie.Need-add-use-requires-6
-add-use-requires-6 c κs = search needs
-
 returns : tie.Need-returns
 unfolding addUses
 returns c = told (now (c .before .before .before .args .uses)) (c .enum-told .given .1)
 
-same-length : tie.Need-same-length
-same-length c = search needs
-
 returns-2 : tie.Need-returns-2
 unfolding addUses
 returns-2 c = c .before .before .add-use .ensures ∙ told (now (c .before .before .before .before .before .before .before .before .args .uses)) (c .before .before .before .before .before .o .given .1)
-
-same-length-2 : tie.Need-same-length-2
-same-length-2 c = search needs
 
 returns-3 : tie.Need-returns-3
 unfolding addUses
 returns-3 c =
     let x = c .before .before .before .before .before .before .before .before .before .o2 .given .0 in
     c .before .before .add-use3 .ensures ∙ ap (λ u. addUse u (x .1 .1 .0)) (c .before .before .before .before .before .before .add-use2 .ensures) ∙ told (now (c .before .before .before .before .before .before .before .before .before .before .before .before .args .uses)) (c .before .before .before .before .before .before .before .before .before .o2 .given .1)
-
-same-length-3 : tie.Need-same-length-3
-same-length-3 c = search needs
 
 returns-4 : tie.Need-returns-4
 unfolding addUses
@@ -79,20 +40,20 @@ pub count-uses-spec : {M : Type 1} → statement M
 count-uses-spec =
     tie.close
     (tie.spec
-    enum-told
-    enum-known-o
-    add-use-requires
-    enum-known-o-2
-    add-use-requires-2
-    add-use-requires-3
-    enum-known-o-3
-    add-use-requires-4
-    add-use-requires-5
-    add-use-requires-6
+    (λ c. search needs)
+    (λ c. search needs)
+    (λ c κs. search needs)
+    (λ c. search needs)
+    (λ c κs. search needs)
+    (λ c κs. search needs)
+    (λ c. search needs)
+    (λ c κs. search needs)
+    (λ c κs. search needs)
+    (λ c κs. search needs)
     returns
-    same-length
+    (λ c. search needs)
     returns-2
-    same-length-2
+    (λ c. search needs)
     returns-3
-    same-length-3
+    (λ c. search needs)
     returns-4)

@@ -9,15 +9,6 @@ use borrow.Author.Needs.{needs}
 use Rattle.expressions.proofs.sorts.nodes_named.Statement.{statement}
 use Rattle.expressions.proofs.sorts.nodes_named.Tie as tie
 
-slice-aggregate-test-nodes : tie.Need-slice-aggregate-test-nodes
-slice-aggregate-test-nodes c = search needs
-
-test-nodes-requires : tie.Need-test-nodes-requires
-test-nodes-requires c κs = search needs
-
-says-named-requires : tie.Need-says-named-requires
-says-named-requires c κs = search needs
-
 returns : tie.Need-returns
 returns c =
     let k = c .before .before .before .before .before .args in
@@ -26,4 +17,4 @@ returns c =
 
 pub nodes-named-spec : {M : Type 1} → statement M
 nodes-named-spec =
-    tie.close (tie.spec slice-aggregate-test-nodes test-nodes-requires says-named-requires returns)
+    tie.close (tie.spec (λ c. search needs) (λ c κs. search needs) (λ c κs. search needs) returns)

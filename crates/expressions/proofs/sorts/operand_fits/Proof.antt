@@ -6,11 +6,8 @@ use lib.Dec.{ltb}
 use Rattle.expressions.proofs.sorts.operand_fits.Statement.{statement}
 use Rattle.expressions.proofs.sorts.operand_fits.Tie as tie
 
-has-sort-requires : tie.Need-has-sort-requires
-has-sort-requires c κs = search needs
-
 returns : tie.Need-returns
 returns c = ap (λ b. ltb (c .before .before .args .k) (c .before .before .args .n) && b) (c .has-sort .ensures)
 
 pub operand-fits-spec : {M : Type 1} → statement M
-operand-fits-spec = tie.close (tie.spec has-sort-requires returns)
+operand-fits-spec = tie.close (tie.spec (λ c κs. search needs) returns)

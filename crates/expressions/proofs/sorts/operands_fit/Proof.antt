@@ -9,15 +9,6 @@ use borrow.Author.Needs.{needs}
 use Rattle.expressions.proofs.sorts.operands_fit.Statement.{statement}
 use Rattle.expressions.proofs.sorts.operands_fit.Tie as tie
 
-slice-aggregate-test-nodes : tie.Need-slice-aggregate-test-nodes
-slice-aggregate-test-nodes c = search needs
-
-test-nodes-requires : tie.Need-test-nodes-requires
-test-nodes-requires c κs = search needs
-
-says-fit-requires : tie.Need-says-fit-requires
-says-fit-requires c κs = search needs
-
 returns : tie.Need-returns
 returns c =
     let k = c .before .before .before .before .before .args in
@@ -26,4 +17,4 @@ returns c =
 
 pub operands-fit-spec : {M : Type 1} → statement M
 operands-fit-spec =
-    tie.close (tie.spec slice-aggregate-test-nodes test-nodes-requires says-fit-requires returns)
+    tie.close (tie.spec (λ c. search needs) (λ c κs. search needs) (λ c κs. search needs) returns)

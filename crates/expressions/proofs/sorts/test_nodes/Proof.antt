@@ -38,24 +38,6 @@ loop-holds c =
       flagged-none (nodeFits (nodeAt s)) (k .size),
     )
 
-fields-at-requires : tie.Need-fields-at-requires Inv-loop μ-loop
-fields-at-requires c κs = search needs
-
-operands-of-requires : tie.Need-operands-of-requires Inv-loop μ-loop
-operands-of-requires c κs = search needs
-
-all-below-requires : tie.Need-all-below-requires Inv-loop μ-loop
-all-below-requires c κs = search needs
-
-variable-below-requires : tie.Need-variable-below-requires Inv-loop μ-loop
-variable-below-requires c κs = search needs
-
-all-fit-requires : tie.Need-all-fit-requires Inv-loop μ-loop
-all-fit-requires c κs = search needs
-
-count-uses-requires : tie.Need-count-uses-requires Inv-loop μ-loop
-count-uses-requires c κs = search needs
-
 add-n : tie.Need-add-n Inv-loop μ-loop
 add-n c = omega (arith, c .before .before .before .before .before .before .before .before .before .before .before .before .before .fits .size)
 
@@ -78,9 +60,6 @@ loop-again c =
       flagged-more (nodeFits (nodeAt s)) (k .size) (l .fit) (l .n) (l .inv .2) in-file (c .before .before .before .before .all-fit .ensures ∙ ap (all (operandFits (nodeAt s) (l .n))) read),
     )
 
-verdict-requires : tie.Need-verdict-requires Inv-loop μ-loop
-verdict-requires c κs = search needs
-
 same-length : tie.Need-same-length Inv-loop μ-loop
 same-length c = c .before .before .loop .inv .0 .1
 
@@ -101,15 +80,15 @@ test-nodes-spec =
     Inv-loop
     μ-loop
     loop-holds
-    fields-at-requires
-    operands-of-requires
-    all-below-requires
-    variable-below-requires
-    all-fit-requires
-    count-uses-requires
+    (λ c κs. search needs)
+    (λ c κs. search needs)
+    (λ c κs. search needs)
+    (λ c κs. search needs)
+    (λ c κs. search needs)
+    (λ c κs. search needs)
     add-n
     loop-less
     loop-again
-    verdict-requires
+    (λ c κs. search needs)
     same-length
     returns)

@@ -16,10 +16,11 @@ use mir.Facts.{toZ-ofZ}
 use mir.Syntax.{w32, w64}
 use Rattle.records.specs.Refusal.{Out, val, _>>=_, choose}
 use Rattle.expressions.specs.Nodes.{nodeAt}
-use Rattle.expressions.specs.Values.{compute, compare}
+use Rattle.arithmetic.specs.Arithmetic.{compute, compare}
 use Rattle.expressions.specs.OperandValues.{operandNumber, operandTruth, decide}
-use Rattle.expressions.specs.Coded.{arithmeticOf, comparisonOf}
-use Rattle.expressions.proofs.Outcomes.{stands-same, stands-at, held, handed, of-number, of-zero, number-small, number-in, fault-stands, first-fault, second-fault, both-in, truth-same, truth-in, truth-fault-in, of-truth, turned, undecided, stays}
+use Rattle.arithmetic.specs.Operators.{arithmeticOf, comparisonOf}
+use Rattle.arithmetic.proofs.Outcomes.{stands-same, stands-at, held, handed, of-number, of-zero, number-small, number-in, fault-stands, first-fault, second-fault, both-in, truth-same, truth-in, truth-fault-in, of-truth, turned}
+use Rattle.expressions.proofs.Decided.{undecided, stays}
 use Rattle.expressions.proofs.Arms.{picked-one, no-number-arm, constant-arm, variable-arm, choice-arm, arithmetic-arm, no-truth-arm, comparison-arm, negation-arm, decided-arm, constant-leaf, variable-leaf}
 use Rattle.expressions.proofs.values.chosen.Reads as chosen
 use Rattle.expressions.proofs.values.chosen.Kinds as chosen-kinds
@@ -45,8 +46,8 @@ use Rattle.expressions.proofs.values.+chosen+compared+computed+decided+
 use Rattle.expressions.proofs.values.truth_outcome.Reads as truth-outcome
 use Rattle.expressions.proofs.values.truth_outcome.Kinds as truth-outcome-kinds
 use Rattle.expressions.proofs.values.+chosen+compared+computed+decided+number_outcome+operand_number+operand_truth+truth_outcome.Lts-truth_outcome as truth-outcome-lts
-use Rattle.expressions.proofs.arithmetic.compare.Reads as compare-reads
-use Rattle.expressions.proofs.arithmetic.compute.Reads as compute-reads
+use Rattle.arithmetic.proofs.compare.Reads as compare-reads
+use Rattle.arithmetic.proofs.compute.Reads as compute-reads
 use Rattle.expressions.proofs.nodes.fields_at.Reads as fields-at-reads
 use Rattle.records.proofs.i32_at.Reads as i32-at-reads
 use Rattle.records.proofs.i32_within.Reads as i32-within-reads
@@ -57,7 +58,7 @@ use Rattle.expressions.proofs.values.truth_fault.Reads as truth-fault-r
 use Rattle.expressions.proofs.values.truth_value.Reads as truth-value-reads
 use Rattle.records.proofs.u16_within.Reads as u16-within-reads
 use Rattle.expressions.proofs.values.variable.Reads as variable-reads
-use Rattle.expressions.proofs.arithmetic.wide.Reads as wide-reads
+use Rattle.arithmetic.proofs.wide.Reads as wide-reads
 use Rattle.expressions.proofs.values.+chosen+compared+computed+decided+number_outcome+operand_number+operand_truth+truth_outcome.{statement}
 use Rattle.expressions.proofs.values.+chosen+compared+computed+decided+number_outcome+operand_number+operand_truth+truth_outcome.Tie.{close}
 

@@ -2,8 +2,8 @@
 use mathlib.Core.Path.{sym, ap}
 use borrow.Author.Tests.{eq-eqb, ne-eqb}
 use Rattle.records.specs.Refusal.{fault}
-use Rattle.expressions.specs.Outcomes.{faultIf}
-use Rattle.expressions.proofs.Outcomes.{stands-same, of-range, of-divisor}
+use Rattle.arithmetic.specs.Outcomes.{faultIf}
+use Rattle.arithmetic.proofs.Outcomes.{stands-same, of-range, of-divisor}
 use Rattle.expressions.proofs.values.number_fault.Statement.{statement}
 use Rattle.expressions.proofs.values.number_fault.Tie as tie
 

@@ -3,15 +3,9 @@ use mathlib.Core.Path.{ap, _∙_}
 use borrow.Author.Needs.{needs}
 use mir.Facts.{toZ-ofZ}
 use Rattle.records.specs.Refusal.{val, fault}
-use Rattle.expressions.proofs.Outcomes.{held, number-small, number-in, fault-in}
+use Rattle.arithmetic.proofs.Outcomes.{held, number-small, number-in, fault-in}
 use Rattle.expressions.proofs.values.number_of.Statement.{statement}
 use Rattle.expressions.proofs.values.number_of.Tie as tie
-
-number-outcome-requires : tie.Need-number-outcome-requires
-number-outcome-requires c κs = search needs
-
-reason-requires : tie.Need-reason-requires
-reason-requires c κs = search needs
 
 cast-t9 : tie.Need-cast-t9
 cast-t9 c =
@@ -29,4 +23,4 @@ returns-2 c =
     ap val (toZ-ofZ (cast-t9 c)) ∙ number-in (held (z .ok) (z .ensures)) (c .if1 .left)
 
 pub number-of-spec : {M : Type 1} → statement M
-number-of-spec = tie.close (tie.spec number-outcome-requires reason-requires cast-t9 returns returns-2)
+number-of-spec = tie.close (tie.spec (λ c κs. search needs) (λ c κs. search needs) cast-t9 returns returns-2)

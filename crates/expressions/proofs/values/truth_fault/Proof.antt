@@ -5,8 +5,8 @@ use lib.IntN.{pos}
 use lib.Signed.{leZ}
 use mir.Facts.{toZ-ofZ}
 use Rattle.records.specs.Refusal.{fault}
-use Rattle.expressions.specs.Outcomes.{faultIf}
-use Rattle.expressions.proofs.Outcomes.{truth-same, of-fault}
+use Rattle.arithmetic.specs.Outcomes.{faultIf}
+use Rattle.arithmetic.proofs.Outcomes.{truth-same, of-fault}
 use Rattle.expressions.proofs.values.truth_fault.Statement.{statement}
 use Rattle.expressions.proofs.values.truth_fault.Tie as tie
 

@@ -5,15 +5,9 @@ use native.Mathlib.Omega.{arith}
 use borrow.Author.Needs.{needs}
 use lib.Dec.{eqb}
 use Rattle.records.specs.Refusal.{val, fault}
-use Rattle.expressions.proofs.Outcomes.{truth-in, truth-fault-in}
+use Rattle.arithmetic.proofs.Outcomes.{truth-in, truth-fault-in}
 use Rattle.expressions.proofs.values.truth_of.Statement.{statement}
 use Rattle.expressions.proofs.values.truth_of.Tie as tie
-
-truth-outcome-requires : tie.Need-truth-outcome-requires
-truth-outcome-requires c κs = search needs
-
-reason-requires : tie.Need-reason-requires
-reason-requires c κs = search needs
 
 returns : tie.Need-returns
 returns c =
@@ -32,4 +26,4 @@ returns-3 c =
     ap fault (c .reason .ensures) ∙ truth-fault-in (c .before .before .truth-outcome .ensures) l
 
 pub truth-of-spec : {M : Type 1} → statement M
-truth-of-spec = tie.close (tie.spec truth-outcome-requires reason-requires returns returns-2 returns-3)
+truth-of-spec = tie.close (tie.spec (λ c κs. search needs) (λ c κs. search needs) returns returns-2 returns-3)

@@ -11,15 +11,9 @@ use mir.Facts.{toZ-ofZ, sfits-widen, sfits-toZ, fits-ofZ}
 use mir.Syntax.{w16}
 use mir.Val.{SFits}
 use Rattle.records.specs.Refusal.{val}
-use Rattle.expressions.proofs.Outcomes.{stands-same, stands-at, of-number, of-zero}
+use Rattle.arithmetic.proofs.Outcomes.{stands-same, stands-at, of-number, of-zero}
 use Rattle.expressions.proofs.values.variable.Statement.{statement}
 use Rattle.expressions.proofs.values.variable.Tie as tie
-
-mul-result : tie.Need-mul-result
-mul-result c = search needs
-
-shared-slice-copy-out-result : tie.Need-shared-slice-copy-out-result
-shared-slice-copy-out-result c = search needs
 
 held : (c : tie.After-result) → SFits w16 (getD (now (c .before .before .args .vars)) (c .before .before .args .v) (pos 0))
 held c = record { sfits = c .result .given }
@@ -37,4 +31,4 @@ returns-2 : tie.Need-returns-2
 returns-2 c = stands-same of-zero (ap val (sym (List·getD-eq-default (now (c .before .args .vars)) (pos 0) (c .if1 .left))))
 
 pub variable-spec : {M : Type 1} → statement M
-variable-spec = tie.close (tie.spec mul-result shared-slice-copy-out-result cast-result returns returns-2)
+variable-spec = tie.close (tie.spec (λ c. search needs) (λ c. search needs) cast-result returns returns-2)

@@ -6,37 +6,10 @@ use borrow.Author.Needs.{needs}
 use Rattle.records.specs.Bytes.{byte, two}
 use Rattle.model.specs.ChartSet.{readDeed}
 use Rattle.listing.specs.Sets.{ownerText}
-use Rattle.listing.specs.Parts.{named, deedText}
-use Rattle.listing.proofs.Near.{near-then, near-as}
+use Rattle.listing_parts.specs.Parts.{named, deedText}
+use Rattle.listing_parts.proofs.Near.{near-then, near-as}
 use Rattle.listing.proofs.sets.put_action.Statement.{statement}
 use Rattle.listing.proofs.sets.put_action.Tie as tie
-
-slice-aggregate-put-named : tie.Need-slice-aggregate-put-named
-slice-aggregate-put-named c = search needs
-
-put-named-requires : tie.Need-put-named-requires
-put-named-requires c κs = search needs
-
-put-owner-requires : tie.Need-put-owner-requires
-put-owner-requires c κs = search needs
-
-byte-at-requires : tie.Need-byte-at-requires
-byte-at-requires c κs = search needs
-
-byte-at-requires-2 : tie.Need-byte-at-requires-2
-byte-at-requires-2 c κs = search needs
-
-u16-at-requires : tie.Need-u16-at-requires
-u16-at-requires c κs = search needs
-
-deed-by-requires : tie.Need-deed-by-requires
-deed-by-requires c κs = search needs
-
-put-deed-requires : tie.Need-put-deed-requires
-put-deed-requires c κs = search needs
-
-same-length : tie.Need-same-length
-same-length c = search needs
 
 returns : tie.Need-returns
 returns c =
@@ -53,13 +26,13 @@ pub put-action-spec : {M : Type 1} → statement M
 put-action-spec =
     tie.close
     (tie.spec
-    slice-aggregate-put-named
-    put-named-requires
-    put-owner-requires
-    byte-at-requires
-    byte-at-requires-2
-    u16-at-requires
-    deed-by-requires
-    put-deed-requires
-    same-length
+    (λ c. search needs)
+    (λ c κs. search needs)
+    (λ c κs. search needs)
+    (λ c κs. search needs)
+    (λ c κs. search needs)
+    (λ c κs. search needs)
+    (λ c κs. search needs)
+    (λ c κs. search needs)
+    (λ c. search needs)
     returns)

@@ -3,48 +3,9 @@ use native.Mathlib.Omega.{arith}
 use borrow.Author.Needs.{needs}
 use Rattle.model.specs.ChartSet.{readGuard, readTransition}
 use Rattle.listing.specs.Sets.{transitionText}
-use Rattle.listing.proofs.Near.{near-then, near-as}
+use Rattle.listing_parts.proofs.Near.{near-then, near-as}
 use Rattle.listing.proofs.sets.put_transition.Statement.{statement}
 use Rattle.listing.proofs.sets.put_transition.Tie as tie
-
-slice-aggregate-put-named : tie.Need-slice-aggregate-put-named
-slice-aggregate-put-named c = search needs
-
-put-named-requires : tie.Need-put-named-requires
-put-named-requires c κs = search needs
-
-slice-aggregate-put-named-2 : tie.Need-slice-aggregate-put-named-2
-slice-aggregate-put-named-2 c = search needs
-
-two-requires : tie.Need-two-requires
-two-requires c κs = search needs
-
-put-named-requires-2 : tie.Need-put-named-requires-2
-put-named-requires-2 c κs = search needs
-
-slice-aggregate-put-named-3 : tie.Need-slice-aggregate-put-named-3
-slice-aggregate-put-named-3 c = search needs
-
-two-requires-2 : tie.Need-two-requires-2
-two-requires-2 c κs = search needs
-
-put-named-requires-3 : tie.Need-put-named-requires-3
-put-named-requires-3 c κs = search needs
-
-slice-aggregate-put-named-4 : tie.Need-slice-aggregate-put-named-4
-slice-aggregate-put-named-4 c = search needs
-
-one-requires : tie.Need-one-requires
-one-requires c κs = search needs
-
-put-named-requires-4 : tie.Need-put-named-requires-4
-put-named-requires-4 c κs = search needs
-
-put-trigger-requires : tie.Need-put-trigger-requires
-put-trigger-requires c κs = search needs
-
-u16-at-requires : tie.Need-u16-at-requires
-u16-at-requires c κs = search needs
 
 put-guard-requires : tie.Need-put-guard-requires
 put-guard-requires c κs =
@@ -70,19 +31,19 @@ pub put-transition-spec : {M : Type 1} → statement M
 put-transition-spec =
     tie.close
     (tie.spec
-    slice-aggregate-put-named
-    put-named-requires
-    slice-aggregate-put-named-2
-    two-requires
-    put-named-requires-2
-    slice-aggregate-put-named-3
-    two-requires-2
-    put-named-requires-3
-    slice-aggregate-put-named-4
-    one-requires
-    put-named-requires-4
-    put-trigger-requires
-    u16-at-requires
+    (λ c. search needs)
+    (λ c κs. search needs)
+    (λ c. search needs)
+    (λ c κs. search needs)
+    (λ c κs. search needs)
+    (λ c. search needs)
+    (λ c κs. search needs)
+    (λ c κs. search needs)
+    (λ c. search needs)
+    (λ c κs. search needs)
+    (λ c κs. search needs)
+    (λ c κs. search needs)
+    (λ c κs. search needs)
     put-guard-requires
     same-length
     returns)

@@ -7,9 +7,9 @@ use borrow.Author.Needs.{needs}
 use Rattle.records.specs.Bytes.{byte, four}
 use Rattle.prelude.specs.Lists.{caseOf}
 use Rattle.model.specs.ChartSet.{always}
-use Rattle.chart_files.specs.Places.{triggerBy}
+use Rattle.chart_records.specs.Places.{triggerBy}
 use Rattle.listing.specs.Sets.{triggerText}
-use Rattle.listing.proofs.Near.{near-as}
+use Rattle.listing_parts.proofs.Near.{near-as}
 use Rattle.listing.proofs.sets.put_trigger.Statement.{statement}
 use Rattle.listing.proofs.sets.put_trigger.Tie as tie
 
@@ -21,59 +21,11 @@ none : (x e ms : ℕ) → (x ≡ 1 → ⊥) → (x ≡ 2 → ⊥) → (x ≡ 3 �
 unfolding caseOf
 none x e ms a b d = rw (ne-eqb x 1 a, ne-eqb x 2 b, ne-eqb x 3 d)
 
-byte-at-requires : tie.Need-byte-at-requires
-byte-at-requires c κs = search needs
-
-slice-aggregate-put-named : tie.Need-slice-aggregate-put-named
-slice-aggregate-put-named c = search needs
-
-one-requires : tie.Need-one-requires
-one-requires c κs = search needs
-
-put-named-requires : tie.Need-put-named-requires
-put-named-requires c κs = search needs
-
-slice-aggregate-put-measured : tie.Need-slice-aggregate-put-measured
-slice-aggregate-put-measured c = search needs
-
-u32-at-requires : tie.Need-u32-at-requires
-u32-at-requires c κs = search needs
-
-slice-aggregate-put-measured-2 : tie.Need-slice-aggregate-put-measured-2
-slice-aggregate-put-measured-2 c = search needs
-
-put-measured-requires : tie.Need-put-measured-requires
-put-measured-requires c κs = search needs
-
-slice-aggregate-put-measured-3 : tie.Need-slice-aggregate-put-measured-3
-slice-aggregate-put-measured-3 c = search needs
-
-u32-at-requires-2 : tie.Need-u32-at-requires-2
-u32-at-requires-2 c κs = search needs
-
-slice-aggregate-put-measured-4 : tie.Need-slice-aggregate-put-measured-4
-slice-aggregate-put-measured-4 c = search needs
-
-put-measured-requires-2 : tie.Need-put-measured-requires-2
-put-measured-requires-2 c κs = search needs
-
-slice-aggregate-put-word : tie.Need-slice-aggregate-put-word
-slice-aggregate-put-word c = search needs
-
-put-word-requires : tie.Need-put-word-requires
-put-word-requires c κs = search needs
-
-same-length : tie.Need-same-length
-same-length c = search needs
-
 returns : tie.Need-returns
 unfolding caseOf
 returns c =
     let r = c .before .before .before .before .before .before .before .before .before .before .args .r .now in
     near-as (c .before .before .put-named .ensures) (told (byte r 6) (byte r 7) (four r 8) (sym (c .before .before .before .before .before .before .before .byte-at .ensures) ∙ c .before .before .before .before .before .before .match .keys1) (c .before .before .before .one .ensures) refl) (omega arith)
-
-same-length-2 : tie.Need-same-length-2
-same-length-2 c = search needs
 
 returns-2 : tie.Need-returns-2
 unfolding caseOf
@@ -81,17 +33,11 @@ returns-2 c =
     let r = c .before .before .before .before .before .before .before .before .before .before .before .args .r .now in
     near-as (c .before .before .put-measured .ensures) (told (byte r 6) (byte r 7) (four r 8) (sym (c .before .before .before .before .before .before .before .before .byte-at .ensures) ∙ c .before .before .before .before .before .before .before .match .keys2) refl (c .before .before .before .before .u32-at .ensures)) (omega arith)
 
-same-length-3 : tie.Need-same-length-3
-same-length-3 c = search needs
-
 returns-3 : tie.Need-returns-3
 unfolding caseOf
 returns-3 c =
     let r = c .before .before .before .before .before .before .before .before .before .before .before .args .r .now in
     near-as (c .before .before .put-measured2 .ensures) (told (byte r 6) (byte r 7) (four r 8) (sym (c .before .before .before .before .before .before .before .before .byte-at .ensures) ∙ c .before .before .before .before .before .before .before .match .keys3) refl (c .before .before .before .before .u32-at2 .ensures)) (omega arith)
-
-same-length-4 : tie.Need-same-length-4
-same-length-4 c = search needs
 
 returns-4 : tie.Need-returns-4
 returns-4 c =
@@ -106,25 +52,25 @@ pub put-trigger-spec : {M : Type 1} → statement M
 put-trigger-spec =
     tie.close
     (tie.spec
-    byte-at-requires
-    slice-aggregate-put-named
-    one-requires
-    put-named-requires
-    slice-aggregate-put-measured
-    u32-at-requires
-    slice-aggregate-put-measured-2
-    put-measured-requires
-    slice-aggregate-put-measured-3
-    u32-at-requires-2
-    slice-aggregate-put-measured-4
-    put-measured-requires-2
-    slice-aggregate-put-word
-    put-word-requires
-    same-length
+    (λ c κs. search needs)
+    (λ c. search needs)
+    (λ c κs. search needs)
+    (λ c κs. search needs)
+    (λ c. search needs)
+    (λ c κs. search needs)
+    (λ c. search needs)
+    (λ c κs. search needs)
+    (λ c. search needs)
+    (λ c κs. search needs)
+    (λ c. search needs)
+    (λ c κs. search needs)
+    (λ c. search needs)
+    (λ c κs. search needs)
+    (λ c. search needs)
     returns
-    same-length-2
+    (λ c. search needs)
     returns-2
-    same-length-3
+    (λ c. search needs)
     returns-3
-    same-length-4
+    (λ c. search needs)
     returns-4)

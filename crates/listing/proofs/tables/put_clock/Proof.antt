@@ -2,21 +2,9 @@
 use mathlib.Core.Path.{refl}
 use native.Mathlib.Omega.{arith}
 use borrow.Author.Needs.{needs}
-use Rattle.listing.proofs.Near.{near-then, near-as}
+use Rattle.listing_parts.proofs.Near.{near-then, near-as}
 use Rattle.listing.proofs.tables.put_clock.Statement.{statement}
 use Rattle.listing.proofs.tables.put_clock.Tie as tie
-
-slice-aggregate-put-named : tie.Need-slice-aggregate-put-named
-slice-aggregate-put-named c = search needs
-
-put-named-requires : tie.Need-put-named-requires
-put-named-requires c κs = search needs
-
-put-timing-requires : tie.Need-put-timing-requires
-put-timing-requires c κs = search needs
-
-same-length : tie.Need-same-length
-same-length c = search needs
 
 returns : tie.Need-returns
 returns c = near-as (near-then (c .before .before .before .before .before .before .put-named .ensures) (c .before .before .put-timing .ensures)) refl (omega arith)
@@ -24,4 +12,4 @@ returns c = near-as (near-then (c .before .before .before .before .before .befor
 pub put-clock-spec : {M : Type 1} → statement M
 put-clock-spec =
     tie.close
-    (tie.spec slice-aggregate-put-named put-named-requires put-timing-requires same-length returns)
+    (tie.spec (λ c. search needs) (λ c κs. search needs) (λ c κs. search needs) (λ c. search needs) returns)

@@ -4,20 +4,11 @@ use native.Mathlib.Omega.{arith}
 use borrow.Author.Tests.{eq-eqb, ne-eqb}
 use borrow.Author.Needs.{needs}
 use Rattle.records.proofs.Wrote.{nothing-wrote}
-use Rattle.listing.specs.Parts.{WroteNear}
+use Rattle.listing_parts.specs.Parts.{WroteNear}
 use Rattle.listing.specs.Tables.{idleText}
-use Rattle.listing.proofs.Near.{near-as}
+use Rattle.listing_parts.proofs.Near.{near-as}
 use Rattle.listing.proofs.tables.put_idle.Statement.{statement}
 use Rattle.listing.proofs.tables.put_idle.Tie as tie
-
-slice-aggregate-put-word : tie.Need-slice-aggregate-put-word
-slice-aggregate-put-word c = search needs
-
-put-word-requires : tie.Need-put-word-requires
-put-word-requires c κs = search needs
-
-same-length : tie.Need-same-length
-same-length c = search needs
 
 returns : tie.Need-returns
 returns c =
@@ -29,4 +20,4 @@ returns-2 c =
 
 pub put-idle-spec : {M : Type 1} → statement M
 put-idle-spec =
-    tie.close (tie.spec slice-aggregate-put-word put-word-requires same-length returns returns-2)
+    tie.close (tie.spec (λ c. search needs) (λ c κs. search needs) (λ c. search needs) returns returns-2)

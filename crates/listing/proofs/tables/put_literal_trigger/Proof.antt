@@ -9,7 +9,7 @@ use Rattle.prelude.specs.Lists.{caseOf}
 use Rattle.records.specs.Bytes.{byte, two}
 use Rattle.model.specs.AutomataTable.{LiteralTrigger, always, event, clock}
 use Rattle.listing.specs.Tables.{literalTriggerText}
-use Rattle.listing.proofs.Near.{near-as}
+use Rattle.listing_parts.proofs.Near.{near-as}
 use Rattle.listing.proofs.tables.put_literal_trigger.Statement.{statement}
 use Rattle.listing.proofs.tables.put_literal_trigger.Tie as tie
 
@@ -24,53 +24,17 @@ none : (x e k : ℕ) → (x ≡ 1 → ⊥) → (x ≡ 2 → ⊥) → literalTrig
 unfolding caseOf
 none x e k a b = rw (ne-eqb x 1 a, ne-eqb x 2 b)
 
-byte-at-requires : tie.Need-byte-at-requires
-byte-at-requires c κs = search needs
-
-slice-aggregate-put-named : tie.Need-slice-aggregate-put-named
-slice-aggregate-put-named c = search needs
-
-one-requires : tie.Need-one-requires
-one-requires c κs = search needs
-
-put-named-requires : tie.Need-put-named-requires
-put-named-requires c κs = search needs
-
-slice-aggregate-put-named-2 : tie.Need-slice-aggregate-put-named-2
-slice-aggregate-put-named-2 c = search needs
-
-two-requires : tie.Need-two-requires
-two-requires c κs = search needs
-
-put-named-requires-2 : tie.Need-put-named-requires-2
-put-named-requires-2 c κs = search needs
-
-slice-aggregate-put-word : tie.Need-slice-aggregate-put-word
-slice-aggregate-put-word c = search needs
-
-put-word-requires : tie.Need-put-word-requires
-put-word-requires c κs = search needs
-
-same-length : tie.Need-same-length
-same-length c = search needs
-
 returns : tie.Need-returns
 unfolding caseOf
 returns c =
     let r = c .before .before .before .before .before .before .before .before .before .before .args .r .now in
     near-as (c .before .before .put-named .ensures) (told (byte r 4) (byte r 5) (two r 6) (sym (c .before .before .before .before .before .before .before .byte-at .ensures) ∙ c .before .before .before .before .before .before .match .keys1) (c .before .before .before .one .ensures) refl) (omega arith)
 
-same-length-2 : tie.Need-same-length-2
-same-length-2 c = search needs
-
 returns-2 : tie.Need-returns-2
 unfolding caseOf
 returns-2 c =
     let r = c .before .before .before .before .before .before .before .before .before .before .args .r .now in
     near-as (c .before .before .put-named2 .ensures) (told (byte r 4) (byte r 5) (two r 6) (sym (c .before .before .before .before .before .before .before .byte-at .ensures) ∙ c .before .before .before .before .before .before .match .keys2) refl (c .before .before .before .two .ensures .0)) (omega arith)
-
-same-length-3 : tie.Need-same-length-3
-same-length-3 c = search needs
 
 returns-3 : tie.Need-returns-3
 returns-3 c =
@@ -85,18 +49,18 @@ pub put-literal-trigger-spec : {M : Type 1} → statement M
 put-literal-trigger-spec =
     tie.close
     (tie.spec
-    byte-at-requires
-    slice-aggregate-put-named
-    one-requires
-    put-named-requires
-    slice-aggregate-put-named-2
-    two-requires
-    put-named-requires-2
-    slice-aggregate-put-word
-    put-word-requires
-    same-length
+    (λ c κs. search needs)
+    (λ c. search needs)
+    (λ c κs. search needs)
+    (λ c κs. search needs)
+    (λ c. search needs)
+    (λ c κs. search needs)
+    (λ c κs. search needs)
+    (λ c. search needs)
+    (λ c κs. search needs)
+    (λ c. search needs)
     returns
-    same-length-2
+    (λ c. search needs)
     returns-2
-    same-length-3
+    (λ c. search needs)
     returns-3)

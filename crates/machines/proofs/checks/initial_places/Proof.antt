@@ -19,17 +19,11 @@ abbrev μ-loop : tie.MeasureT-loop
 loop-holds : tie.Need-loop-holds Inv-loop μ-loop
 loop-holds c = let a = c .before .args in (omega arith, filled-none (initialIn (now (a .s))) 0 (replicate 8 0))
 
-cast-i : tie.Need-cast-i Inv-loop μ-loop
-cast-i c = search needs
-
 mul-u16-at : tie.Need-mul-u16-at Inv-loop μ-loop
 mul-u16-at c = omega arith
 
 add-u16-at : tie.Need-add-u16-at Inv-loop μ-loop
 add-u16-at c = omega arith
-
-u16-at-requires : tie.Need-u16-at-requires Inv-loop μ-loop
-u16-at-requires c κs = tt
 
 mul-at : tie.Need-mul-at Inv-loop μ-loop
 mul-at c = omega arith
@@ -64,10 +58,10 @@ initial-places-spec =
     Inv-loop
     μ-loop
     loop-holds
-    cast-i
+    (λ c. search needs)
     mul-u16-at
     add-u16-at
-    u16-at-requires
+    (λ c κs. tt)
     mul-at
     array-write-at
     add-c

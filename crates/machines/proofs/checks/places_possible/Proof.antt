@@ -27,17 +27,11 @@ abbrev μ-loop : tie.MeasureT-loop
 loop-holds : tie.Need-loop-holds Inv-loop μ-loop
 loop-holds c = let a = c .before .args in (search needs, passed-none (own (now (a .s)) (a .parts) (a .places) (a .t4)) (a .parts))
 
-cast-i : tie.Need-cast-i Inv-loop μ-loop
-cast-i c = search needs
-
 mul-place-possible : tie.Need-mul-place-possible Inv-loop μ-loop
 mul-place-possible c = omega arith
 
 array-read-place-possible : tie.Need-array-read-place-possible Inv-loop μ-loop
 array-read-place-possible c = omega arith
-
-place-possible-requires : tie.Need-place-possible-requires Inv-loop μ-loop
-place-possible-requires c κs = tt
 
 returns : tie.Need-returns Inv-loop μ-loop
 returns c =
@@ -70,10 +64,10 @@ places-possible-spec =
     Inv-loop
     μ-loop
     loop-holds
-    cast-i
+    (λ c. search needs)
     mul-place-possible
     array-read-place-possible
-    place-possible-requires
+    (λ c κs. tt)
     returns
     add-c
     loop-less

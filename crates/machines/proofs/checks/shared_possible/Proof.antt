@@ -9,25 +9,10 @@ use Rattle.machines.proofs.checks.shared_possible.Statement.{statement}
 use Rattle.machines.proofs.checks.shared_possible.Tie as tie
 
 -- src/checks.rt:142:5
-places-possible-requires : tie.Need-places-possible-requires
-places-possible-requires c κs = search needs
-
 -- src/checks.rt:143:11
-variables-possible-requires : tie.Need-variables-possible-requires
-variables-possible-requires c κs = search needs
-
 -- src/checks.rt:144:11
-counts-possible-requires : tie.Need-counts-possible-requires
-counts-possible-requires c κs = search needs
-
 -- src/checks.rt:145:11
-places-unused-requires : tie.Need-places-unused-requires
-places-unused-requires c κs = search needs
-
 -- src/checks.rt:146:11
-variables-unused-requires : tie.Need-variables-unused-requires
-variables-unused-requires c κs = search needs
-
 -- src/checks.rt:127:1
 returns : tie.Need-returns
 returns c =
@@ -43,9 +28,9 @@ pub shared-possible-spec : {M : Type 1} → statement M
 shared-possible-spec =
     tie.close
     (tie.spec
-    places-possible-requires
-    variables-possible-requires
-    counts-possible-requires
-    places-unused-requires
-    variables-unused-requires
+    (λ c κs. search needs)
+    (λ c κs. search needs)
+    (λ c κs. search needs)
+    (λ c κs. search needs)
+    (λ c κs. search needs)
     returns)

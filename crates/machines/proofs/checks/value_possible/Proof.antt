@@ -8,12 +8,6 @@ use mir.Syntax.{w16}
 use Rattle.machines.proofs.checks.value_possible.Statement.{statement}
 use Rattle.machines.proofs.checks.value_possible.Tie as tie
 
-lowest-of-requires : tie.Need-lowest-of-requires
-lowest-of-requires c κs = search needs
-
-highest-of-requires : tie.Need-highest-of-requires
-highest-of-requires c κs = search needs
-
 returns : tie.Need-returns
 returns c =
     let k = c .before .before .before in
@@ -21,4 +15,4 @@ returns c =
     && leZ (toZ-ofZ (k .fits .value) i) ((toZ-ofZ {w = w16} (record { sfits = c .highest-of .ok }) ∙ c .highest-of .ensures) i)
 
 pub value-possible-spec : {M : Type 1} → statement M
-value-possible-spec = tie.close (tie.spec lowest-of-requires highest-of-requires returns)
+value-possible-spec = tie.close (tie.spec (λ c κs. search needs) (λ c κs. search needs) returns)

@@ -31,17 +31,11 @@ abbrev μ-loop : tie.MeasureT-loop
 loop-holds : tie.Need-loop-holds Inv-loop μ-loop
 loop-holds c = let a = c .before .args in (search needs, passed-none (inside (now (a .s)) (a .values) (a .t3)) (a .values .variables))
 
-cast-i : tie.Need-cast-i Inv-loop μ-loop
-cast-i c = search needs
-
 mul-value-possible : tie.Need-mul-value-possible Inv-loop μ-loop
 mul-value-possible c = omega arith
 
 array-copy-out-value-possible : tie.Need-array-copy-out-value-possible Inv-loop μ-loop
 array-copy-out-value-possible c = omega arith
-
-value-possible-requires : tie.Need-value-possible-requires Inv-loop μ-loop
-value-possible-requires c κs = search needs
 
 decided : (c : tie.After-value-possible Inv-loop μ-loop) →
     let a = c .before .before .before .before .before .before .args in
@@ -82,10 +76,10 @@ variables-possible-spec =
     Inv-loop
     μ-loop
     loop-holds
-    cast-i
+    (λ c. search needs)
     mul-value-possible
     array-copy-out-value-possible
-    value-possible-requires
+    (λ c κs. search needs)
     returns
     add-v
     loop-less

@@ -4,7 +4,7 @@ use Prim.Native.Nat.{_-_}
 use native.Mathlib.Omega.{arith}
 use borrow.Author.Needs.{needs}
 use lib.IntN.{pos}
-use Rattle.expressions.specs.Values.{isZero}
+use Rattle.arithmetic.specs.Arithmetic.{isZero}
 use lib.ListN.{length, getD}
 use Rattle.machines.proofs.Bits.{bits-zero}
 use Rattle.prelude.proofs.Behind.{BehindBy, by-more, by-all}
@@ -20,18 +20,6 @@ abbrev μ-loop : tie.MeasureT-loop
 loop-holds : tie.Need-loop-holds Inv-loop μ-loop
 loop-holds c = (search needs, refl)
 
-mul-unused : tie.Need-mul-unused Inv-loop μ-loop
-mul-unused c = search needs
-
-array-copy-out-unused : tie.Need-array-copy-out-unused Inv-loop μ-loop
-array-copy-out-unused c = search needs
-
-add-k : tie.Need-add-k Inv-loop μ-loop
-add-k c = search needs
-
-loop-less : tie.Need-loop-less Inv-loop μ-loop
-loop-less c = search needs
-
 loop-again : tie.Need-loop-again Inv-loop μ-loop
 loop-again c =
     let a = c .before .before .before .args in
@@ -46,4 +34,4 @@ returns c =
     by-all isZero (pos 0) (a .count) (a .t2) (l .unused) (l .k) (l .inv .1) (omega arith)
 
 pub variables-unused-spec : {M : Type 1} → statement M
-variables-unused-spec = tie.close (tie.spec Inv-loop μ-loop loop-holds mul-unused array-copy-out-unused add-k loop-less loop-again returns)
+variables-unused-spec = tie.close (tie.spec Inv-loop μ-loop loop-holds (λ c. search needs) (λ c. search needs) (λ c. search needs) (λ c. search needs) loop-again returns)

@@ -18,36 +18,15 @@ use borrow.Author.Needs.{needs}
 use Rattle.machines.proofs.deeds.assign_code.Statement.{statement}
 use Rattle.machines.proofs.deeds.assign_code.Tie as tie
 
-number-at-requires : tie.Need-number-at-requires
-number-at-requires c κs = search needs
-
-enum-known-w : tie.Need-enum-known-w
-enum-known-w c = search needs
-
-fault-code-requires : tie.Need-fault-code-requires
-fault-code-requires c κs = search needs
-
-enum-known-z : tie.Need-enum-known-z
-enum-known-z c = search needs
-
-is-within-requires : tie.Need-is-within-requires
-is-within-requires c κs = search needs
-
 cast-vars : tie.Need-cast-vars
 cast-vars c = record { sfits = c .before .is-within .ensures .1 (c .if1 .taken) }
 
-mul-t16 : tie.Need-mul-t16
-mul-t16 c = search needs
-
-element-set-from-vars : tie.Need-element-set-from-vars
-element-set-from-vars c = search needs
-
 returns : tie.Need-returns
 returns c = (
-  λ p q.
+  λ m.
       let x = c .before .before .before .before .before .before .before .args in
-      ap (λ o. o >>= λ events. val (worldIn (now (x .vars)) events p q)) (c .fault-code .ensures .1)
-      ∙ assign-fault (nodesIn (now (x .s)) (x .values)) (variablesIn (now (x .s)) (x .values)) (now (x .vars)) (x .events) (x .v) (x .n) p q (expressions-answers.valueReasonOf (c .before .before .w .given .0 .0))
+      ap (λ o. o >>= λ events. val (worldIn (now (x .vars)) events m)) (c .fault-code .ensures .1)
+      ∙ assign-fault (nodesIn (now (x .s)) (x .values)) (variablesIn (now (x .s)) (x .values)) (now (x .vars)) (x .events) (x .v) (x .n) m (expressions-answers.valueReasonOf (c .before .before .w .given .0 .0))
       (ap numberOf (sym (c .before .before .w .given .1)) ∙ c .before .before .before .before .number-at .ensures),
   c .fault-code .ensures .2,
   λ h. refl,
@@ -55,13 +34,13 @@ returns c = (
 
 returns-2 : tie.Need-returns-2
 returns-2 c = (
-  λ p q.
+  λ m.
       let x = c .before .before .before .before .before .before .before .before .args in
       let z = c .before .before .before .z .given .0 .0 in
       let e : toZ w32 (ofZ w32 z) ≡ z = search needs in
-      world-value (x .events) _ p q (omega arith)
-      ∙ ap (λ u. val (worldIn (set (now (x .vars)) (x .v) u) (x .events) p q)) (toZ-ofZ (cast-vars c) ∙ e)
-      ∙ assign-within (nodesIn (now (x .s)) (x .values)) (variablesIn (now (x .s)) (x .values)) (now (x .vars)) (x .events) (x .v) (x .n) p q z
+      world-value (x .events) _ m (omega arith)
+      ∙ ap (λ u. val (worldIn (set (now (x .vars)) (x .v) u) (x .events) m)) (toZ-ofZ (cast-vars c) ∙ e)
+      ∙ assign-within (nodesIn (now (x .s)) (x .values)) (variablesIn (now (x .s)) (x .values)) (now (x .vars)) (x .events) (x .v) (x .n) m z
       (ap numberOf (sym (c .before .before .before .z .given .1)) ∙ c .before .before .before .before .before .number-at .ensures)
       (ap (inBounds (getD (variablesIn (now (x .s)) (x .values)) (x .v) noVariable)) (sym e) ∙ sym (c .before .is-within .ensures .0) ∙ c .if1 .taken),
   is-code (c .before .before .before .before .before .before .before .before .args .events) (omega arith),
@@ -70,11 +49,11 @@ returns-2 c = (
 
 returns-3 : tie.Need-returns-3
 returns-3 c = (
-  λ p q.
+  λ m.
       let x = c .before .before .before .before .before .before .before .before .args in
       let z = c .before .before .before .z .given .0 .0 in
       let e : toZ w32 (ofZ w32 z) ≡ z = search needs in
-      assign-outside (nodesIn (now (x .s)) (x .values)) (variablesIn (now (x .s)) (x .values)) (now (x .vars)) (x .events) (x .v) (x .n) p q z
+      assign-outside (nodesIn (now (x .s)) (x .values)) (variablesIn (now (x .s)) (x .values)) (now (x .vars)) (x .events) (x .v) (x .n) m z
       (ap numberOf (sym (c .before .before .before .z .given .1)) ∙ c .before .before .before .before .before .number-at .ensures)
       (ap (inBounds (getD (variablesIn (now (x .s)) (x .values)) (x .v) noVariable)) (sym e) ∙ sym (c .before .is-within .ensures .0) ∙ c .if1 .left),
   refl,
@@ -85,14 +64,14 @@ pub assign-code-spec : {M : Type 1} → statement M
 assign-code-spec =
     tie.close
     (tie.spec
-    number-at-requires
-    enum-known-w
-    fault-code-requires
-    enum-known-z
-    is-within-requires
+    (λ c κs. search needs)
+    (λ c. search needs)
+    (λ c κs. search needs)
+    (λ c. search needs)
+    (λ c κs. search needs)
     cast-vars
-    mul-t16
-    element-set-from-vars
+    (λ c. search needs)
+    (λ c. search needs)
     returns
     returns-2
     returns-3)

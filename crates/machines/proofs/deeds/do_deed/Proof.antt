@@ -26,9 +26,6 @@ assigns c = rw (ne-eqb (c .before .before .args .code) 2 (c .if1 .left))
 raised-requires : tie.Need-raised-requires
 raised-requires c κs = subst (Doable (c .before .before .args .values .variables)) (raises c) (c .before .before .pre .1)
 
-cast-result : tie.Need-cast-result
-cast-result c = search needs
-
 assign-code-requires : tie.Need-assign-code-requires
 assign-code-requires c κs =
     let a = c .before .before .before in
@@ -36,24 +33,24 @@ assign-code-requires c κs =
 
 returns : tie.Need-returns
 returns c = (
-  λ p q.
+  λ m.
       let x = c .before .before .before .args in
-      world-value (c .raised .result) (now (x .vars)) p q (omega arith)
-      ∙ ap (λ n. val (worldIn (now (x .vars)) n p q)) (c .raised .ensures)
-      ∙ ap (λ d. deed (nodesIn (now (x .s)) (x .values)) (variablesIn (now (x .s)) (x .values)) d (worldIn (now (x .vars)) (x .events) p q)) (sym (raises (c .before))),
+      world-value (c .raised .result) (now (x .vars)) m (omega arith)
+      ∙ ap (λ n. val (worldIn (now (x .vars)) n m)) (c .raised .ensures)
+      ∙ ap (λ d. deed (nodesIn (now (x .s)) (x .values)) (variablesIn (now (x .s)) (x .values)) d (worldIn (now (x .vars)) (x .events) m)) (sym (raises (c .before))),
   is-code (c .raised .result) (omega arith),
   λ h. refl,
 )
 
 returns-2 : tie.Need-returns-2
 returns-2 c = (
-  λ p q.
+  λ m.
       let x = c .before .before .before .before .args in
-      c .assign-code .ensures .0 p q
-      ∙ ap (λ d. deed (nodesIn (now (x .s)) (x .values)) (variablesIn (now (x .s)) (x .values)) d (worldIn (now (x .vars)) (x .events) p q)) (sym (assigns (c .before .before))),
+      c .assign-code .ensures .0 m
+      ∙ ap (λ d. deed (nodesIn (now (x .s)) (x .values)) (variablesIn (now (x .s)) (x .values)) d (worldIn (now (x .vars)) (x .events) m)) (sym (assigns (c .before .before))),
   c .assign-code .ensures .1,
   c .assign-code .ensures .2,
 )
 
 pub do-deed-spec : {M : Type 1} → statement M
-do-deed-spec = tie.close (tie.spec raised-requires cast-result assign-code-requires returns returns-2)
+do-deed-spec = tie.close (tie.spec raised-requires (λ c. search needs) assign-code-requires returns returns-2)

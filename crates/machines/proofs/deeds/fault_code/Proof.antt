@@ -7,12 +7,6 @@ use Rattle.expressions.specs.Answers.{valueReasonOf}
 use Rattle.machines.proofs.deeds.fault_code.Statement.{statement}
 use Rattle.machines.proofs.deeds.fault_code.Tie as tie
 
-enum-told : tie.Need-enum-told
-enum-told c = search needs
-
-enum-told-2 : tie.Need-enum-told-2
-enum-told-2 c = search needs
-
 returns : tie.Need-returns
 returns c = (omega arith, ap (λ w. fault (valueReasonOf w)) (sym (c .enum-told .given .1)), refl)
 
@@ -20,4 +14,4 @@ returns-2 : tie.Need-returns-2
 returns-2 c = (omega arith, ap (λ w. fault (valueReasonOf w)) (sym (c .enum-told2 .given .1)), refl)
 
 pub fault-code-spec : {M : Type 1} → statement M
-fault-code-spec = tie.close (tie.spec enum-told enum-told-2 returns returns-2)
+fault-code-spec = tie.close (tie.spec (λ c. search needs) (λ c. search needs) returns returns-2)

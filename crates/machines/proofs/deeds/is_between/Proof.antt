@@ -17,12 +17,6 @@ use Rattle.machines.proofs.deeds.is_between.Tie as tie
 read : {r z : ℤ} → mag r < 2 ^ 31 → r ≡ z → toZ w32 (ofZ w32 r) ≡ z
 read {r} {z} ok e = toZ-ofZ {w = w32} (record { sfits = ok }) ∙ e
 
-widened-requires : tie.Need-widened-requires
-widened-requires c κs = search needs
-
-widened-requires-2 : tie.Need-widened-requires-2
-widened-requires-2 c κs = search needs
-
 returns : tie.Need-returns
 returns c =
     let a = c .before .before in
@@ -41,4 +35,4 @@ returns c =
     )
 
 pub is-between-spec : {M : Type 1} → statement M
-is-between-spec = tie.close (tie.spec widened-requires widened-requires-2 returns)
+is-between-spec = tie.close (tie.spec (λ c κs. search needs) (λ c κs. search needs) returns)

@@ -14,15 +14,6 @@ use borrow.Author.Needs.{needs}
 use Rattle.machines.proofs.deeds.is_within.Statement.{statement}
 use Rattle.machines.proofs.deeds.is_within.Tie as tie
 
-bound-within-requires : tie.Need-bound-within-requires
-bound-within-requires c κs = search needs
-
-bound-within-requires-2 : tie.Need-bound-within-requires-2
-bound-within-requires-2 c κs = search needs
-
-is-between-requires : tie.Need-is-between-requires
-is-between-requires c κs = search needs
-
 returns : tie.Need-returns
 returns c =
     let a = c .before .before .before .before in
@@ -43,4 +34,4 @@ returns c =
 
 pub is-within-spec : {M : Type 1} → statement M
 is-within-spec =
-    tie.close (tie.spec bound-within-requires bound-within-requires-2 is-between-requires returns)
+    tie.close (tie.spec (λ c κs. search needs) (λ c κs. search needs) (λ c κs. search needs) returns)

@@ -11,12 +11,6 @@ use borrow.Author.Needs.{needs}
 use Rattle.machines.proofs.deeds.raised.Statement.{statement}
 use Rattle.machines.proofs.deeds.raised.Tie as tie
 
-present-requires : tie.Need-present-requires
-present-requires c κs = search needs
-
-shl-result : tie.Need-shl-result
-shl-result c = search needs
-
 power : (c : tie.Else1) → (1 * 2 ^ c .before .before .args .e) % 2 ^ 32 ≡ 2 ^ c .before .before .args .e
 power c = shl-exact 1 (c .before .before .args .e) 32 (omega arith) (omega (arith, c .before .before .pre)) ∙ one-mul (2 ^ c .before .before .args .e)
 
@@ -35,4 +29,4 @@ returns-2 c =
     ap (λ n. a .events + n) (power c) ∙ sym (ap (λ b. cond b (a .events) (a .events + 2 ^ a .e)) (sym (c .before .present .ensures) ∙ c .if1 .left))
 
 pub raised-spec : {M : Type 1} → statement M
-raised-spec = tie.close (tie.spec present-requires shl-result add-result returns returns-2)
+raised-spec = tie.close (tie.spec (λ c κs. search needs) (λ c. search needs) add-result returns returns-2)

@@ -13,30 +13,6 @@ use borrow.Author.Needs.{needs}
 use Rattle.machines.proofs.values.bound_within.Statement.{statement}
 use Rattle.machines.proofs.values.bound_within.Tie as tie
 
-add-a : tie.Need-add-a
-add-a c = search needs
-
-mul-a : tie.Need-mul-a
-mul-a c = search needs
-
-add-a-2 : tie.Need-add-a-2
-add-a-2 c = search needs
-
-add-e : tie.Need-add-e
-add-e c = search needs
-
-sub-i16-at : tie.Need-sub-i16-at
-sub-i16-at c = search needs
-
-part-i16-at-start : tie.Need-part-i16-at-start
-part-i16-at-start c = search needs
-
-part-i16-at-end : tie.Need-part-i16-at-end
-part-i16-at-end c = search needs
-
-i16-at-requires : tie.Need-i16-at-requires
-i16-at-requires c κs = search needs
-
 returns : tie.Need-returns
 returns c =
     let x = c .before .before .before .before .args in
@@ -52,12 +28,12 @@ pub bound-within-spec : {M : Type 1} → statement M
 bound-within-spec =
     tie.close
     (tie.spec
-    add-a
-    mul-a
-    add-a-2
-    add-e
-    sub-i16-at
-    part-i16-at-start
-    part-i16-at-end
-    i16-at-requires
+    (λ c. search needs)
+    (λ c. search needs)
+    (λ c. search needs)
+    (λ c. search needs)
+    (λ c. search needs)
+    (λ c. search needs)
+    (λ c. search needs)
+    (λ c κs. search needs)
     returns)

@@ -5,9 +5,6 @@ use borrow.Author.Needs.{needs}
 use Rattle.machines.proofs.values.guard_holds.Statement.{statement}
 use Rattle.machines.proofs.values.guard_holds.Tie as tie
 
-truth-at-requires : tie.Need-truth-at-requires
-truth-at-requires c κs = search needs
-
 returns : tie.Need-returns
 returns c = sym (rw (eq-eqb (c .before .before .args .guard) 65535 (c .if1 .taken)))
 
@@ -15,4 +12,4 @@ returns-2 : tie.Need-returns-2
 returns-2 c = c .truth-at .ensures ∙ sym (rw (ne-eqb (c .before .before .before .args .guard) 65535 (c .before .if1 .left)))
 
 pub guard-holds-spec : {M : Type 1} → statement M
-guard-holds-spec = tie.close (tie.spec truth-at-requires returns returns-2)
+guard-holds-spec = tie.close (tie.spec (λ c κs. search needs) returns returns-2)

@@ -9,13 +9,7 @@ use Rattle.machines.proofs.values.number_at.Statement.{statement}
 use Rattle.machines.proofs.values.number_at.Tie as tie
 
 -- src/values.rt:86:15
-node-records-requires : tie.Need-node-records-requires
-node-records-requires c κs = search needs
-
 -- src/values.rt:86:5
-number-of-requires : tie.Need-number-of-requires
-number-of-requires c κs = search needs
-
 -- src/values.rt:82:1
 returns : tie.Need-returns
 returns c =
@@ -25,4 +19,4 @@ returns c =
     ∙ ap (λ f. number f (now (a .vars)) (a .n)) (sym (lookup-is (now (a .s)) (a .values)))
 
 pub number-at-spec : {M : Type 1} → statement M
-number-at-spec = tie.close (tie.spec node-records-requires number-of-requires returns)
+number-at-spec = tie.close (tie.spec (λ c κs. search needs) (λ c κs. search needs) returns)

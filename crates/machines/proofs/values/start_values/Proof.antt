@@ -27,12 +27,6 @@ abbrev μ-loop : tie.MeasureT-loop
 loop-holds : tie.Need-loop-holds Inv-loop μ-loop
 loop-holds c = let a = c .before .args in (omega arith, filled-none (first (now (a .s)) (a .values)) (pos 0) (replicate 64 (pos 0)))
 
-cast-i : tie.Need-cast-i Inv-loop μ-loop
-cast-i c = search needs
-
-start-of-requires : tie.Need-start-of-requires Inv-loop μ-loop
-start-of-requires c κs = search needs
-
 mul-made : tie.Need-mul-made Inv-loop μ-loop
 mul-made c = omega arith
 
@@ -67,8 +61,8 @@ start-values-spec =
     Inv-loop
     μ-loop
     loop-holds
-    cast-i
-    start-of-requires
+    (λ c. search needs)
+    (λ c κs. search needs)
     mul-made
     array-set-from-made
     add-v

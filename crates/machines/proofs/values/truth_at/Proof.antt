@@ -9,13 +9,7 @@ use Rattle.machines.proofs.values.truth_at.Statement.{statement}
 use Rattle.machines.proofs.values.truth_at.Tie as tie
 
 -- src/values.rt:93:14
-node-records-requires : tie.Need-node-records-requires
-node-records-requires c κs = search needs
-
 -- src/values.rt:93:5
-truth-of-requires : tie.Need-truth-of-requires
-truth-of-requires c κs = search needs
-
 -- src/values.rt:89:1
 returns : tie.Need-returns
 returns c =
@@ -25,4 +19,4 @@ returns c =
     ∙ ap (λ f. truth f (now (a .vars)) (a .n)) (sym (lookup-is (now (a .s)) (a .values)))
 
 pub truth-at-spec : {M : Type 1} → statement M
-truth-at-spec = tie.close (tie.spec node-records-requires truth-of-requires returns)
+truth-at-spec = tie.close (tie.spec (λ c κs. search needs) (λ c κs. search needs) returns)

@@ -11,14 +11,8 @@ use Rattle.messages.proofs.texts.put_counted.Tie as tie
 near-decimal : (c : tie.After-put-decimal) → c .put-decimal .result ≤ c .before .before .before .before .args .at + 10
 near-decimal c = wrote-near 10 (c .put-decimal .ensures) (length-decimal 9 (c .before .before .before .before .args .n) (omega arith) (omega arith))
 
-put-decimal-requires : tie.Need-put-decimal-requires
-put-decimal-requires c κs = search needs
-
 put-text-requires : tie.Need-put-text-requires
 put-text-requires c κs = omega (arith, near-decimal (c .before .before .before))
-
-same-length : tie.Need-same-length
-same-length c = search needs
 
 returns : tie.Need-returns
 returns c =
@@ -27,4 +21,4 @@ returns c =
     (wrote-then (number .ensures) (word .ensures), omega (arith, word .ensures .behind, near-decimal (c .before .before .before .before .before .before)))
 
 pub put-counted-spec : {M : Type 1} → statement M
-put-counted-spec = tie.close (tie.spec put-decimal-requires put-text-requires same-length returns)
+put-counted-spec = tie.close (tie.spec (λ c κs. search needs) put-text-requires (λ c. search needs) returns)

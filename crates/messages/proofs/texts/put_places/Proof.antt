@@ -5,52 +5,10 @@ use borrow.Author.Needs.{needs}
 use Rattle.messages.proofs.texts.put_places.Statement.{statement}
 use Rattle.messages.proofs.texts.put_places.Tie as tie
 
-cast-put-three : tie.Need-cast-put-three
-cast-put-three c = search needs
-
-slice-aggregate-put-three : tie.Need-slice-aggregate-put-three
-slice-aggregate-put-three c = search needs
-
-cast-put-three-2 : tie.Need-cast-put-three-2
-cast-put-three-2 c = search needs
-
-slice-aggregate-put-three-2 : tie.Need-slice-aggregate-put-three-2
-slice-aggregate-put-three-2 c = search needs
-
-cast-put-three-3 : tie.Need-cast-put-three-3
-cast-put-three-3 c = search needs
-
-slice-aggregate-put-three-3 : tie.Need-slice-aggregate-put-three-3
-slice-aggregate-put-three-3 c = search needs
-
-put-three-requires : tie.Need-put-three-requires
-put-three-requires c κs = search needs
-
-cast-put-three-4 : tie.Need-cast-put-three-4
-cast-put-three-4 c = search needs
-
-slice-aggregate-put-three-4 : tie.Need-slice-aggregate-put-three-4
-slice-aggregate-put-three-4 c = search needs
-
-cast-put-three-5 : tie.Need-cast-put-three-5
-cast-put-three-5 c = search needs
-
-slice-aggregate-put-three-5 : tie.Need-slice-aggregate-put-three-5
-slice-aggregate-put-three-5 c = search needs
-
-cast-put-three-6 : tie.Need-cast-put-three-6
-cast-put-three-6 c = search needs
-
-slice-aggregate-put-three-6 : tie.Need-slice-aggregate-put-three-6
-slice-aggregate-put-three-6 c = search needs
-
 put-three-requires-2 : tie.Need-put-three-requires-2
 put-three-requires-2 c κs =
     let first = c .before .before .before .before .before .before .before .before .before .put-three .ensures in
     (omega (arith, first .1, c .before .before .before .before .before .before .before .before .before .before .before .before .before .before .before .before .before .before .pre), omega arith, omega arith, omega arith)
-
-same-length : tie.Need-same-length
-same-length c = search needs
 
 returns : tie.Need-returns
 returns c =
@@ -62,19 +20,19 @@ pub put-places-spec : {M : Type 1} → statement M
 put-places-spec =
     tie.close
     (tie.spec
-    cast-put-three
-    slice-aggregate-put-three
-    cast-put-three-2
-    slice-aggregate-put-three-2
-    cast-put-three-3
-    slice-aggregate-put-three-3
-    put-three-requires
-    cast-put-three-4
-    slice-aggregate-put-three-4
-    cast-put-three-5
-    slice-aggregate-put-three-5
-    cast-put-three-6
-    slice-aggregate-put-three-6
+    (λ c. search needs)
+    (λ c. search needs)
+    (λ c. search needs)
+    (λ c. search needs)
+    (λ c. search needs)
+    (λ c. search needs)
+    (λ c κs. search needs)
+    (λ c. search needs)
+    (λ c. search needs)
+    (λ c. search needs)
+    (λ c. search needs)
+    (λ c. search needs)
+    (λ c. search needs)
     put-three-requires-2
-    same-length
+    (λ c. search needs)
     returns)

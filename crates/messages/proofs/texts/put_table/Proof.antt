@@ -5,33 +5,6 @@ use borrow.Author.Needs.{needs}
 use Rattle.messages.proofs.texts.put_table.Statement.{statement}
 use Rattle.messages.proofs.texts.put_table.Tie as tie
 
-put-places-requires : tie.Need-put-places-requires
-put-places-requires c κs = search needs
-
-cast-put-three : tie.Need-cast-put-three
-cast-put-three c = search needs
-
-slice-aggregate-put-three : tie.Need-slice-aggregate-put-three
-slice-aggregate-put-three c = search needs
-
-cast-put-three-2 : tie.Need-cast-put-three-2
-cast-put-three-2 c = search needs
-
-slice-aggregate-put-three-2 : tie.Need-slice-aggregate-put-three-2
-slice-aggregate-put-three-2 c = search needs
-
-cast-put-three-3 : tie.Need-cast-put-three-3
-cast-put-three-3 c = search needs
-
-slice-aggregate-put-three-3 : tie.Need-slice-aggregate-put-three-3
-slice-aggregate-put-three-3 c = search needs
-
-put-three-requires : tie.Need-put-three-requires
-put-three-requires c κs = search needs
-
-same-length : tie.Need-same-length
-same-length c = search needs
-
 returns : tie.Need-returns
 returns c =
     let first = c .before .before .before .before .before .before .before .before .before .before .before .before .put-places .ensures in
@@ -42,13 +15,13 @@ pub put-table-spec : {M : Type 1} → statement M
 put-table-spec =
     tie.close
     (tie.spec
-    put-places-requires
-    cast-put-three
-    slice-aggregate-put-three
-    cast-put-three-2
-    slice-aggregate-put-three-2
-    cast-put-three-3
-    slice-aggregate-put-three-3
-    put-three-requires
-    same-length
+    (λ c κs. search needs)
+    (λ c. search needs)
+    (λ c. search needs)
+    (λ c. search needs)
+    (λ c. search needs)
+    (λ c. search needs)
+    (λ c. search needs)
+    (λ c κs. search needs)
+    (λ c. search needs)
     returns)

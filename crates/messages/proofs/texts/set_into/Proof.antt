@@ -5,18 +5,6 @@ use borrow.Author.Needs.{needs}
 use Rattle.messages.proofs.texts.set_into.Statement.{statement}
 use Rattle.messages.proofs.texts.set_into.Tie as tie
 
-slice-aggregate-put-text : tie.Need-slice-aggregate-put-text
-slice-aggregate-put-text c = search needs
-
-put-text-requires : tie.Need-put-text-requires
-put-text-requires c κs = search needs
-
-put-set-requires : tie.Need-put-set-requires
-put-set-requires c κs = search needs
-
-same-length : tie.Need-same-length
-same-length c = search needs
-
 returns : tie.Need-returns
 returns c =
     let word = c .before .before .before .before .before .before .put-text .ensures in
@@ -27,4 +15,4 @@ returns c =
 pub set-into-spec : {M : Type 1} → statement M
 set-into-spec =
     tie.close
-    (tie.spec slice-aggregate-put-text put-text-requires put-set-requires same-length returns)
+    (tie.spec (λ c. search needs) (λ c κs. search needs) (λ c κs. search needs) (λ c. search needs) returns)

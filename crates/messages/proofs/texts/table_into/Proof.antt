@@ -5,18 +5,6 @@ use borrow.Author.Needs.{needs}
 use Rattle.messages.proofs.texts.table_into.Statement.{statement}
 use Rattle.messages.proofs.texts.table_into.Tie as tie
 
-slice-aggregate-put-text : tie.Need-slice-aggregate-put-text
-slice-aggregate-put-text c = search needs
-
-put-text-requires : tie.Need-put-text-requires
-put-text-requires c κs = search needs
-
-put-table-requires : tie.Need-put-table-requires
-put-table-requires c κs = search needs
-
-same-length : tie.Need-same-length
-same-length c = search needs
-
 returns : tie.Need-returns
 returns c =
     let word = c .before .before .before .before .before .before .put-text .ensures in
@@ -27,4 +15,4 @@ returns c =
 pub table-into-spec : {M : Type 1} → statement M
 table-into-spec =
     tie.close
-    (tie.spec slice-aggregate-put-text put-text-requires put-table-requires same-length returns)
+    (tie.spec (λ c. search needs) (λ c κs. search needs) (λ c κs. search needs) (λ c. search needs) returns)

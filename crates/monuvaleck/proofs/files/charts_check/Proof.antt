@@ -6,26 +6,14 @@ use mir.Val.{toZ, ofZ}
 use lib.IntN.{ℤ}
 use Rattle.records.specs.Refusal.{Refusal, val, unless-refused}
 use Rattle.model.specs.Calls.{numbered}
-use Rattle.chart_files.specs.Shape.{refusalOf}
-use Rattle.machines.specs.Answers.{doneCode}
+use Rattle.chart_files.specs.Checked.{refusalOf}
+use Rattle.answers.specs.Answers.{doneCode}
 use borrow.Author.Needs.{needs}
 use Rattle.monuvaleck.proofs.files.charts_check.Statement.{statement}
 use Rattle.monuvaleck.proofs.files.charts_check.Tie as tie
 
 abbrev told : Option Refusal → ℤ
 told o = numbered doneCode (unless-refused o (val tt))
-
-check-requires : tie.Need-check-requires
-check-requires c κs = search needs
-
-enum-told : tie.Need-enum-told
-enum-told c = search needs
-
-enum-known-w : tie.Need-enum-known-w
-enum-known-w c = search needs
-
-refused-code-requires : tie.Need-refused-code-requires
-refused-code-requires c κs = search needs
 
 returns : tie.Need-returns
 returns c = ap (λ x. told (refusalOf x)) (sym (c .enum-told .given .1)) ∙ ap told (c .before .before .check .ensures .answer)
@@ -36,4 +24,4 @@ returns-2 c =
     kept ∙ c .refused-code .ensures ∙ ap (λ x. told (refusalOf x)) (sym (c .before .before .w .given .1)) ∙ ap told (c .before .before .before .before .check .ensures .answer)
 
 pub charts-check-spec : {M : Type 1} → statement M
-charts-check-spec = tie.close (tie.spec check-requires enum-told enum-known-w refused-code-requires returns returns-2)
+charts-check-spec = tie.close (tie.spec (λ c κs. search needs) (λ c. search needs) (λ c. search needs) (λ c κs. search needs) returns returns-2)

@@ -7,13 +7,10 @@ use native.Mathlib.Omega.{arith}
 use mir.Facts.{toZ-pos}
 use Rattle.model.specs.Calls.{numbered}
 use Rattle.paths.specs.LedOf.{answerOf}
-use Rattle.machines.specs.Answers.{countCode}
+use Rattle.answers.specs.Answers.{countCode}
 use borrow.Author.Needs.{needs}
 use Rattle.monuvaleck.proofs.traces.led_code.Statement.{statement}
 use Rattle.monuvaleck.proofs.traces.led_code.Tie as tie
-
-enum-known-led : tie.Need-enum-known-led
-enum-known-led c = search needs
 
 -- what is cast is small
 cast-result : tie.Need-cast-result
@@ -22,12 +19,6 @@ cast-result c =
     let few = c .before .before .before .pre (g .0 .0) (ap answerOf (g .1)) in
     let small : g .0 .0 < 2 ^ 31 = omega (arith, few) in
     search (needs, small)
-
-enum-known-led-2 : tie.Need-enum-known-led-2
-enum-known-led-2 c = search needs
-
-refused-code-requires : tie.Need-refused-code-requires
-refused-code-requires c κs = search needs
 
 returns : tie.Need-returns
 returns c =
@@ -45,9 +36,9 @@ pub led-code-spec : {M : Type 1} → statement M
 led-code-spec =
     tie.close
     (tie.spec
-    enum-known-led
+    (λ c. search needs)
     cast-result
-    enum-known-led-2
-    refused-code-requires
+    (λ c. search needs)
+    (λ c κs. search needs)
     returns
     returns-2)

@@ -5,21 +5,15 @@ use mir.Val.{toZ, ofZ}
 use denote.Ref.{now}
 use Rattle.model.specs.Calls.{numbered}
 use Rattle.paths.proofs.AlongBounds.{few}
-use Rattle.machines.specs.Answers.{countCode}
+use Rattle.answers.specs.Answers.{countCode}
 use borrow.Author.Needs.{needs}
 use Rattle.monuvaleck.proofs.traces.path_back.Statement.{statement}
 use Rattle.monuvaleck.proofs.traces.path_back.Tie as tie
-
-path-back-requires : tie.Need-path-back-requires
-path-back-requires c κs = search needs
 
 led-code-requires : tie.Need-led-code-requires
 led-code-requires c κs = λ n e.
     let a = c .before .before .before .before .before .before .before .args in
     few (now (a .s)) (now (a .path)) (now (a .rows)) n (ap (λ o. o .answer) (sym (c .before .before .path-back .ensures)) ∙ e)
-
-same-length : tie.Need-same-length
-same-length c = search needs
 
 returns : tie.Need-returns
 returns c =
@@ -28,4 +22,4 @@ returns c =
     (kept ∙ c .led-code .ensures ∙ ap (λ o. numbered countCode (o .answer)) is, ap (λ o. o .lent) is)
 
 pub path-back-spec : {M : Type 1} → statement M
-path-back-spec = tie.close (tie.spec path-back-requires led-code-requires same-length returns)
+path-back-spec = tie.close (tie.spec (λ c κs. search needs) led-code-requires (λ c. search needs) returns)

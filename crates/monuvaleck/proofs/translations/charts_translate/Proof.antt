@@ -4,22 +4,16 @@ use mir.Syntax.{w32}
 use mir.Val.{toZ, ofZ}
 use denote.Ref.{now}
 use Rattle.model.specs.Calls.{numbered}
-use Rattle.machines.specs.Answers.{countCode}
+use Rattle.answers.specs.Answers.{countCode}
 use Rattle.monuvaleck.proofs.TwinLengths.{short}
 use borrow.Author.Needs.{needs}
 use Rattle.monuvaleck.proofs.translations.charts_translate.Statement.{statement}
 use Rattle.monuvaleck.proofs.translations.charts_translate.Tie as tie
 
-translate-requires : tie.Need-translate-requires
-translate-requires c κs = search needs
-
 translated-code-requires : tie.Need-translated-code-requires
 translated-code-requires c κs = λ n e.
     let a = c .before .before .before .before .before .before .args in
     short (now (a .s)) (now (a .out)) n (ap (λ o. o .answer) (sym (c .before .before .translate .ensures)) ∙ e)
-
-same-length : tie.Need-same-length
-same-length c = search needs
 
 returns : tie.Need-returns
 returns c =
@@ -28,4 +22,4 @@ returns c =
     (kept ∙ c .translated-code .ensures ∙ ap (λ o. numbered countCode (o .answer)) is, ap (λ o. o .lent) is)
 
 pub charts-translate-spec : {M : Type 1} → statement M
-charts-translate-spec = tie.close (tie.spec translate-requires translated-code-requires same-length returns)
+charts-translate-spec = tie.close (tie.spec (λ c κs. search needs) translated-code-requires (λ c. search needs) returns)

@@ -7,13 +7,10 @@ use native.Mathlib.Omega.{arith}
 use mir.Facts.{toZ-pos}
 use Rattle.model.specs.Calls.{numbered}
 use Rattle.translation.specs.Answer.{answerOf}
-use Rattle.machines.specs.Answers.{countCode}
+use Rattle.answers.specs.Answers.{countCode}
 use borrow.Author.Needs.{needs}
 use Rattle.monuvaleck.proofs.translations.translated_code.Statement.{statement}
 use Rattle.monuvaleck.proofs.translations.translated_code.Tie as tie
-
-enum-known-answer : tie.Need-enum-known-answer
-enum-known-answer c = search needs
 
 -- what is cast is small
 cast-result : tie.Need-cast-result
@@ -22,12 +19,6 @@ cast-result c =
     let few = c .before .before .before .pre (g .0 .0) (ap answerOf (g .1)) in
     let small : g .0 .0 < 2 ^ 31 = omega (arith, few) in
     search (needs, small)
-
-enum-known-answer-2 : tie.Need-enum-known-answer-2
-enum-known-answer-2 c = search needs
-
-refused-code-requires : tie.Need-refused-code-requires
-refused-code-requires c κs = search needs
 
 returns : tie.Need-returns
 returns c =
@@ -45,9 +36,9 @@ pub translated-code-spec : {M : Type 1} → statement M
 translated-code-spec =
     tie.close
     (tie.spec
-    enum-known-answer
+    (λ c. search needs)
     cast-result
-    enum-known-answer-2
-    refused-code-requires
+    (λ c. search needs)
+    (λ c κs. search needs)
     returns
     returns-2)

@@ -7,18 +7,6 @@ use borrow.Author.Needs.{needs}
 use Rattle.record_tests.proofs.codes.action_in_code.Statement.{statement}
 use Rattle.record_tests.proofs.codes.action_in_code.Tie as tie
 
-byte-at-requires : tie.Need-byte-at-requires
-byte-at-requires c κs = search needs
-
-byte-at-requires-2 : tie.Need-byte-at-requires-2
-byte-at-requires-2 c κs = search needs
-
-byte-at-requires-3 : tie.Need-byte-at-requires-3
-byte-at-requires-3 c κs = search needs
-
-deed-in-code-requires : tie.Need-deed-in-code-requires
-deed-in-code-requires c κs = search needs
-
 returns : tie.Need-returns
 returns c =
     let p = c .before .before .before .byte-at .ensures in
@@ -29,4 +17,4 @@ returns c =
 pub action-in-code-spec : {M : Type 1} → statement M
 action-in-code-spec =
     tie.close
-    (tie.spec byte-at-requires byte-at-requires-2 byte-at-requires-3 deed-in-code-requires returns)
+    (tie.spec (λ c κs. search needs) (λ c κs. search needs) (λ c κs. search needs) (λ c κs. search needs) returns)

@@ -14,21 +14,6 @@ use Rattle.record_tests.proofs.codes.in_code.Tie as tie
 abbrev table : List ℕ → List (ℕ × Bool)
 table r = (3, transitionInCode r) ∷ (4, variableInCode r) ∷ (5, nodeInCode r) ∷ (6, actionInCode r) ∷ []
 
-byte-at-requires : tie.Need-byte-at-requires
-byte-at-requires c κs = search needs
-
-transition-in-code-requires : tie.Need-transition-in-code-requires
-transition-in-code-requires c κs = search needs
-
-variable-in-code-requires : tie.Need-variable-in-code-requires
-variable-in-code-requires c κs = search needs
-
-node-in-code-requires : tie.Need-node-in-code-requires
-node-in-code-requires c κs = search needs
-
-action-in-code-requires : tie.Need-action-in-code-requires
-action-in-code-requires c κs = search needs
-
 returns : tie.Need-returns
 unfolding caseOf
 returns c = c .transition-in-code .ensures ∙ entry (table (c .before .before .before .before .args .r .now)) true 3 (c .before .match .keys1) (c .before .before .byte-at .ensures)
@@ -57,11 +42,11 @@ pub in-code-spec : {M : Type 1} → statement M
 in-code-spec =
     tie.close
     (tie.spec
-    byte-at-requires
-    transition-in-code-requires
-    variable-in-code-requires
-    node-in-code-requires
-    action-in-code-requires
+    (λ c κs. search needs)
+    (λ c κs. search needs)
+    (λ c κs. search needs)
+    (λ c κs. search needs)
+    (λ c κs. search needs)
     returns
     returns-2
     returns-3

@@ -5,13 +5,10 @@ use borrow.Author.Needs.{needs}
 use Rattle.record_tests.proofs.codes.node_in_code.Statement.{statement}
 use Rattle.record_tests.proofs.codes.node_in_code.Tie as tie
 
-byte-at-requires : tie.Need-byte-at-requires
-byte-at-requires c κs = search needs
-
 returns : tie.Need-returns
 returns c =
     let o = c .byte-at .ensures in
     λ i. (leb 1 (o i) && leb (o i) 8) || (leb 16 (o i) && leb (o i) 21)
 
 pub node-in-code-spec : {M : Type 1} → statement M
-node-in-code-spec = tie.close (tie.spec byte-at-requires returns)
+node-in-code-spec = tie.close (tie.spec (λ c κs. search needs) returns)

@@ -9,21 +9,6 @@ use borrow.Author.Needs.{needs}
 use Rattle.record_tests.proofs.codes.transition_in_code.Statement.{statement}
 use Rattle.record_tests.proofs.codes.transition_in_code.Tie as tie
 
-byte-at-requires : tie.Need-byte-at-requires
-byte-at-requires c κs = search needs
-
-byte-at-requires-2 : tie.Need-byte-at-requires-2
-byte-at-requires-2 c κs = search needs
-
-byte-at-requires-3 : tie.Need-byte-at-requires-3
-byte-at-requires-3 c κs = search needs
-
-u32-at-requires : tie.Need-u32-at-requires
-u32-at-requires c κs = search needs
-
-trigger-in-code-requires : tie.Need-trigger-in-code-requires
-trigger-in-code-requires c κs = search needs
-
 returns : tie.Need-returns
 returns c =
     let p = c .before .before .before .before .byte-at .ensures in
@@ -38,9 +23,9 @@ pub transition-in-code-spec : {M : Type 1} → statement M
 transition-in-code-spec =
     tie.close
     (tie.spec
-    byte-at-requires
-    byte-at-requires-2
-    byte-at-requires-3
-    u32-at-requires
-    trigger-in-code-requires
+    (λ c κs. search needs)
+    (λ c κs. search needs)
+    (λ c κs. search needs)
+    (λ c κs. search needs)
+    (λ c κs. search needs)
     returns)

@@ -8,15 +8,6 @@ use borrow.Author.Needs.{needs}
 use Rattle.record_tests.proofs.codes.variable_in_code.Statement.{statement}
 use Rattle.record_tests.proofs.codes.variable_in_code.Tie as tie
 
-i16-at-requires : tie.Need-i16-at-requires
-i16-at-requires c κs = search needs
-
-i16-at-requires-2 : tie.Need-i16-at-requires-2
-i16-at-requires-2 c κs = search needs
-
-i16-at-requires-3 : tie.Need-i16-at-requires-3
-i16-at-requires-3 c κs = search needs
-
 returns : tie.Need-returns
 returns c =
     let start = toZ-ofZ {w = w16} (record { sfits = c .before .before .i16-at .ok }) ∙ c .before .before .i16-at .ensures in
@@ -26,4 +17,4 @@ returns c =
 
 pub variable-in-code-spec : {M : Type 1} → statement M
 variable-in-code-spec =
-    tie.close (tie.spec i16-at-requires i16-at-requires-2 i16-at-requires-3 returns)
+    tie.close (tie.spec (λ c κs. search needs) (λ c κs. search needs) (λ c κs. search needs) returns)

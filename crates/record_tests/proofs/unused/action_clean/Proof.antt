@@ -8,19 +8,10 @@ use borrow.Author.Needs.{needs}
 use Rattle.record_tests.proofs.unused.action_clean.Statement.{statement}
 use Rattle.record_tests.proofs.unused.action_clean.Tie as tie
 
-byte-at-requires : tie.Need-byte-at-requires
-byte-at-requires c κs = search needs
-
-two-zero-requires : tie.Need-two-zero-requires
-two-zero-requires c κs = search needs
-
-from-eight-zero-requires : tie.Need-from-eight-zero-requires
-from-eight-zero-requires c κs = search needs
-
 returns : tie.Need-returns
 returns c =
     let r = c .before .before .before .before .args .r .now in
     (λ i. c .from-eight-zero .ensures i && (not (eqb (c .before .before .byte-at .ensures i) 2) || c .before .two-zero .ensures i)) ∙ deed-unused r (byte r 4)
 
 pub action-clean-spec : {M : Type 1} → statement M
-action-clean-spec = tie.close (tie.spec byte-at-requires two-zero-requires from-eight-zero-requires returns)
+action-clean-spec = tie.close (tie.spec (λ c κs. search needs) (λ c κs. search needs) (λ c κs. search needs) returns)

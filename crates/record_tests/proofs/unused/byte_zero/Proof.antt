@@ -6,11 +6,8 @@ use Rattle.record_tests.proofs.UnusedWords.{byte-zero}
 use Rattle.record_tests.proofs.unused.byte_zero.Statement.{statement}
 use Rattle.record_tests.proofs.unused.byte_zero.Tie as tie
 
-byte-at-requires : tie.Need-byte-at-requires
-byte-at-requires c κs = search needs
-
 returns : tie.Need-returns
 returns c = let a = c .before .before .args in ap (λ n. eqb n 0) (c .byte-at .ensures) ∙ byte-zero (a .r .now) (a .k)
 
 pub byte-zero-spec : {M : Type 1} → statement M
-byte-zero-spec = tie.close (tie.spec byte-at-requires returns)
+byte-zero-spec = tie.close (tie.spec (λ c κs. search needs) returns)

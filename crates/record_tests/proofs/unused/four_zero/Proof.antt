@@ -6,11 +6,8 @@ use Rattle.record_tests.proofs.UnusedWords.{four-zero}
 use Rattle.record_tests.proofs.unused.four_zero.Statement.{statement}
 use Rattle.record_tests.proofs.unused.four_zero.Tie as tie
 
-u32-at-requires : tie.Need-u32-at-requires
-u32-at-requires c κs = search needs
-
 returns : tie.Need-returns
 returns c = let a = c .before .before .args in ap (λ n. eqb n 0) (c .u32-at .ensures) ∙ four-zero (a .r .now) (a .k)
 
 pub four-zero-spec : {M : Type 1} → statement M
-four-zero-spec = tie.close (tie.spec u32-at-requires returns)
+four-zero-spec = tie.close (tie.spec (λ c κs. search needs) returns)

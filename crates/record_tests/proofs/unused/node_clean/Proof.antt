@@ -8,27 +8,6 @@ use borrow.Author.Needs.{needs}
 use Rattle.record_tests.proofs.unused.node_clean.Statement.{statement}
 use Rattle.record_tests.proofs.unused.node_clean.Tie as tie
 
-byte-at-requires : tie.Need-byte-at-requires
-byte-at-requires c κs = search needs
-
-node-in-code-requires : tie.Need-node-in-code-requires
-node-in-code-requires c κs = search needs
-
-u16-within-requires : tie.Need-u16-within-requires
-u16-within-requires c κs = search needs
-
-u16-within-requires-2 : tie.Need-u16-within-requires-2
-u16-within-requires-2 c κs = search needs
-
-u16-within-requires-3 : tie.Need-u16-within-requires-3
-u16-within-requires-3 c κs = search needs
-
-u32-within-requires : tie.Need-u32-within-requires
-u32-within-requires c κs = search needs
-
-u32-within-requires-2 : tie.Need-u32-within-requires-2
-u32-within-requires-2 c κs = search needs
-
 returns : tie.Need-returns
 returns c =
     let r = c .before .before .before .before .before .before .before .before .args .r .now in
@@ -50,11 +29,11 @@ pub node-clean-spec : {M : Type 1} → statement M
 node-clean-spec =
     tie.close
     (tie.spec
-    byte-at-requires
-    node-in-code-requires
-    u16-within-requires
-    u16-within-requires-2
-    u16-within-requires-3
-    u32-within-requires
-    u32-within-requires-2
+    (λ c κs. search needs)
+    (λ c κs. search needs)
+    (λ c κs. search needs)
+    (λ c κs. search needs)
+    (λ c κs. search needs)
+    (λ c κs. search needs)
+    (λ c κs. search needs)
     returns)

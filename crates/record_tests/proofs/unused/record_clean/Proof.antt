@@ -23,36 +23,6 @@ table r =
     ∷ (6, unusedAction r)
     ∷ []
 
-byte-at-requires : tie.Need-byte-at-requires
-byte-at-requires c κs = search needs
-
-byte-zero-requires : tie.Need-byte-zero-requires
-byte-zero-requires c κs = search needs
-
-from-four-zero-requires : tie.Need-from-four-zero-requires
-from-four-zero-requires c κs = search needs
-
-two-zero-requires : tie.Need-two-zero-requires
-two-zero-requires c κs = search needs
-
-from-four-zero-requires-2 : tie.Need-from-four-zero-requires-2
-from-four-zero-requires-2 c κs = search needs
-
-transition-clean-requires : tie.Need-transition-clean-requires
-transition-clean-requires c κs = search needs
-
-byte-zero-requires-2 : tie.Need-byte-zero-requires-2
-byte-zero-requires-2 c κs = search needs
-
-from-eight-zero-requires : tie.Need-from-eight-zero-requires
-from-eight-zero-requires c κs = search needs
-
-node-clean-requires : tie.Need-node-clean-requires
-node-clean-requires c κs = search needs
-
-action-clean-requires : tie.Need-action-clean-requires
-action-clean-requires c κs = search needs
-
 returns : tie.Need-returns
 unfolding all caseOf
 returns c =
@@ -101,16 +71,16 @@ pub record-clean-spec : {M : Type 1} → statement M
 record-clean-spec =
     tie.close
     (tie.spec
-    byte-at-requires
-    byte-zero-requires
-    from-four-zero-requires
-    two-zero-requires
-    from-four-zero-requires-2
-    transition-clean-requires
-    byte-zero-requires-2
-    from-eight-zero-requires
-    node-clean-requires
-    action-clean-requires
+    (λ c κs. search needs)
+    (λ c κs. search needs)
+    (λ c κs. search needs)
+    (λ c κs. search needs)
+    (λ c κs. search needs)
+    (λ c κs. search needs)
+    (λ c κs. search needs)
+    (λ c κs. search needs)
+    (λ c κs. search needs)
+    (λ c κs. search needs)
     returns
     returns-2
     returns-3

@@ -8,18 +8,6 @@ use borrow.Author.Needs.{needs}
 use Rattle.record_tests.proofs.unused.transition_clean.Statement.{statement}
 use Rattle.record_tests.proofs.unused.transition_clean.Tie as tie
 
-byte-at-requires : tie.Need-byte-at-requires
-byte-at-requires c κs = search needs
-
-byte-zero-requires : tie.Need-byte-zero-requires
-byte-zero-requires c κs = search needs
-
-four-zero-requires : tie.Need-four-zero-requires
-four-zero-requires c κs = search needs
-
-two-zero-requires : tie.Need-two-zero-requires
-two-zero-requires c κs = search needs
-
 returns : tie.Need-returns
 returns c =
     let r = c .before .before .before .before .before .args .r .now in
@@ -28,4 +16,4 @@ returns c =
     ∙ transition-unused r (byte r 6)
 
 pub transition-clean-spec : {M : Type 1} → statement M
-transition-clean-spec = tie.close (tie.spec byte-at-requires byte-zero-requires four-zero-requires two-zero-requires returns)
+transition-clean-spec = tie.close (tie.spec (λ c κs. search needs) (λ c κs. search needs) (λ c κs. search needs) (λ c κs. search needs) returns)

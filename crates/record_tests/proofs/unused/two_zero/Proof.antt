@@ -6,11 +6,8 @@ use Rattle.record_tests.proofs.UnusedWords.{two-zero}
 use Rattle.record_tests.proofs.unused.two_zero.Statement.{statement}
 use Rattle.record_tests.proofs.unused.two_zero.Tie as tie
 
-u16-at-requires : tie.Need-u16-at-requires
-u16-at-requires c κs = search needs
-
 returns : tie.Need-returns
 returns c = let a = c .before .before .args in ap (λ n. eqb n 0) (c .u16-at .ensures) ∙ two-zero (a .r .now) (a .k)
 
 pub two-zero-spec : {M : Type 1} → statement M
-two-zero-spec = tie.close (tie.spec u16-at-requires returns)
+two-zero-spec = tie.close (tie.spec (λ c κs. search needs) returns)

@@ -7,43 +7,13 @@ use borrow.Author.Needs.{needs}
 use denote.Ref.{now}
 use lib.IntN.{ℤ}
 use lib.ListN.{getD, take}
-use Rattle.machines.specs.declared.answers.Answer.{Answer}
-use Rattle.machines.specs.Answers.{answerOf}
+use Rattle.answers.specs.declared.Answer.{Answer}
+use Rattle.answers.specs.Answers.{answerOf}
 use Rattle.records.specs.Wrote.{Wrote}
 use Rattle.records.proofs.Wrote.{nothing-wrote}
 use Rattle.replays.specs.Played.{answerText}
 use Rattle.replays.proofs.parts.tell.Statement.{statement}
 use Rattle.replays.proofs.parts.tell.Tie as tie
-
-mul-place : tie.Need-mul-place
-mul-place c = search needs
-
-element-copy-out-place : tie.Need-element-copy-out-place
-element-copy-out-place c = search needs
-
-enum-known-answer : tie.Need-enum-known-answer
-enum-known-answer c = search needs
-
-put-bounded-line-requires : tie.Need-put-bounded-line-requires
-put-bounded-line-requires c κs = search needs
-
-enum-told : tie.Need-enum-told
-enum-told c = search needs
-
-put-bounded-line-requires-2 : tie.Need-put-bounded-line-requires-2
-put-bounded-line-requires-2 c κs = search needs
-
-enum-told-2 : tie.Need-enum-told-2
-enum-told-2 c = search needs
-
-enum-told-3 : tie.Need-enum-told-3
-enum-told-3 c = search needs
-
-enum-told-4 : tie.Need-enum-told-4
-enum-told-4 c = search needs
-
-same-length : tie.Need-same-length
-same-length c = search needs
 
 returns : tie.Need-returns
 returns c =
@@ -53,9 +23,6 @@ returns c =
       subst (λ o. Wrote (now (x .out)) (x .at) (answerText (x .cycle) (x .part) o (getD (now (x .places)) (x .part) 0) (take (x .count) (now (x .variables)))) (p .last .0) (p .result)) (sym (ap answerOf (c .before .before .before .before .before .before .answer .given .1))) (p .ensures .0),
       omega (arith, p .ensures .1, b .pre .2),
     )
-
-same-length-2 : tie.Need-same-length-2
-same-length-2 c = search needs
 
 returns-2 : tie.Need-returns-2
 returns-2 c =
@@ -85,18 +52,18 @@ pub tell-spec : {M : Type 1} → statement M
 tell-spec =
     tie.close
     (tie.spec
-    mul-place
-    element-copy-out-place
-    enum-known-answer
-    put-bounded-line-requires
-    enum-told
-    put-bounded-line-requires-2
-    enum-told-2
-    enum-told-3
-    enum-told-4
-    same-length
+    (λ c. search needs)
+    (λ c. search needs)
+    (λ c. search needs)
+    (λ c κs. search needs)
+    (λ c. search needs)
+    (λ c κs. search needs)
+    (λ c. search needs)
+    (λ c. search needs)
+    (λ c. search needs)
+    (λ c. search needs)
     returns
-    same-length-2
+    (λ c. search needs)
     returns-2
     returns-3
     returns-4

@@ -14,9 +14,9 @@ use Rattle.model.specs.Replay.{traceLines}
 use Rattle.model.proofs.ChecksKept.{Steady}
 use Rattle.model.proofs.ChecksKeptBySteps.{steady-charts}
 use Rattle.model.proofs.ChartFileSound.{sound}
-use Rattle.machines.specs.Answers.{reasonOf, answerOf}
-use Rattle.chart_files.proofs.PlacesRead.{most-charts, most-variables, length-initial, length-variables}
-use Rattle.charts.specs.RunOf.{runOf}
+use Rattle.answers.specs.Answers.{reasonOf, answerOf}
+use Rattle.chart_records.proofs.PlacesRead.{most-charts, most-variables, length-initial, length-variables}
+use Rattle.chart_runs.specs.RunOf.{runOf}
 use Rattle.charts.specs.TurnOf.{turnOf}
 use Rattle.charts.proofs.TurnOfCycle.{PartTurn, part-turn}
 use Rattle.lines.proofs.Texts.{trace-text}
@@ -93,9 +93,6 @@ in-model t h =
     let l = t .before .loop in
     (subst (λ x. Begins (b .args .out .now) x (l .out) (l .size)) (trace-text (readCharts (now (b .args .s))) (trace (m t) (whole-cycle (b .args .events)) (runOf (b .args .run)))) (h .0), h .1)
 
-enum-told : tie.Need-enum-told Inv-loop μ-loop
-enum-told c = search needs
-
 same-length : tie.Need-same-length Inv-loop μ-loop
 same-length c = c .before .before .before .before .loop .inv .1
 
@@ -104,9 +101,6 @@ returns c =
     let t = c .before .before .before in
     let l = t .before .loop in
     in-model t (finished (m t) (steady t) (l .given) (runOf (l .present)) (turnOf (t .turn .result)) (t .turn .ensures) (l .inv .0) (ap answerOf (c .enum-told .given .1)))
-
-enum-known-answer : tie.Need-enum-known-answer Inv-loop μ-loop
-enum-known-answer c = search needs
 
 same-length-2 : tie.Need-same-length-2 Inv-loop μ-loop
 same-length-2 c = c .before .before .before .before .before .loop .inv .1
@@ -117,9 +111,6 @@ returns-2 c =
     let l = t .before .loop in
     let g = c .before .answer .given in
     in-model t (failed (m t) (steady t) (l .given) (runOf (l .present)) (turnOf (t .turn .result)) (t .turn .ensures) (l .inv .0) (reasonOf (g .0 .0)) (ap answerOf (g .1)))
-
-enum-known-answer-2 : tie.Need-enum-known-answer-2 Inv-loop μ-loop
-enum-known-answer-2 c = search needs
 
 same-length-3 : tie.Need-same-length-3 Inv-loop μ-loop
 same-length-3 c = c .before .before .before .before .before .loop .inv .1
@@ -143,12 +134,12 @@ cycle-into-spec =
     tell-requires
     loop-less
     loop-again
-    enum-told
+    (λ c. search needs)
     same-length
     returns
-    enum-known-answer
+    (λ c. search needs)
     same-length-2
     returns-2
-    enum-known-answer-2
+    (λ c. search needs)
     same-length-3
     returns-3)

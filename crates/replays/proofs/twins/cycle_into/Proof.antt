@@ -11,8 +11,8 @@ use Rattle.model.specs.AutomataTable.{readAutomata}
 use Rattle.model.specs.Automata.{automata}
 use Rattle.model.proofs.ChecksKept.{Steady}
 use Rattle.model.proofs.ChecksKeptBySteps.{steady-automata, sound-table}
-use Rattle.machines.specs.Answers.{reasonOf, answerOf}
-use Rattle.automata_files.proofs.PlacesRead.{most-automata, most-variables, length-initial, length-variables}
+use Rattle.answers.specs.Answers.{reasonOf, answerOf}
+use Rattle.automata_records.proofs.PlacesRead.{most-automata, most-variables, length-initial, length-variables}
 use Rattle.automata.specs.RunOf.{runOf}
 use Rattle.automata.specs.TurnOf.{turnOf}
 use Rattle.charts.proofs.TurnOfCycle.{PartTurn, part-turn}
@@ -79,9 +79,6 @@ loop-again c =
       told .kept .0 ∙ l .inv .1,
     )
 
-enum-told : tie.Need-enum-told Inv-loop μ-loop
-enum-told c = search needs
-
 same-length : tie.Need-same-length Inv-loop μ-loop
 same-length c = c .before .before .before .before .loop .inv .1
 
@@ -90,9 +87,6 @@ returns c =
     let t = c .before .before .before in
     let l = t .before .loop in
     finished (m t) (steady t) (l .given) (runOf (l .present)) (turnOf (t .turn .result)) (t .turn .ensures) (l .inv .0) (ap answerOf (c .enum-told .given .1))
-
-enum-known-answer : tie.Need-enum-known-answer Inv-loop μ-loop
-enum-known-answer c = search needs
 
 same-length-2 : tie.Need-same-length-2 Inv-loop μ-loop
 same-length-2 c = c .before .before .before .before .before .loop .inv .1
@@ -103,9 +97,6 @@ returns-2 c =
     let l = t .before .loop in
     let g = c .before .answer .given in
     failed (m t) (steady t) (l .given) (runOf (l .present)) (turnOf (t .turn .result)) (t .turn .ensures) (l .inv .0) (reasonOf (g .0 .0)) (ap answerOf (g .1))
-
-enum-known-answer-2 : tie.Need-enum-known-answer-2 Inv-loop μ-loop
-enum-known-answer-2 c = search needs
 
 same-length-3 : tie.Need-same-length-3 Inv-loop μ-loop
 same-length-3 c = c .before .before .before .before .before .loop .inv .1
@@ -129,12 +120,12 @@ cycle-into-spec =
     tell-requires
     loop-less
     loop-again
-    enum-told
+    (λ c. search needs)
     same-length
     returns
-    enum-known-answer
+    (λ c. search needs)
     same-length-2
     returns-2
-    enum-known-answer-2
+    (λ c. search needs)
     same-length-3
     returns-3)

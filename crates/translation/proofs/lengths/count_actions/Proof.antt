@@ -4,7 +4,7 @@ use Prim.Native.Nat.{ℕ, _-_, _*_, _<_, _≤_}
 use native.Mathlib.Omega.{arith}
 use denote.Ref.{now}
 use lib.ListN.{getD}
-use Rattle.chart_files.proofs.PlacesRead.{most-actions}
+use Rattle.chart_records.proofs.PlacesRead.{most-actions}
 use Rattle.chart_steps.specs.Tables.{keyAt, keyed}
 use Rattle.prelude.specs.Lists.{bit}
 use Rattle.prelude.proofs.Sums.{sum-alike, count-from}

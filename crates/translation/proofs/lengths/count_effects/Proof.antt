@@ -4,13 +4,13 @@ use Prim.Native.Nat.{ℕ, _+_, _-_, _*_, _<_, _≤_}
 use native.Mathlib.Omega.{arith}
 use denote.Ref.{now}
 use lib.ListN.{length, getD}
-use Rattle.chart_files.proofs.PlacesRead.{transition-is, length-transitions, most-states, most-transitions}
+use Rattle.chart_records.proofs.PlacesRead.{transition-is, length-transitions, most-states, most-transitions}
 use Rattle.chart_steps.proofs.Accepted.{source-known, target-known}
 use Rattle.model.specs.ChartSet.{readCharts}
 use Rattle.model.specs.Translation.{from-transition, transitionCount, updatesOf, clocksLeaving, resetsOf}
 use Rattle.prelude.proofs.Sums.{sumFrom}
 use Rattle.model.proofs.TranslationCounts.{updatesOf-few, resetsOf-few}
-use Rattle.translation.proofs.TextsEdges.{updates-count}
+use Rattle.edge_records.proofs.TextsEdges.{updates-count}
 use Rattle.translation.proofs.TablesCounts.{sum-none, sum-more, effectsOf, effects-are}
 use Rattle.translation.proofs.lengths.count_effects.Statement.{statement}
 use Rattle.translation.proofs.lengths.count_effects.Tie as tie

@@ -7,7 +7,7 @@ use denote.Ref.{now}
 use lib.ListN.{length, getD}
 use lib.Seq.{take-length}
 use Rattle.prelude.specs.Lists.{gather}
-use Rattle.chart_files.proofs.PlacesRead.{transition-is, length-transitions, most-states, most-transitions}
+use Rattle.chart_records.proofs.PlacesRead.{transition-is, length-transitions, most-states, most-transitions}
 use Rattle.chart_steps.proofs.Accepted.{source-known}
 use Rattle.model.specs.ChartSet.{readCharts, transition}
 use Rattle.model.specs.Translation.{transitionCount, clocksOf, clockOf, twin}
@@ -71,12 +71,6 @@ resets-few c =
 
 cast-source : tie.Need-cast-source Inv-loop μ-loop
 cast-source c = omega (arith, in-states c)
-
-trigger-of-requires : tie.Need-trigger-of-requires Inv-loop μ-loop
-trigger-of-requires c κs = search needs
-
-clocks-in-requires : tie.Need-clocks-in-requires Inv-loop μ-loop
-clocks-in-requires c κs = search needs
 
 -- its clocks
 clocks-here : (c : tie.After-clocks-in Inv-loop μ-loop) → c .clocks-in .result ≡ clocksAt (readCharts (now (c .before .before .before .before .before .before .before .args .s))) (c .before .before .before .before .before .loop .t)
@@ -178,8 +172,8 @@ count-tests-spec =
     loop-holds
     source-of-requires
     cast-source
-    trigger-of-requires
-    clocks-in-requires
+    (λ c κs. search needs)
+    (λ c κs. search needs)
     mul-n
     array-read-n
     add-n

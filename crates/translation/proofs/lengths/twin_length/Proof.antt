@@ -5,7 +5,7 @@ use native.Mathlib.Omega.{arith}
 use borrow.Author.Needs.{needs}
 use denote.Ref.{now}
 use lib.ListN.{length}
-use Rattle.chart_files.proofs.PlacesRead.{length-initial, length-homes, length-transitions, length-variables, length-nodes, most-charts, most-states, most-transitions, most-variables, most-nodes}
+use Rattle.chart_records.proofs.PlacesRead.{length-initial, length-homes, length-transitions, length-variables, length-nodes, most-charts, most-states, most-transitions, most-variables, most-nodes}
 use Rattle.model.specs.ChartSet.{readCharts}
 use Rattle.model.specs.Translation.{twin}
 use Rattle.model.proofs.TranslationOrigins.{origins-count, edges-count}
@@ -25,9 +25,6 @@ count-effects-requires c κs =
     let tests = c .before .before in
     let actions = tests .before .before in
     (actions .before .before .before .pre, actions .count-actions .ensures, tests .count-tests .ensures .1)
-
-first-node-requires : tie.Need-first-node-requires
-first-node-requires c κs = search needs
 
 -- copied records and idle edges are few, and so are the others
 few-copied : (c : tie.After-struct-known) → c .before .first-node .result + c .before .before .before .before .before .before .before .before .before .before .args .shape .nodes + c .before .before .before .before .before .before .before .before .before .before .args .shape .states < 2000
@@ -96,7 +93,7 @@ twin-length-spec =
     count-actions-requires
     count-tests-requires
     count-effects-requires
-    first-node-requires
+    (λ c κs. search needs)
     cast-copied
     add-copied
     cast-result

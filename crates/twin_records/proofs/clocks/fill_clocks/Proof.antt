@@ -7,7 +7,7 @@ use denote.Ref.{now}
 use lib.ListN.{length, length-replicate}
 use Rattle.model.specs.ChartSet.{readCharts, transition}
 use Rattle.model.specs.Translation.{transitionCount, clocksOf, clockOf}
-use Rattle.chart_files.proofs.PlacesRead.{transition-is, length-transitions, most-transitions}
+use Rattle.chart_records.proofs.PlacesRead.{transition-is, length-transitions, most-transitions}
 use Rattle.prelude.proofs.Filled.{Filled, filled-none, filled-more, filled-padded}
 use Rattle.twin_records.proofs.TablesClocks.{clock-none, clock-more}
 use Rattle.twin_records.proofs.clocks.fill_clocks.Statement.{statement}
@@ -36,12 +36,6 @@ element-write-clocks c =
     let entry = c .before .before .before .before in
     let x = entry .args in
     omega (arith, most-transitions (now (x .s)) (x .shape) (entry .pre .0))
-
-trigger-of-requires : tie.Need-trigger-of-requires Inv-loop μ-loop
-trigger-of-requires c κs = search needs
-
-clocks-in-requires : tie.Need-clocks-in-requires Inv-loop μ-loop
-clocks-in-requires c κs = search needs
 
 add-count : tie.Need-add-count Inv-loop μ-loop
 add-count c =
@@ -93,8 +87,8 @@ fill-clocks-spec =
     cast-i
     mul-clocks
     element-write-clocks
-    trigger-of-requires
-    clocks-in-requires
+    (λ c κs. search needs)
+    (λ c κs. search needs)
     add-count
     add-t
     loop-less

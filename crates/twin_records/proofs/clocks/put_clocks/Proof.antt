@@ -9,9 +9,9 @@ use Rattle.prelude.specs.Lists.{gather}
 use Rattle.model.specs.ChartSet.{Transition, readCharts}
 use Rattle.model.specs.AutomataTable.{writeClock}
 use Rattle.model.specs.Translation.{clocksOf}
-use Rattle.chart_files.specs.Places.{transitionAt}
+use Rattle.chart_records.specs.Places.{transitionAt}
 use Rattle.prelude.proofs.Maps.{gather-map}
-use Rattle.chart_files.proofs.PlacesRead.{transitions-are, most-transitions}
+use Rattle.chart_records.proofs.PlacesRead.{transitions-are, most-transitions}
 use Rattle.twin_records.specs.Texts.{section}
 use Rattle.twin_records.proofs.TextsWritten.{Texts, texts-start, texts-step, texts-end, puts-as}
 use Rattle.twin_records.proofs.TextsSections.{gathered-text}
@@ -26,12 +26,6 @@ abbrev μ-loop : tie.MeasureT-loop
 
 loop-holds : tie.Need-loop-holds Inv-loop μ-loop
 loop-holds c = texts-start _ _ _ _ _
-
-trigger-of-requires : tie.Need-trigger-of-requires Inv-loop μ-loop
-trigger-of-requires c κs = search needs
-
-put-clock-requires : tie.Need-put-clock-requires Inv-loop μ-loop
-put-clock-requires c κs = search needs
 
 add-t : tie.Need-add-t Inv-loop μ-loop
 add-t c = omega arith
@@ -67,8 +61,8 @@ put-clocks-spec =
     Inv-loop
     μ-loop
     loop-holds
-    trigger-of-requires
-    put-clock-requires
+    (λ c κs. search needs)
+    (λ c κs. search needs)
     add-t
     loop-less
     loop-again

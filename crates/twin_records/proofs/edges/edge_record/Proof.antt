@@ -1,47 +1,43 @@
--- `edges::edge_record` meets its contract: the fields are those of the transition, and its source has its chart. Assumes nothing.
+-- `edges::edge_record` meets its contract: the first edges are the transitions', those behind them the idle ones. Assumes nothing.
 use mathlib.Core.Path.{_≡_, sym, ap, _∙_}
-use mathlib.Core.List.{[], _∷_, _++_}
-use Prim.Native.Nat.{_+_, _-_, _<_}
+use Prim.Native.Nat.{ℕ, _+_, _-_}
 use native.Mathlib.Omega.{arith}
-use borrow.Author.Needs.{needs}
 use denote.Ref.{now}
-use Rattle.records.specs.Bytes.{bytes2}
-use Rattle.model.specs.Owned.{home}
-use Rattle.model.specs.ChartSet.{readCharts, transition}
-use Rattle.chart_files.specs.Places.{transitionAt}
-use Rattle.chart_files.proofs.PlacesRead.{transition-is, home-is}
-use Rattle.chart_steps.proofs.Accepted.{source-known}
+use Rattle.model.specs.ChartSet.{readCharts}
+use Rattle.model.specs.AutomataTable.{writeEdge}
+use Rattle.model.specs.Translation.{from-transition, from-idling, originOf, transitionCount, edgeOf}
+use Rattle.model.proofs.TranslationOrigins.{originOf-edgeNumber}
+use Rattle.chart_records.proofs.PlacesRead.{length-transitions, length-homes}
 use Rattle.twin_records.specs.Texts.{recordText}
 use Rattle.twin_records.proofs.edges.edge_record.Statement.{statement}
 use Rattle.twin_records.proofs.edges.edge_record.Tie as tie
 
-source-of-requires : tie.Need-source-of-requires
-source-of-requires c κs = search needs
+transition-record-requires : tie.Need-transition-record-requires
+transition-record-requires c κs = (c .before .before .before .pre .0, c .if1 .taken)
 
-home-of-requires : tie.Need-home-of-requires
-home-of-requires c κs = search needs
-
-target-of-requires : tie.Need-target-of-requires
-target-of-requires c κs = search needs
-
-edge-bytes-requires : tie.Need-edge-bytes-requires
-edge-bytes-requires c κs = search needs
+idle-record-requires : tie.Need-idle-record-requires
+idle-record-requires c κs =
+    let b = c .before .before .before .before in
+    (b .pre .0, omega (arith, b .pre .1, c .before .if1 .left))
 
 returns : tie.Need-returns
 returns c =
-    let entry = c .before .before .before .before .before in
-    let x = entry .args in
-    let ok = entry .pre .0 in
+    let b = c .before .before .before .before in
+    let x = b .args in
     let cs = readCharts (now (x .s)) in
-    let same : transitionAt (now (x .s)) (x .shape) (x .t) ≡ transition cs (x .t) = sym (transition-is (now (x .s)) (x .shape) (ok .shape) (x .t) (entry .pre .1)) in
-    let source : c .before .before .before .source-of .result ≡ transition cs (x .t) .source = c .before .before .before .source-of .ensures ∙ ap (λ y. y .source) same in
-    let target : c .before .target-of .result ≡ transition cs (x .t) .target = c .before .target-of .ensures ∙ ap (λ y. y .target) same in
-    let known : c .before .before .before .source-of .result < x .shape .states = omega (arith, c .before .before .before .source-of .ensures, source-known (now (x .s)) (x .shape) ok (x .t) (entry .pre .1)) in
-    let home : c .before .before .home-of .result ≡ home (cs .homes) (transition cs (x .t) .source) =
-    c .before .before .home-of .ensures ∙ sym (home-is (now (x .s)) (x .shape) (ok .shape) (c .before .before .before .source-of .result) known) ∙ ap (home (cs .homes)) source in
-    c .edge-bytes .ensures ∙ (λ i. recordText 35 (home i ∷ bytes2 (source i) ++ bytes2 (target i) ++ (0 ∷ [])))
+    let own : originOf cs (x .e) ≡ from-transition (x .e) = originOf-edgeNumber cs (from-transition (x .e)) (omega (arith, length-transitions (now (x .s)) (x .shape) (b .pre .0 .shape), c .before .if1 .taken)) in
+    c .transition-record .ensures ∙ ap (λ o. recordText 35 (writeEdge (edgeOf cs o))) (sym own)
+
+returns-2 : tie.Need-returns-2
+returns-2 c =
+    let b = c .before .before .before .before .before in
+    let x = b .args in
+    let cs = readCharts (now (x .s)) in
+    let size : transitionCount cs ≡ x .shape .transitions = length-transitions (now (x .s)) (x .shape) (b .pre .0 .shape) in
+    let state : ℕ = x .e - x .shape .transitions in
+    let number : x .e ≡ transitionCount cs + state = omega (arith, size, c .before .before .if1 .left) in
+    let own : originOf cs (x .e) ≡ from-idling state = ap (originOf cs) number ∙ originOf-edgeNumber cs (from-idling state) (omega (arith, b .pre .1, c .before .before .if1 .left, length-homes (now (x .s)) (x .shape) (b .pre .0 .shape))) in
+    c .idle-record .ensures ∙ ap (λ o. recordText 35 (writeEdge (edgeOf cs o))) (sym own)
 
 pub edge-record-spec : {M : Type 1} → statement M
-edge-record-spec =
-    tie.close
-    (tie.spec source-of-requires home-of-requires target-of-requires edge-bytes-requires returns)
+edge-record-spec = tie.close (tie.spec transition-record-requires idle-record-requires returns returns-2)

@@ -7,7 +7,7 @@ use denote.Ref.{now}
 use lib.ListN.{length}
 use Rattle.records.specs.Bytes.{byte, two}
 use Rattle.model.specs.ChartSet.{readDeed}
-use Rattle.chart_files.proofs.PlacesRead.{inside}
+use Rattle.chart_records.proofs.PlacesRead.{inside}
 use Rattle.twin_records.proofs.fields.deed_of.Statement.{statement}
 use Rattle.twin_records.proofs.fields.deed_of.Tie as tie
 
@@ -17,41 +17,14 @@ here c =
     let entry = c .before .before in
     omega (arith, c .first-node .ensures, entry .pre .1, inside (now (entry .args .s)) (entry .args .shape) (entry .pre .0))
 
-first-node-requires : tie.Need-first-node-requires
-first-node-requires c κs = search needs
-
-cast-at : tie.Need-cast-at
-cast-at c = search needs
-
-add-at : tie.Need-add-at
-add-at c = search needs
-
-add-at-2 : tie.Need-add-at-2
-add-at-2 c = search needs
-
-mul-at : tie.Need-mul-at
-mul-at c = search needs
-
-add-deed-by : tie.Need-add-deed-by
-add-deed-by c = search needs
-
 shared-slice-read-deed-by : tie.Need-shared-slice-read-deed-by
 shared-slice-read-deed-by c = omega (arith, here (c .before .before))
-
-add-deed-by-2 : tie.Need-add-deed-by-2
-add-deed-by-2 c = search needs
 
 shared-slice-read-deed-by-2 : tie.Need-shared-slice-read-deed-by-2
 shared-slice-read-deed-by-2 c = omega (arith, here (c .before .before .before))
 
-add-u16-within : tie.Need-add-u16-within
-add-u16-within c = search needs
-
 u16-within-requires : tie.Need-u16-within-requires
 u16-within-requires c κs = omega (arith, here (c .before .before .before))
-
-deed-by-requires : tie.Need-deed-by-requires
-deed-by-requires c κs = search needs
 
 returns : tie.Need-returns
 returns c =
@@ -66,16 +39,16 @@ pub deed-of-spec : {M : Type 1} → statement M
 deed-of-spec =
     tie.close
     (tie.spec
-    first-node-requires
-    cast-at
-    add-at
-    add-at-2
-    mul-at
-    add-deed-by
+    (λ c κs. search needs)
+    (λ c. search needs)
+    (λ c. search needs)
+    (λ c. search needs)
+    (λ c. search needs)
+    (λ c. search needs)
     shared-slice-read-deed-by
-    add-deed-by-2
+    (λ c. search needs)
     shared-slice-read-deed-by-2
-    add-u16-within
+    (λ c. search needs)
     u16-within-requires
-    deed-by-requires
+    (λ c κs. search needs)
     returns)

@@ -5,21 +5,9 @@ use native.Mathlib.Omega.{arith}
 use borrow.Author.Needs.{needs}
 use denote.Ref.{now}
 use Rattle.records.specs.Bytes.{byte}
-use Rattle.chart_files.proofs.PlacesRead.{inside}
+use Rattle.chart_records.proofs.PlacesRead.{inside}
 use Rattle.twin_records.proofs.fields.priority_of.Statement.{statement}
 use Rattle.twin_records.proofs.fields.priority_of.Tie as tie
-
-first-transition-requires : tie.Need-first-transition-requires
-first-transition-requires c κs = search needs
-
-add-at : tie.Need-add-at
-add-at c = search needs
-
-mul-at : tie.Need-mul-at
-mul-at c = search needs
-
-add-result : tie.Need-add-result
-add-result c = search needs
 
 shared-slice-read-result : tie.Need-shared-slice-read-result
 shared-slice-read-result c =
@@ -32,4 +20,4 @@ returns c = let x = c .before .before .before .args in ap (λ n. byte (now (x .s
 pub priority-of-spec : {M : Type 1} → statement M
 priority-of-spec =
     tie.close
-    (tie.spec first-transition-requires add-at mul-at add-result shared-slice-read-result returns)
+    (tie.spec (λ c κs. search needs) (λ c. search needs) (λ c. search needs) (λ c. search needs) shared-slice-read-result returns)

@@ -3,7 +3,7 @@ use mathlib.Core.Path.{_≡_, sym, ap}
 use Prim.Native.Nat.{ℕ}
 use borrow.Author.Tests.{ne-eqb}
 use Rattle.prelude.specs.Lists.{caseOf}
-use Rattle.chart_files.specs.Places.{triggerBy}
+use Rattle.chart_records.specs.Places.{triggerBy}
 use Rattle.twin_records.proofs.fields.trigger_by.Statement.{statement}
 use Rattle.twin_records.proofs.fields.trigger_by.Tie as tie
 

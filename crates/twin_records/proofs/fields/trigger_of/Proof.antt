@@ -6,8 +6,8 @@ use borrow.Author.Needs.{needs}
 use denote.Ref.{now}
 use lib.ListN.{length}
 use Rattle.records.specs.Bytes.{byte, four}
-use Rattle.chart_files.specs.Places.{triggerBy}
-use Rattle.chart_files.proofs.PlacesRead.{inside}
+use Rattle.chart_records.specs.Places.{triggerBy}
+use Rattle.chart_records.proofs.PlacesRead.{inside}
 use Rattle.twin_records.proofs.fields.trigger_of.Statement.{statement}
 use Rattle.twin_records.proofs.fields.trigger_of.Tie as tie
 
@@ -17,35 +17,14 @@ here c =
     let entry = c .before .before in
     omega (arith, c .first-transition .ensures, entry .pre .1, inside (now (entry .args .s)) (entry .args .shape) (entry .pre .0))
 
-first-transition-requires : tie.Need-first-transition-requires
-first-transition-requires c κs = search needs
-
-add-at : tie.Need-add-at
-add-at c = search needs
-
-mul-at : tie.Need-mul-at
-mul-at c = search needs
-
-add-trigger-by : tie.Need-add-trigger-by
-add-trigger-by c = search needs
-
 shared-slice-read-trigger-by : tie.Need-shared-slice-read-trigger-by
 shared-slice-read-trigger-by c = omega (arith, here (c .before))
-
-add-trigger-by-2 : tie.Need-add-trigger-by-2
-add-trigger-by-2 c = search needs
 
 shared-slice-read-trigger-by-2 : tie.Need-shared-slice-read-trigger-by-2
 shared-slice-read-trigger-by-2 c = omega (arith, here (c .before .before))
 
-add-u32-within : tie.Need-add-u32-within
-add-u32-within c = search needs
-
 u32-within-requires : tie.Need-u32-within-requires
 u32-within-requires c κs = omega (arith, here (c .before .before))
-
-trigger-by-requires : tie.Need-trigger-by-requires
-trigger-by-requires c κs = search needs
 
 returns : tie.Need-returns
 returns c =
@@ -59,14 +38,14 @@ pub trigger-of-spec : {M : Type 1} → statement M
 trigger-of-spec =
     tie.close
     (tie.spec
-    first-transition-requires
-    add-at
-    mul-at
-    add-trigger-by
+    (λ c κs. search needs)
+    (λ c. search needs)
+    (λ c. search needs)
+    (λ c. search needs)
     shared-slice-read-trigger-by
-    add-trigger-by-2
+    (λ c. search needs)
     shared-slice-read-trigger-by-2
-    add-u32-within
+    (λ c. search needs)
     u32-within-requires
-    trigger-by-requires
+    (λ c κs. search needs)
     returns)

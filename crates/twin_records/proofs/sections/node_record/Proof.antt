@@ -7,7 +7,7 @@ use borrow.Author.Needs.{needs}
 use denote.Ref.{now}
 use lib.ListN.{length}
 use Rattle.records.specs.Bytes.{byte, two, four}
-use Rattle.chart_files.proofs.PlacesRead.{inside}
+use Rattle.chart_records.proofs.PlacesRead.{inside}
 use Rattle.twin_records.specs.Texts.{recordText}
 use Rattle.twin_records.proofs.TextsNodes.{nodeText, node-text}
 use Rattle.twin_records.proofs.sections.node_record.Statement.{statement}
@@ -19,47 +19,20 @@ here c =
     let entry = c .before .before in
     omega (arith, c .first-node .ensures, entry .pre .1, inside (now (entry .args .s)) (entry .args .shape) (entry .pre .0 .shape))
 
-first-node-requires : tie.Need-first-node-requires
-first-node-requires c κs = search needs
-
-add-at : tie.Need-add-at
-add-at c = search needs
-
-mul-at : tie.Need-mul-at
-mul-at c = search needs
-
-add-node-bytes : tie.Need-add-node-bytes
-add-node-bytes c = search needs
-
 shared-slice-read-node-bytes : tie.Need-shared-slice-read-node-bytes
 shared-slice-read-node-bytes c = omega (arith, here (c .before))
-
-add-u16-within : tie.Need-add-u16-within
-add-u16-within c = search needs
 
 u16-within-requires : tie.Need-u16-within-requires
 u16-within-requires c κs = omega (arith, here (c .before))
 
-add-u16-within-2 : tie.Need-add-u16-within-2
-add-u16-within-2 c = search needs
-
 u16-within-requires-2 : tie.Need-u16-within-requires-2
 u16-within-requires-2 c κs = omega (arith, here (c .before .before))
-
-add-u16-within-3 : tie.Need-add-u16-within-3
-add-u16-within-3 c = search needs
 
 u16-within-requires-3 : tie.Need-u16-within-requires-3
 u16-within-requires-3 c κs = omega (arith, here (c .before .before .before))
 
-add-u32-within : tie.Need-add-u32-within
-add-u32-within c = search needs
-
 u32-within-requires : tie.Need-u32-within-requires
 u32-within-requires c κs = omega (arith, here (c .before .before .before .before))
-
-node-bytes-requires : tie.Need-node-bytes-requires
-node-bytes-requires c κs = search needs
 
 four-low : (s : List ℕ) (k : ℕ) → ((i : ℕ) → byte s i < 256) → four s k < 2 ^ 32
 four-low s k bytes = omega (arith, bytes k, bytes (k + 1), bytes (k + 2), bytes (k + 2 + 1))
@@ -84,18 +57,18 @@ pub node-record-spec : {M : Type 1} → statement M
 node-record-spec =
     tie.close
     (tie.spec
-    first-node-requires
-    add-at
-    mul-at
-    add-node-bytes
+    (λ c κs. search needs)
+    (λ c. search needs)
+    (λ c. search needs)
+    (λ c. search needs)
     shared-slice-read-node-bytes
-    add-u16-within
+    (λ c. search needs)
     u16-within-requires
-    add-u16-within-2
+    (λ c. search needs)
     u16-within-requires-2
-    add-u16-within-3
+    (λ c. search needs)
     u16-within-requires-3
-    add-u32-within
+    (λ c. search needs)
     u32-within-requires
-    node-bytes-requires
+    (λ c κs. search needs)
     returns)

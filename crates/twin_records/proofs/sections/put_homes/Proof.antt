@@ -9,8 +9,8 @@ use Rattle.model.specs.ChartSet.{readCharts}
 use Rattle.twin_records.specs.Texts.{recordText}
 use Rattle.twin_records.proofs.TextsWritten.{Texts, texts-start, texts-step, texts-end, puts-as}
 use Rattle.twin_records.proofs.TextsSections.{placed-text}
-use Rattle.chart_files.specs.Places.{homeAt}
-use Rattle.chart_files.proofs.PlacesRead.{homes-are, most-states}
+use Rattle.chart_records.specs.Places.{homeAt}
+use Rattle.chart_records.proofs.PlacesRead.{homes-are, most-states}
 use Rattle.twin_records.proofs.sections.put_homes.Statement.{statement}
 use Rattle.twin_records.proofs.sections.put_homes.Tie as tie
 
@@ -22,15 +22,6 @@ abbrev μ-loop : tie.MeasureT-loop
 
 loop-holds : tie.Need-loop-holds Inv-loop μ-loop
 loop-holds c = texts-start _ _ _ _ _
-
-home-of-requires : tie.Need-home-of-requires Inv-loop μ-loop
-home-of-requires c κs = search needs
-
-home-bytes-requires : tie.Need-home-bytes-requires Inv-loop μ-loop
-home-bytes-requires c κs = search needs
-
-put-record-requires : tie.Need-put-record-requires Inv-loop μ-loop
-put-record-requires c κs = search needs
 
 add-state : tie.Need-add-state Inv-loop μ-loop
 add-state c = omega arith
@@ -61,9 +52,9 @@ put-homes-spec =
     Inv-loop
     μ-loop
     loop-holds
-    home-of-requires
-    home-bytes-requires
-    put-record-requires
+    (λ c κs. search needs)
+    (λ c κs. search needs)
+    (λ c κs. search needs)
     add-state
     loop-less
     loop-again

@@ -10,8 +10,8 @@ use Rattle.model.specs.ChartSet.{readCharts}
 use Rattle.twin_records.specs.Texts.{recordText}
 use Rattle.twin_records.proofs.TextsWritten.{Texts, texts-start, texts-step, texts-end, puts-as}
 use Rattle.twin_records.proofs.TextsSections.{placed-text}
-use Rattle.chart_files.specs.Places.{initialAt}
-use Rattle.chart_files.proofs.PlacesRead.{initial-are, most-charts}
+use Rattle.chart_records.specs.Places.{initialAt}
+use Rattle.chart_records.proofs.PlacesRead.{initial-are, most-charts}
 use Rattle.twin_records.proofs.sections.put_initials.Statement.{statement}
 use Rattle.twin_records.proofs.sections.put_initials.Tie as tie
 
@@ -23,15 +23,6 @@ abbrev μ-loop : tie.MeasureT-loop
 
 loop-holds : tie.Need-loop-holds Inv-loop μ-loop
 loop-holds c = texts-start _ _ _ _ _
-
-initial-of-requires : tie.Need-initial-of-requires Inv-loop μ-loop
-initial-of-requires c κs = search needs
-
-initial-bytes-requires : tie.Need-initial-bytes-requires Inv-loop μ-loop
-initial-bytes-requires c κs = search needs
-
-put-record-requires : tie.Need-put-record-requires Inv-loop μ-loop
-put-record-requires c κs = search needs
 
 add-c : tie.Need-add-c Inv-loop μ-loop
 add-c c = omega arith
@@ -62,9 +53,9 @@ put-initials-spec =
     Inv-loop
     μ-loop
     loop-holds
-    initial-of-requires
-    initial-bytes-requires
-    put-record-requires
+    (λ c κs. search needs)
+    (λ c κs. search needs)
+    (λ c κs. search needs)
     add-c
     loop-less
     loop-again

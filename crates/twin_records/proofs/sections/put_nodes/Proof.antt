@@ -8,8 +8,8 @@ use Rattle.twin_records.specs.Texts.{recordText}
 use Rattle.twin_records.proofs.TextsWritten.{Texts, texts-start, texts-step, texts-end, puts-as}
 use Rattle.twin_records.proofs.TextsSections.{placed-text}
 use Rattle.expressions.specs.Nodes.{nodeAt, writeNode}
-use Rattle.chart_files.specs.Places.{nodePart}
-use Rattle.chart_files.proofs.PlacesRead.{nodes-are, most-nodes}
+use Rattle.chart_records.specs.Places.{nodePart}
+use Rattle.chart_records.proofs.PlacesRead.{nodes-are, most-nodes}
 use Rattle.twin_records.proofs.sections.put_nodes.Statement.{statement}
 use Rattle.twin_records.proofs.sections.put_nodes.Tie as tie
 
@@ -26,9 +26,6 @@ node-record-requires : tie.Need-node-record-requires Inv-loop μ-loop
 node-record-requires c κs =
     let entry = c .before .before .before .before .before in
     (entry .pre .0, c .if1 .taken)
-
-put-record-requires : tie.Need-put-record-requires Inv-loop μ-loop
-put-record-requires c κs = search needs
 
 add-n : tie.Need-add-n Inv-loop μ-loop
 add-n c = omega arith
@@ -60,7 +57,7 @@ put-nodes-spec =
     μ-loop
     loop-holds
     node-record-requires
-    put-record-requires
+    (λ c κs. search needs)
     add-n
     loop-less
     loop-again

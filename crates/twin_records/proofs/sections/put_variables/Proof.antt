@@ -8,8 +8,8 @@ use Rattle.twin_records.specs.Texts.{recordText}
 use Rattle.twin_records.proofs.TextsWritten.{Texts, texts-start, texts-step, texts-end, puts-as}
 use Rattle.twin_records.proofs.TextsSections.{placed-text}
 use Rattle.model.specs.AutomataTable.{writeVariable}
-use Rattle.chart_files.specs.Places.{variableAt}
-use Rattle.chart_files.proofs.PlacesRead.{variables-are, most-variables}
+use Rattle.chart_records.specs.Places.{variableAt}
+use Rattle.chart_records.proofs.PlacesRead.{variables-are, most-variables}
 use Rattle.twin_records.proofs.sections.put_variables.Statement.{statement}
 use Rattle.twin_records.proofs.sections.put_variables.Tie as tie
 
@@ -21,12 +21,6 @@ abbrev μ-loop : tie.MeasureT-loop
 
 loop-holds : tie.Need-loop-holds Inv-loop μ-loop
 loop-holds c = texts-start _ _ _ _ _
-
-variable-bytes-requires : tie.Need-variable-bytes-requires Inv-loop μ-loop
-variable-bytes-requires c κs = search needs
-
-put-record-requires : tie.Need-put-record-requires Inv-loop μ-loop
-put-record-requires c κs = search needs
 
 add-v : tie.Need-add-v Inv-loop μ-loop
 add-v c = omega arith
@@ -57,8 +51,8 @@ put-variables-spec =
     Inv-loop
     μ-loop
     loop-holds
-    variable-bytes-requires
-    put-record-requires
+    (λ c κs. search needs)
+    (λ c κs. search needs)
     add-v
     loop-less
     loop-again

@@ -6,56 +6,11 @@ use native.Mathlib.Omega.{arith}
 use borrow.Author.Needs.{needs}
 use denote.Ref.{now}
 use Rattle.records.specs.Bytes.{byte, two±, bytes2±}
-use Rattle.chart_files.specs.Places.{firstVariable}
+use Rattle.chart_records.specs.Places.{firstVariable}
 use Rattle.twin_records.specs.Texts.{recordText}
 use Rattle.twin_records.proofs.TextsSections.{pair-back}
 use Rattle.twin_records.proofs.sections.variable_bytes.Statement.{statement}
 use Rattle.twin_records.proofs.sections.variable_bytes.Tie as tie
-
-first-variable-requires : tie.Need-first-variable-requires
-first-variable-requires c κs = search needs
-
-add-at : tie.Need-add-at
-add-at c = search needs
-
-mul-at : tie.Need-mul-at
-mul-at c = search needs
-
-add-byte-at : tie.Need-add-byte-at
-add-byte-at c = search needs
-
-byte-at-requires : tie.Need-byte-at-requires
-byte-at-requires c κs = search needs
-
-add-byte-at-2 : tie.Need-add-byte-at-2
-add-byte-at-2 c = search needs
-
-byte-at-requires-2 : tie.Need-byte-at-requires-2
-byte-at-requires-2 c κs = search needs
-
-add-byte-at-3 : tie.Need-add-byte-at-3
-add-byte-at-3 c = search needs
-
-byte-at-requires-3 : tie.Need-byte-at-requires-3
-byte-at-requires-3 c κs = search needs
-
-add-byte-at-4 : tie.Need-add-byte-at-4
-add-byte-at-4 c = search needs
-
-byte-at-requires-4 : tie.Need-byte-at-requires-4
-byte-at-requires-4 c κs = search needs
-
-add-byte-at-5 : tie.Need-add-byte-at-5
-add-byte-at-5 c = search needs
-
-byte-at-requires-5 : tie.Need-byte-at-requires-5
-byte-at-requires-5 c κs = search needs
-
-add-byte-at-6 : tie.Need-add-byte-at-6
-add-byte-at-6 c = search needs
-
-byte-at-requires-6 : tie.Need-byte-at-requires-6
-byte-at-requires-6 c κs = search needs
 
 returns : tie.Need-returns
 returns c =
@@ -76,19 +31,19 @@ pub variable-bytes-spec : {M : Type 1} → statement M
 variable-bytes-spec =
     tie.close
     (tie.spec
-    first-variable-requires
-    add-at
-    mul-at
-    add-byte-at
-    byte-at-requires
-    add-byte-at-2
-    byte-at-requires-2
-    add-byte-at-3
-    byte-at-requires-3
-    add-byte-at-4
-    byte-at-requires-4
-    add-byte-at-5
-    byte-at-requires-5
-    add-byte-at-6
-    byte-at-requires-6
+    (λ c κs. search needs)
+    (λ c. search needs)
+    (λ c. search needs)
+    (λ c. search needs)
+    (λ c κs. search needs)
+    (λ c. search needs)
+    (λ c κs. search needs)
+    (λ c. search needs)
+    (λ c κs. search needs)
+    (λ c. search needs)
+    (λ c κs. search needs)
+    (λ c. search needs)
+    (λ c κs. search needs)
+    (λ c. search needs)
+    (λ c κs. search needs)
     returns)

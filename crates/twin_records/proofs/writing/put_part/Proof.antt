@@ -20,17 +20,11 @@ Inv-loop out₀ at bytes room k₀ out k =
 abbrev μ-loop : tie.MeasureT-loop
 μ-loop out₀ at bytes room k₀ out k = room - k
 
-sub-room : tie.Need-sub-room Inv-loop μ-loop
-sub-room c = search needs
-
 loop-holds : tie.Need-loop-holds Inv-loop μ-loop
 loop-holds c = let p = c .pre in (search needs, omega arith, refl, refl, omega (arith, p), omega (arith, p))
 
 array-read-out : tie.Need-array-read-out Inv-loop μ-loop
 array-read-out c = omega arith
-
-add-out : tie.Need-add-out Inv-loop μ-loop
-add-out c = search needs
 
 slice-write-out : tie.Need-slice-write-out Inv-loop μ-loop
 slice-write-out c = omega arith
@@ -75,10 +69,10 @@ put-part-spec =
     (tie.spec
     Inv-loop
     μ-loop
-    sub-room
+    (λ c. search needs)
     loop-holds
     array-read-out
-    add-out
+    (λ c. search needs)
     slice-write-out
     add-k
     loop-less

@@ -22,9 +22,6 @@ loop-holds c = (search needs, omega arith, refl, refl)
 array-read-out : tie.Need-array-read-out Inv-loop μ-loop
 array-read-out c = omega arith
 
-add-out : tie.Need-add-out Inv-loop μ-loop
-add-out c = search needs
-
 slice-write-out : tie.Need-slice-write-out Inv-loop μ-loop
 slice-write-out c = let b = c .before .before in omega (arith, b .pre, c .before .loop .inv .2)
 
@@ -63,7 +60,7 @@ put-whole-spec =
     μ-loop
     loop-holds
     array-read-out
-    add-out
+    (λ c. search needs)
     slice-write-out
     add-k
     loop-less

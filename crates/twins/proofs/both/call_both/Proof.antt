@@ -1,18 +1,12 @@
 -- `both::call_both` meets its contract. Assumes nothing.
 use Rattle.alike.specs.Alike.{called, callFor}
 use Rattle.automata.specs.RunOf as automata-run
-use Rattle.charts.specs.RunOf as charts-run
+use Rattle.chart_runs.specs.RunOf as charts-run
 use denote.Ref.{now}
 use mathlib.Core.Path.{sym, ap, _∙_}
 use borrow.Author.Needs.{needs}
 use Rattle.twins.proofs.both.call_both.Statement.{statement}
 use Rattle.twins.proofs.both.call_both.Tie as tie
-
-turn-both-requires : tie.Need-turn-both-requires
-turn-both-requires c κs = search needs
-
-cycle-both-requires : tie.Need-cycle-both-requires
-cycle-both-requires c κs = search needs
 
 returns : tie.Need-returns
 returns c =
@@ -27,4 +21,4 @@ returns-2 c =
     ∙ ap (λ b. called (now (a .s)) (now (a .t)) (a .table) (callFor b (a .events)) (charts-run.runOf (a .run)) (automata-run.runOf (a .twin))) (sym (c .before .if1 .left))
 
 pub call-both-spec : {M : Type 1} → statement M
-call-both-spec = tie.close (tie.spec turn-both-requires cycle-both-requires returns returns-2)
+call-both-spec = tie.close (tie.spec (λ c κs. search needs) (λ c κs. search needs) returns returns-2)

@@ -2,7 +2,7 @@
 use Rattle.alike.specs.Alike.{outsAlike, runsAlike}
 use Rattle.twins.proofs.AlikeBoth.{unrefused}
 use Rattle.automata.specs.RunOf as automata-run
-use Rattle.charts.specs.RunOf as charts-run
+use Rattle.chart_runs.specs.RunOf as charts-run
 use Rattle.model.specs.Calls.{chartSets, automataTables}
 use Rattle.model.specs.Automata.{automata}
 use Rattle.model.specs.AutomataTable.{readAutomata}
@@ -16,18 +16,6 @@ use borrow.Author.Needs.{needs}
 use Rattle.twins.proofs.both.cycle_both.Statement.{statement}
 use Rattle.twins.proofs.both.cycle_both.Tie as tie
 
-cycle-by-turns-requires : tie.Need-cycle-by-turns-requires
-cycle-by-turns-requires c κs = search needs
-
-cycle-by-turns-requires-2 : tie.Need-cycle-by-turns-requires-2
-cycle-by-turns-requires-2 c κs = search needs
-
-endings-alike-requires : tie.Need-endings-alike-requires
-endings-alike-requires c κs = search needs
-
-runs-alike-requires : tie.Need-runs-alike-requires
-runs-alike-requires c κs = search needs
-
 returns : tie.Need-returns
 returns c =
     let b = c .before .before .before .before .before .before .before .before in
@@ -40,8 +28,8 @@ pub cycle-both-spec : {M : Type 1} → statement M
 cycle-both-spec =
     tie.close
     (tie.spec
-    cycle-by-turns-requires
-    cycle-by-turns-requires-2
-    endings-alike-requires
-    runs-alike-requires
+    (λ c κs. search needs)
+    (λ c κs. search needs)
+    (λ c κs. search needs)
+    (λ c κs. search needs)
     returns)

@@ -9,9 +9,6 @@ use borrow.Author.Needs.{needs}
 use Rattle.twins.proofs.both.is_turn.Statement.{statement}
 use Rattle.twins.proofs.both.is_turn.Tie as tie
 
-shared-slice-read-result : tie.Need-shared-slice-read-result
-shared-slice-read-result c = search needs
-
 returns : tie.Need-returns
 returns c =
     let a = c .before .before .args in
@@ -21,4 +18,4 @@ returns-2 : tie.Need-returns-2
 returns-2 c = let a = c .before .args in sym (ap (λ b. b && eqb (getD (now (a .kinds)) (a .k) 0) 0) (le-ltb _ _ (c .if1 .left)))
 
 pub is-turn-spec : {M : Type 1} → statement M
-is-turn-spec = tie.close (tie.spec shared-slice-read-result returns returns-2)
+is-turn-spec = tie.close (tie.spec (λ c. search needs) returns returns-2)

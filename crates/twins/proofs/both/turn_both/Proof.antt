@@ -2,7 +2,7 @@
 use Rattle.alike.specs.Alike.{answersAlike, outsAlike, runsAlike}
 use Rattle.twins.proofs.AlikeBoth.{unrefused}
 use Rattle.automata.specs.RunOf as automata-run
-use Rattle.charts.specs.RunOf as charts-run
+use Rattle.chart_runs.specs.RunOf as charts-run
 use Rattle.model.specs.Calls.{chartSets, automataTables}
 use Rattle.model.specs.Automata.{automata}
 use Rattle.model.specs.AutomataTable.{readAutomata}
@@ -16,21 +16,6 @@ use borrow.Author.Needs.{needs}
 use Rattle.twins.proofs.both.turn_both.Statement.{statement}
 use Rattle.twins.proofs.both.turn_both.Tie as tie
 
-state-at-requires : tie.Need-state-at-requires
-state-at-requires c κs = search needs
-
-one-turn-requires : tie.Need-one-turn-requires
-one-turn-requires c κs = search needs
-
-one-turn-requires-2 : tie.Need-one-turn-requires-2
-one-turn-requires-2 c κs = search needs
-
-answers-alike-requires : tie.Need-answers-alike-requires
-answers-alike-requires c κs = search needs
-
-runs-alike-requires : tie.Need-runs-alike-requires
-runs-alike-requires c κs = search needs
-
 returns : tie.Need-returns
 returns c =
     let b = c .before .before .before .before .before .before .before .before .before .before in
@@ -43,9 +28,9 @@ pub turn-both-spec : {M : Type 1} → statement M
 turn-both-spec =
     tie.close
     (tie.spec
-    state-at-requires
-    one-turn-requires
-    one-turn-requires-2
-    answers-alike-requires
-    runs-alike-requires
+    (λ c κs. search needs)
+    (λ c κs. search needs)
+    (λ c κs. search needs)
+    (λ c κs. search needs)
+    (λ c κs. search needs)
     returns)

@@ -1,0 +1,31 @@
+-- `answers::count_fails` meets its contract. Assumes nothing.
+use Rattle.alike.specs.Alike.{failsAs}
+use Rattle.answers.specs.Answers.{cyclesOf}
+use lib.Dec.{eqb}
+use mathlib.Core.Path.{sym, ap, _∙_}
+use borrow.Author.Needs.{needs}
+use Rattle.alike.proofs.outcomes.count_fails.Statement.{statement}
+use Rattle.alike.proofs.outcomes.count_fails.Tie as tie
+
+returns-2 : tie.Need-returns-2
+returns-2 c =
+    let n = c .before .before .before .before .args .n in
+    ap (eqb n) (c .reason-number .ensures) ∙ ap (λ x. failsAs n (cyclesOf x)) (sym (c .before .before .count .given .1))
+
+returns-3 : tie.Need-returns-3
+returns-3 c =
+    let n = c .before .before .before .before .args .n in
+    ap (eqb n) (c .refusal-number .ensures) ∙ ap (λ x. failsAs n (cyclesOf x)) (sym (c .before .before .count2 .given .1))
+
+pub count-fails-spec : {M : Type 1} → statement M
+count-fails-spec =
+    tie.close
+    (tie.spec
+    (λ c. search needs)
+    (λ c. search needs)
+    (λ c κs. search needs)
+    (λ c. search needs)
+    (λ c κs. search needs)
+    (λ c. search needs)
+    returns-2
+    returns-3)

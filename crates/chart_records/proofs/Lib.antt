@@ -1,0 +1,3 @@
+-- Laws that the proofs of several functions use, and that crates above cite.
+pub mod Places
+pub mod PlacesRead

@@ -1,0 +1,4 @@
+pub mod Shape
+pub mod Accepted
+pub mod Places
+pub mod Parts

@@ -1,0 +1,2 @@
+-- Laws that the proofs of several functions use, and that crates above cite.
+pub mod TextsEdges

@@ -1,0 +1,4 @@
+// The records of a twin's edges: their literals, updates and resets, written into a lent buffer.
+pub mod literals;
+pub mod resets;
+pub mod updates;

@@ -1,0 +1,3 @@
+pub mod FramingLaws
+pub mod Runs
+pub mod Framed
