@@ -1,4 +1,4 @@
--- `runs::ages_possible` meets its contract: the invariant is that the ages before k passed. Assumes nothing.
+-- `chart_runs::ages_possible` meets its contract: the invariant is that the ages before k passed. Assumes nothing.
 use mathlib.Core.Path.{_≡_, sym}
 use mathlib.Core.Bool.{Bool}
 use mathlib.Core.List.{List}

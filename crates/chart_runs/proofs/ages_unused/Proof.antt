@@ -1,4 +1,4 @@
--- `runs::ages_unused` meets its contract: the invariant is that the places before k passed. Assumes nothing.
+-- `chart_runs::ages_unused` meets its contract: the invariant is that the places before k passed. Assumes nothing.
 use mathlib.Core.Path.{_≡_, refl, sym}
 use Prim.Native.Nat.{_-_}
 use native.Mathlib.Omega.{arith}

@@ -1,4 +1,4 @@
--- `runs::before_turn` meets its contract. Assumes nothing.
+-- `chart_runs::before_turn` meets its contract. Assumes nothing.
 use mathlib.Core.Path.{ap, _∙_}
 use Rattle.model.specs.Runs.{checkedBy}
 use borrow.Author.Needs.{needs}

@@ -1,4 +1,4 @@
--- `runs::give` meets its contract. Assumes nothing.
+-- `chart_runs::give` meets its contract. Assumes nothing.
 use mathlib.Core.Path.{ap}
 use borrow.Author.Needs.{needs}
 use Rattle.machines.specs.Worlds.{moment, runIn}

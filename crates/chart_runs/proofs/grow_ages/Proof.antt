@@ -1,4 +1,4 @@
--- `runs::grow-ages` meets its contract: the invariant is that the ages before k are one more. Assumes nothing.
+-- `chart_runs::grow_ages` meets its contract: the invariant is that the ages before k are one more. Assumes nothing.
 use mathlib.Core.Path.{_≡_, subst}
 use Prim.Native.Nat.{_+_, _-_, _≤_}
 use native.Mathlib.Omega.{arith}

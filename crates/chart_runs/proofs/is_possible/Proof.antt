@@ -1,4 +1,4 @@
--- `runs::is_possible` meets its contract: what is shared, and the ages. Assumes nothing.
+-- `chart_runs::is_possible` meets its contract: what is shared, and the ages. Assumes nothing.
 use mathlib.Core.Path.{_≡_, sym, ap, _∙_}
 use mathlib.Core.Bool.{_&&_}
 use denote.Ref.{now}

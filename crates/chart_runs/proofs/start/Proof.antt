@@ -1,4 +1,4 @@
--- `runs::start` meets its contract. Assumes nothing.
+-- `chart_runs::start` meets its contract. Assumes nothing.
 use mathlib.Core.Path.{sym, ap, _∙_}
 use mathlib.Core.List.{map}
 use denote.Ref.{now}

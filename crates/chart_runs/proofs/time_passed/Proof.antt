@@ -1,4 +1,4 @@
--- `runs::time_passed` meets its contract. Assumes nothing.
+-- `chart_runs::time_passed` meets its contract. Assumes nothing.
 use mathlib.Core.Path.{sym, ap, _∙_}
 use Prim.Native.Nat.{_+_}
 use native.Mathlib.Omega.{arith}

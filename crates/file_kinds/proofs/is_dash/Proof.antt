@@ -1,4 +1,4 @@
--- `messages::input::is_dash` meets its contract, by that of its call. Assumes nothing.
+-- `file_kinds::is_dash` meets its contract, by that of its call. Assumes nothing.
 use mathlib.Core.Path.{ap}
 use mathlib.Core.Bool.{_&&_}
 use lib.Dec.{eqb}

@@ -1,4 +1,4 @@
--- `input::is_table` meets its contract, by that of its call. Assumes nothing.
+-- `file_kinds::is_table` meets its contract, by that of its call. Assumes nothing.
 use mathlib.Core.Path.{ap}
 use lib.Dec.{leb}
 use borrow.Author.Needs.{needs}

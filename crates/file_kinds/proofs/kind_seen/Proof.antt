@@ -1,4 +1,4 @@
--- `messages::files::kind_seen` meets its contract, test by test. Assumes nothing.
+-- `file_kinds::kind_seen` meets its contract, test by test. Assumes nothing.
 use Rattle.file_kinds.proofs.kind_seen.Statement.{statement}
 use Rattle.file_kinds.proofs.kind_seen.Tie as tie
 

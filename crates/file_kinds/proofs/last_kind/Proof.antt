@@ -1,4 +1,4 @@
--- `messages::input::last_kind` meets its contract: what the kinds come to is what those left come to after the last. Assumes nothing.
+-- `file_kinds::last_kind` meets its contract: what the kinds come to is what those left come to after the last. Assumes nothing.
 use mathlib.Core.Path.{_≡_, sym, ap, _∙_}
 use mathlib.Core.Bool.{cond, _||_}
 use mathlib.Core.List.{List, map}

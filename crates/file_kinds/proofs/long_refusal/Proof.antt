@@ -1,4 +1,4 @@
--- `messages::input::long_refusal` meets its contract, test by test. Assumes nothing.
+-- `file_kinds::long_refusal` meets its contract, test by test. Assumes nothing.
 use borrow.Author.Tests.{eq-eqb, ne-eqb}
 use Rattle.file_kinds.proofs.long_refusal.Statement.{statement}
 use Rattle.file_kinds.proofs.long_refusal.Tie as tie

@@ -1,4 +1,4 @@
--- `messages::files::seen_as` meets its contract, by that of its call. Assumes nothing.
+-- `file_kinds::seen_as` meets its contract, by that of its call. Assumes nothing.
 use mathlib.Core.Path.{sym, ap, _∙_}
 use mathlib.Core.Bool.{cond}
 use denote.Ref.{now}

@@ -1,4 +1,4 @@
--- `records::frame_of` meets its contract: each return by the tests that led to it. Assumes nothing.
+-- `framing::frame_of` meets its contract: each return by the tests that led to it. Assumes nothing.
 use mathlib.Core.Path.{_≡_, refl, sym, ap, _∙_}
 use mathlib.Core.Bool.{false, not}
 use mathlib.Core.Option.{some, none}

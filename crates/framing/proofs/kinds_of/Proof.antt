@@ -1,4 +1,4 @@
--- `records::kinds_of` meets its contract. Assumes nothing.
+-- `framing::kinds_of` meets its contract. Assumes nothing.
 use native.Mathlib.Omega.{arith}
 use mathlib.Core.Path.{_≡_}
 use Prim.Native.Nat.{min}

@@ -1,4 +1,4 @@
--- `records::run_end` meets its contract: the invariant is that the records from the start to below i are of the kind. Assumes nothing.
+-- `framing::run_end` meets its contract: the invariant is that the records from the start to below i are of the kind. Assumes nothing.
 use Prim.Native.Nat.{_-_, _*_, _/_, _≤_}
 use native.Mathlib.Omega.{arith}
 use borrow.Author.Needs.{needs}

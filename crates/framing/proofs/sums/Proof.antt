@@ -1,4 +1,4 @@
--- `records::sums` meets its contract. The invariant: what is written is the table of sums up to `k`, and `sum` is the next. Assumes nothing.
+-- `framing::sums` meets its contract. The invariant: what is written is the table of sums up to `k`, and `sum` is the next. Assumes nothing.
 use mathlib.Core.Path.{_≡_, refl, sym, ap, _∙_}
 use Prim.Native.Nat.{ℕ, _+_, _-_, _≤_, _<_}
 use native.Mathlib.Omega.{arith}

@@ -1,4 +1,4 @@
--- `records::tally_of` meets its contract: the invariant is that the runs of the kinds below the k-th are counted. Assumes nothing.
+-- `framing::tally_of` meets its contract: the invariant is that the runs of the kinds below the k-th are counted. Assumes nothing.
 use mathlib.Core.Path.{_≡_}
 use Prim.Native.Nat.{_-_, _≤_}
 use native.Mathlib.Omega.{arith}

@@ -1,4 +1,4 @@
--- `records::wrong_amounts` meets its contract. The invariant: no limit passed is exceeded, so the answer is that of those left. Assumes nothing.
+-- `framing::wrong_amounts` meets its contract. The invariant: no limit passed is exceeded, so the answer is that of those left. Assumes nothing.
 use mathlib.Core.Path.{_≡_, sym, ap, _∙_}
 use mathlib.Core.Bool.{_||_}
 use mathlib.Core.List.{List}

@@ -1,4 +1,4 @@
--- `messages::texts::put_text` meets its contract. The invariant: the bytes before `i` are written. Assumes nothing.
+-- `lines::put_text` meets its contract. The invariant: the bytes before `i` are written. Assumes nothing.
 use mathlib.Core.Path.{_≡_, refl, sym, ap, _∙_, subst}
 use mathlib.Core.List.{List, [], _∷_, _++_}
 use Prim.Native.Nat.{ℕ, _+_, _-_, _≤_, _<_}

@@ -1,4 +1,4 @@
--- `list::line_into` meets its contract: the part of the file is record n, and i its number. Assumes nothing.
+-- `listing::line_into` meets its contract: the part of the file is record n, and i its number. Assumes nothing.
 use mathlib.Core.Path.{_≡_, subst}
 use Prim.Native.Nat.{_+_, _*_, _-_}
 use native.Mathlib.Omega.{arith}

@@ -1,4 +1,4 @@
--- `list::put_fields` meets its contract: each arm is the table's entry of its code, and the last what no entry has. Assumes nothing.
+-- `listing::put_fields` meets its contract: each arm is the table's entry of its code, and the last what no entry has. Assumes nothing.
 use mathlib.Core.List.{List}
 use mathlib.Core.Path.{_≡_, sym, ap, _∙_}
 use mathlib.Core.Logic.{_⊎_, inl, inr, ⊎-elim}

@@ -1,4 +1,4 @@
--- `list::put_line` meets its contract: the record's text, then the line's end. Assumes nothing.
+-- `listing::put_line` meets its contract: the record's text, then the line's end. Assumes nothing.
 use mathlib.Core.Path.{refl}
 use native.Mathlib.Omega.{arith}
 use borrow.Author.Needs.{needs}

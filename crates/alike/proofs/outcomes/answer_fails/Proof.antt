@@ -1,4 +1,4 @@
--- `answers::answer_fails` meets its contract. Assumes nothing.
+-- `outcomes::answer_fails` meets its contract. Assumes nothing.
 use Rattle.alike.specs.Alike.{failsAs}
 use Rattle.answers.specs.Answers.{answerOf}
 use lib.Dec.{eqb}

@@ -1,4 +1,4 @@
--- `answers::answers_alike` meets its contract. Assumes nothing.
+-- `outcomes::answers_alike` meets its contract. Assumes nothing.
 use mathlib.Core.Bool.{Bool}
 use Rattle.answers.specs.declared.Answer.{Answer}
 use Rattle.alike.specs.Alike.{answersAlike, failsAs, outsAlike}

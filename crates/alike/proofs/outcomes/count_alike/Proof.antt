@@ -1,4 +1,4 @@
--- `answers::count_alike` meets its contract. Assumes nothing.
+-- `outcomes::count_alike` meets its contract. Assumes nothing.
 use Rattle.alike.specs.Alike.{outsAlike}
 use Rattle.answers.specs.Answers.{cyclesOf}
 use Rattle.records.specs.Refusal.{val}

@@ -1,4 +1,4 @@
--- `answers::count_fails` meets its contract. Assumes nothing.
+-- `outcomes::count_fails` meets its contract. Assumes nothing.
 use Rattle.alike.specs.Alike.{failsAs}
 use Rattle.answers.specs.Answers.{cyclesOf}
 use lib.Dec.{eqb}

@@ -1,4 +1,4 @@
--- `answers::counts_alike` meets its contract. Assumes nothing.
+-- `outcomes::counts_alike` meets its contract. Assumes nothing.
 use Rattle.alike.specs.Alike.{failsAs, outsAlike}
 use Rattle.answers.specs.Answers.{cyclesOf}
 use lib.Dec.{eqb}

@@ -1,4 +1,4 @@
--- `answers::ending_fails` meets its contract. Assumes nothing.
+-- `outcomes::ending_fails` meets its contract. Assumes nothing.
 use Rattle.alike.specs.Alike.{failsAs}
 use Rattle.answers.specs.Answers.{endingOf}
 use lib.Dec.{eqb}

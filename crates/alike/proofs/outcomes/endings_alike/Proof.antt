@@ -1,4 +1,4 @@
--- `answers::endings_alike` meets its contract. Assumes nothing.
+-- `outcomes::endings_alike` meets its contract. Assumes nothing.
 use Rattle.alike.specs.Alike.{failsAs, outsAlike}
 use Rattle.answers.specs.Answers.{endingOf}
 use mathlib.Core.Bool.{true}

@@ -1,4 +1,4 @@
--- `answers::idle_at` meets its contract. Assumes nothing.
+-- `outcomes::idle_at` meets its contract. Assumes nothing.
 use lib.Dec.{ltb, eqb}
 use mathlib.Core.Bool.{_&&_}
 use borrow.Author.Needs.{needs}

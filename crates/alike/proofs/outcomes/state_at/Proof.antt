@@ -1,4 +1,4 @@
--- `answers::state_at` meets its contract. Assumes nothing.
+-- `outcomes::state_at` meets its contract. Assumes nothing.
 use lib.ListN.{length, getD}
 use Prim.Native.Nat.{ℕ, zero, suc, _-_, _≤_}
 use mathlib.Core.List.{List, [], _∷_}

@@ -1,4 +1,4 @@
--- `answers::taken_alike` meets its contract. Assumes nothing.
+-- `outcomes::taken_alike` meets its contract. Assumes nothing.
 use Rattle.alike.specs.Alike.{answersAlike, outsAlike}
 use Rattle.answers.specs.Answers.{answerOf}
 use Rattle.model.specs.Runs.{taken}
