@@ -1,6 +1,6 @@
 // What turns, cycles and long runs answer, of charts and of automata alike, and the numbers of the answers.
 ghost use mathlib.Core.Path.{_≡_};
-ghost use Prim.Native.Nat.{ℕ, _≤_, _<_, _^_};
+ghost use Prim.Native.Nat.{ℕ, _<_, _^_};
 ghost use lib.IntN.{pos, negℤ};
 ghost use Rattle.records.specs.Refusal.{refusalNumber, val};
 ghost use Rattle.records.specs.RefusalOf.{refusalOf};

@@ -1,10 +1,10 @@
 -- "Values": what an operator of two numbers comes to. Assumes nothing: these are definitions.
 use mathlib.Core.Bool.{Bool, cond, _&&_}
-use Prim.Native.Nat.{ℕ, _^_}
+use Prim.Native.Nat.{_^_}
 use lib.Dec.{ltb, eqb}
 use lib.IntN.{ℤ, _+ℤ_, _-ℤ_, _*ℤ_, natAbs}
 use lib.Signed.{ltZ, leZ, quotZ, remZ, mag}
-use Rattle.records.specs.Refusal.{Out, val, fault, out-of-range, zero-divisor, _>>=_, _>>_, fault-if}
+use Rattle.records.specs.Refusal.{Out, val, fault, out-of-range, zero-divisor, _>>_, fault-if}
 use Rattle.arithmetic.specs.Operators.{Arithmetic, sum, difference, product, quotient, remainder, Comparison, equal, less, at-most}
 
 -- "A number outside −2,147,483,648 to 2,147,483,647": `mag z` is z, or −(z + 1) where z is negative.

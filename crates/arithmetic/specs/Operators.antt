@@ -1,5 +1,5 @@
 -- The operators of two numbers, and their codes in a node's record. Assumes nothing: these are definitions.
-use mathlib.Core.List.{List, [], _∷_}
+use mathlib.Core.List.{[], _∷_}
 use Prim.Native.Nat.{ℕ}
 use Rattle.prelude.specs.Lists.{caseOf}
 

@@ -2,16 +2,16 @@
 use mathlib.Core.Path.{_≡_, refl, sym, ap, _∙_}
 use mathlib.Core.Bool.{Bool, true, false, cond}
 use mathlib.Core.List.{List}
-use Prim.Native.Nat.{ℕ, _+_, _≤_, _<_, min}
+use Prim.Native.Nat.{ℕ, _≤_}
 use native.Mathlib.Nat.{zero-add}
 use native.Mathlib.Omega.{arith}
-use borrow.Author.Tests.{leb-true, ltb-true, lt-ltb, ne-eqb}
-use lib.Dec.{leb, ltb, eqb}
+use borrow.Author.Tests.{leb-true, ltb-true, lt-ltb}
+use lib.Dec.{leb, ltb}
 use lib.ListN.{length, getD, replicate, length-replicate}
 use Rattle.model.specs.Limits.{mostClocks}
 use Rattle.prelude.specs.Lists.{all, upto, mapFrom}
 use Rattle.model.specs.Runs.{Run, timersPossible}
-use Rattle.model.specs.AutomataTable.{Timing, after, every, readAutomata}
+use Rattle.model.specs.AutomataTable.{readAutomata}
 use Rattle.model.specs.AutomataTable as M
 use Rattle.model.specs.Automata.{top, grown, clocksGrown, automata}
 use Rattle.automata_records.specs.declared.Shape.{Shape}

@@ -1,16 +1,14 @@
 -- What an automaton's turn keeps: the position and the count, and no clock grows. Assumes nothing.
-use mathlib.Core.Path.{_≡_, refl, _∙_}
 use mathlib.Core.List.{List, [], _∷_}
 use Prim.Native.Nat.{ℕ, _≤_}
 use native.Mathlib.Nat.{le-refl}
 use native.Mathlib.Omega.{arith}
-use lib.ListN.{length, getD, set, length-set}
+use lib.ListN.{getD, set}
 use Rattle.records.specs.Refusal.{Out, val, fault, _>>=_}
 use Rattle.prelude.specs.Owned.{of}
 use Rattle.model.specs.Runs.{World, Run, Answer, deeds, taken}
 use Rattle.model.specs.AutomataTable.{Automata, edge}
 use Rattle.model.specs.Automata.{theOne, reset, openEdges, edgeStep}
-use Rattle.model.proofs.TranslationClocks.{length-reset}
 use Rattle.machines.specs.Turns.{KeptWorld, KeptRun}
 use Rattle.machines.proofs.TurnsKept.{deeds-kept, set-zero}
 

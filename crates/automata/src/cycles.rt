@@ -1,6 +1,6 @@
 // Cycles of automata: by turns, one call after the other; and in place, for many cycles.
 ghost use mathlib.Core.Path.{_≡_};
-ghost use Prim.Native.Nat.{ℕ, _+_, _-_};
+ghost use Prim.Native.Nat.{_+_, _-_};
 ghost use lib.ListN.{length};
 ghost use Rattle.model.specs.Limits.{mostClocks};
 ghost use Rattle.model.specs.Outcome.{settled};

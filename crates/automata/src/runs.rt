@@ -1,8 +1,7 @@
 // Runs of automata: the fresh run, what is checked before a turn, and time.
 ghost use mathlib.Core.Path.{_≡_};
-ghost use Prim.Native.Nat.{ℕ, _≤_, _<_};
-ghost use mathlib.Core.Bool.{cond};
-ghost use lib.Dec.{leb, eqb};
+ghost use Prim.Native.Nat.{_≤_, _<_};
+ghost use lib.Dec.{leb};
 ghost use lib.ListN.{length, getD};
 ghost use Rattle.model.specs.Limits.{mostClocks};
 ghost use Rattle.prelude.specs.Lists.{all, upto, mapFrom};

@@ -1,5 +1,4 @@
 -- What an accepted file's literals and updates keep to: the numbers in them name things of the file, and events are below 32. Assumes nothing: these are definitions.
-use mathlib.Core.Option.{Option, some, none}
 use Prim.Native.Nat.{ℕ, _<_}
 use Rattle.model.specs.Runs.{Deed, assign, raise}
 use Rattle.model.specs.AutomataTable.{LiteralTrigger, always, event, clock}
@@ -9,11 +8,6 @@ abbrev pub LiteralTriggerKnown : ℕ → LiteralTrigger → Type 0
 LiteralTriggerKnown clocks always = Unit
 LiteralTriggerKnown clocks (event e) = e < 32
 LiteralTriggerKnown clocks (clock k) = k < clocks
-
--- of so many nodes
-abbrev pub GuardKnown : ℕ → Option ℕ → Type 0
-GuardKnown nodes none = Unit
-GuardKnown nodes (some n) = n < nodes
 
 -- of so many variables and nodes
 abbrev pub DeedKnown : ℕ → ℕ → Deed → Type 0

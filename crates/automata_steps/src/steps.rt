@@ -1,6 +1,6 @@
 // An automaton's turn: the one open edge is taken.
 ghost use mathlib.Core.Path.{_≡_};
-ghost use Prim.Native.Nat.{ℕ, _+_, _-_, _≤_, _<_};
+ghost use Prim.Native.Nat.{_+_, _-_, _≤_, _<_};
 ghost use lib.ListN.{length};
 ghost use Rattle.prelude.specs.Owned.{of};
 ghost use Rattle.model.specs.Runs.{deed};

@@ -1,5 +1,5 @@
 -- What can be tested: triggers of an accepted file. Assumes nothing: these are definitions.
-use Prim.Native.Nat.{ℕ, _<_}
+use Prim.Native.Nat.{_<_}
 use Rattle.model.specs.Charts.{ticks}
 use Rattle.model.specs.ChartSet as C
 

@@ -1,6 +1,6 @@
 // Deeds of actions, one by one and in the order of a key's chain.
 ghost use mathlib.Core.Path.{_≡_};
-ghost use Prim.Native.Nat.{ℕ, _<_};
+ghost use Prim.Native.Nat.{_<_};
 ghost use Rattle.model.specs.Runs.{deed};
 ghost use Rattle.model.specs.ChartSet.{readCharts};
 ghost use Rattle.chart_records.specs.Places.{firstAction, actionAt};

@@ -1,6 +1,6 @@
 // A chart's turn.
 ghost use mathlib.Core.Path.{_≡_};
-ghost use Prim.Native.Nat.{ℕ, _+_, _-_, _≤_, _<_};
+ghost use Prim.Native.Nat.{_+_, _-_, _≤_, _<_};
 ghost use Rattle.model.specs.Limits.{mostCharts};
 ghost use Rattle.expressions.specs.Answers.{truthOf};
 ghost use Rattle.model.specs.Runs.{taken};

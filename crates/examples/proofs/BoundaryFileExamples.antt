@@ -1,6 +1,6 @@
 -- Boundary rows of chart files: what an error in one number, byte or clause of the definitions would change, and the other examples would let pass.
 -- Assumes nothing.
-use mathlib.Core.Path.{_≡_, refl}
+use mathlib.Core.Path.{refl}
 use mathlib.Core.List.{List, [], _∷_, _++_}
 use Prim.Native.Nat.{ℕ, _+_}
 use lib.Dec.{eqb}

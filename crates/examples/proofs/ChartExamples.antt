@@ -1,17 +1,16 @@
 -- Examples of a chart's turn and of cycles, from bytes, for the rules that demand 3 cannot see. Assumes nothing.
 use mathlib.Core.Path.{_≡_, refl}
 use mathlib.Core.Option.{Option, some, none}
-use mathlib.Core.List.{List, [], _∷_, _++_, map}
+use mathlib.Core.List.{List, [], _∷_}
 use Prim.Native.Nat.{ℕ}
 use Prim.Native.String.{String}
 use lib.IntN.{ℤ, pos, negsuc}
 use Rattle.records.specs.Refusal.{Refusal, refusalNumber}
-use Rattle.model.specs.Outcome.{Outcome}
 use Rattle.model.specs.Runs.{Run}
 use Rattle.model.specs.Calls.{chartSets, startCall, turnCall, cycleCall, numbered, answerCode}
-use Rattle.model.specs.Replay.{Replayed, replay, Replay}
+use Rattle.model.specs.Replay.{replay, Replay}
 use Rattle.records.proofs.Tables.{Agree}
-use Rattle.examples.proofs.ExampleSets.{ascii, inputOf, blank, assigning, grouped, raising, timing, dividing, overstepping, zeroWatch}
+use Rattle.examples.proofs.ExampleSets.{ascii, inputOf, blank, assigning, grouped, raising, timing, dividing, overstepping}
 
 -- the lines printed, then the number of the refusal that ended it, or 0
 abbrev ending : Option Refusal → ℕ

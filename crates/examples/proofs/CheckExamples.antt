@@ -1,14 +1,13 @@
 -- Examples of the checks before a turn, 12 to 14: each clause of 12 by a run that breaks it alone. Assumes nothing.
 use mathlib.Core.Path.{_≡_, refl}
-use mathlib.Core.List.{List, [], _∷_, _++_, map}
+use mathlib.Core.List.{List, [], _∷_}
 use Prim.Native.Nat.{ℕ}
-use lib.ListN.{replicate, set, take}
+use lib.ListN.{replicate, set}
 use lib.IntN.{ℤ, pos, negsuc}
-use Rattle.model.specs.Outcome.{Outcome}
 use Rattle.model.specs.Runs.{Run}
 use Rattle.model.specs.Translation.{twinBytes, Translation}
 use Rattle.model.specs.AutomataFile.{AutomataFile}
-use Rattle.model.specs.Calls.{Format, chartSets, automataTables, turnCall, numbered, answerCode}
+use Rattle.model.specs.Calls.{chartSets, automataTables, turnCall, numbered, answerCode}
 use Rattle.records.proofs.Tables.{Agree}
 use Rattle.examples.proofs.ExampleSets.{timing, waiting, run}
 

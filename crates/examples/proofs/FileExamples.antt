@@ -1,6 +1,6 @@
 -- Examples of the refusals of files: 1 to 9 on the zero-watch set with bytes put in, and 11 on twins. Assumes nothing.
-use mathlib.Core.Path.{_≡_, refl}
-use mathlib.Core.List.{List, [], _∷_, _++_, map}
+use mathlib.Core.Path.{refl}
+use mathlib.Core.List.{List, [], _∷_, _++_}
 use Prim.Native.Nat.{ℕ}
 use lib.ListN.{replicate, take, drop}
 use Rattle.prelude.specs.Lists.{gather}

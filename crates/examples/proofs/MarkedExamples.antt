@@ -1,20 +1,17 @@
 -- The marked examples of document 01 as one table, each row what the definitions give and what the paper says, and one theorem. Assumes nothing.
-use mathlib.Core.Path.{_≡_, refl}
-use mathlib.Core.Option.{Option, some, none}
+use mathlib.Core.Path.{refl}
 use mathlib.Core.List.{List, [], _∷_, _++_, map}
 use Prim.Native.Nat.{ℕ}
-use lib.ListN.{length, replicate}
+use lib.ListN.{replicate}
 use lib.IntN.{ℤ, pos, negsuc}
-use Rattle.records.specs.Refusal.{Refusal, refusalNumber, Out, val, fault}
+use Rattle.records.specs.Refusal.{Out, val, fault}
 use Rattle.records.specs.Bytes.{two±}
 use Rattle.expressions.specs.Nodes.{nodeAt}
 use Rattle.expressions.specs.Values.{number}
-use Rattle.model.specs.Outcome.{Outcome}
 use Rattle.model.specs.Charts.{ticks}
-use Rattle.model.specs.ChartFile.{chartsRefusal}
 use Rattle.model.specs.Translation.{translate, Translation}
 use Rattle.model.specs.Calls.{chartSets, check, startCall, turnCall, numbered, answerCode}
-use Rattle.model.specs.Replay.{Replayed, replay, Replay}
+use Rattle.model.specs.Replay.{replay, Replay}
 use Rattle.records.proofs.Tables.{Agree}
 use Rattle.expressions.proofs.ExampleNodes.{constant, binary}
 use Rattle.examples.proofs.ExampleSets.{ascii, inputOf, blank, zeroWatch, waiting, assigning}

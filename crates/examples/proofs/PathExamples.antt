@@ -2,9 +2,8 @@
 use mathlib.Core.Path.{_≡_, refl}
 use mathlib.Core.List.{List, [], _∷_, _++_, map}
 use Prim.Native.Nat.{ℕ}
-use lib.ListN.{length, replicate, take}
+use lib.ListN.{replicate, take}
 use lib.IntN.{ℤ, pos, negsuc}
-use Rattle.model.specs.Outcome.{Outcome}
 use Rattle.model.specs.Runs.{Run, Call, one-turn, whole-cycle}
 use Rattle.model.specs.Translation.{twinBytes, translate}
 use Rattle.model.specs.PathBack.{rowWords, pathBack, PathBack}

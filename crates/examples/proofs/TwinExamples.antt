@@ -6,8 +6,6 @@ use mathlib.Core.Bool.{cond}
 use lib.Dec.{eqb}
 use lib.IntN.{ℤ, pos, negsuc}
 use Rattle.prelude.specs.Lists.{gather}
-use Rattle.model.specs.Outcome.{Outcome}
-use Rattle.model.specs.Runs.{Run}
 use Rattle.model.specs.Translation.{twinBytes, Translation}
 use Rattle.model.specs.AutomataFile.{AutomataFile}
 use Rattle.model.specs.Calls.{automataTables, startCall, turnCall, numbered, answerCode}

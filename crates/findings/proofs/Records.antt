@@ -7,7 +7,6 @@ use native.Mathlib.Omega.{arith}
 use borrow.Author.Tests.{ltb-true, ltb-false}
 use lib.Dec.{ltb}
 use lib.ListN.{take, drop}
-use Rattle.records.specs.Bytes.{records}
 use Rattle.findings.specs.Found.{recordIn, Passed}
 
 pub part-is : (s : List ℕ) (i : ℕ) → take (16 * i + 16 - 16 * i) (drop (16 * i) s) ≡ recordIn s i

@@ -106,9 +106,6 @@ module _ (first : ℕ) (most s : List ℕ) (framed : framing first most s ≡ no
   pub framed-ascending : ascending (kinds first most s) ≡ true
   framed-ascending = all-ascending first most s (tests-off .1)
 
-  pub framed-one : 0 < howMany first s
-  framed-one = let n : howMany first s ≡ 0 → ⊥ = eqb-false (howMany first s) 0 (or-false (eqb (howMany first s) 0) _ (tests-off .2) .0) in omega arith
-
   pub framed-most : (j : ℕ) → j < 9 → j < length most → howMany (first + j) s ≤ getD most j 0
   framed-most j h l =
       ltb-false (getD most j 0) (howMany (first + j) s)

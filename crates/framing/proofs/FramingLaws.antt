@@ -1,18 +1,17 @@
 -- Laws of framing: the tests of the kinds one record at a time, the counts, and where a kind's records stand. Assumes nothing.
 use mathlib.Core.Path.{_≡_, refl, sym, ap, _∙_, subst}
-use mathlib.Core.Bool.{Bool, true, false, not, cond, _&&_, _||_}
+use mathlib.Core.Bool.{Bool, true, false, not, _&&_, _||_}
 use mathlib.Core.Option.{Option, some, none}
 use mathlib.Core.List.{List, [], _∷_, map}
-use Prim.Native.Nat.{ℕ, zero, suc, _+_, _-_, _*_, _/_, _≤_, _<_, zero-le}
-use native.Mathlib.Nat.{add-zero, zero-add, le-refl, lt-irrefl}
+use Prim.Native.Nat.{ℕ, zero, suc, _+_, _*_, _/_, _≤_, _<_, zero-le}
+use native.Mathlib.Nat.{add-zero, zero-add, le-refl}
 use native.Mathlib.Numerals.{add-one}
 use native.Mathlib.Omega.{arith}
-use borrow.Author.Count.{below-more}
-use borrow.Author.Tests.{lt-ltb, le-ltb, le-leb, lt-leb, leb-true, leb-false, ltb-true, ltb-false, eqb-true, eqb-false}
-use lib.Dec.{T, leb, ltb, eqb}
-use lib.ListN.{length, getD, take, drop, set, length-take, drop-of-length-le}
-use lib.Seq.{getD-set-same, getD-set-other, ext-getD, drop-cons}
-use Rattle.prelude.specs.Lists.{all, any, count, keep, from, upto, mapFrom, ascending}
+use borrow.Author.Tests.{lt-ltb, le-ltb, le-leb, lt-leb, leb-true, leb-false}
+use lib.Dec.{leb, ltb, eqb}
+use lib.ListN.{length, getD, take, drop, length-take, drop-of-length-le}
+use lib.Seq.{drop-cons}
+use Rattle.prelude.specs.Lists.{all, any, count, upto, mapFrom, ascending}
 use Rattle.prelude.proofs.Counts.{impossible, and-true, count-le, below-next, length-from, getD-upto, is-table}
 use Rattle.records.specs.Bytes.{byte, records, kind}
 use Rattle.framing.specs.Framing.{known, howMany, firstOf, kinds, oddLength, unorderedKinds, wrongAmounts, framing, counts, firsts}

@@ -1,13 +1,13 @@
 -- Refusals 1 to 3, over the table of a format's kinds and limits: charts have kinds 1 to 6, automata 33 to 41. Assumes nothing: these are definitions.
-use mathlib.Core.Bool.{Bool, true, false, not, cond, _&&_, _||_}
-use mathlib.Core.Option.{Option, some, none}
-use mathlib.Core.List.{List, [], _∷_, _++_, map}
-use Prim.Native.Nat.{ℕ, zero, suc, _+_, _%_}
+use mathlib.Core.Bool.{Bool, not, _&&_, _||_}
+use mathlib.Core.Option.{Option}
+use mathlib.Core.List.{List, [], _∷_, map}
+use Prim.Native.Nat.{ℕ, _+_, _%_}
 use lib.Dec.{leb, ltb, eqb}
-use lib.ListN.{length, take, replicate}
-use Rattle.prelude.specs.Lists.{all, any, count, mapFrom, upto, ascending, Lists}
+use lib.ListN.{length, take}
+use Rattle.prelude.specs.Lists.{all, any, count, mapFrom, upto, ascending}
 use Rattle.records.specs.Refusal.{Refusal, odd-length, unordered-kinds, wrong-amounts, lowest}
-use Rattle.records.specs.Bytes.{records, kind, ofKind, Bytes}
+use Rattle.records.specs.Bytes.{records, kind, Bytes}
 
 -- A format: its first kind, which a file must have, and the most of it and of each kind that follows; nine kinds at most.
 module _ (first : ℕ) (most : List ℕ) where

@@ -9,7 +9,7 @@ use borrow.Author.Tests.{ltb-false}
 use lib.Dec.{ltb}
 use lib.ListN.{length, drop}
 use Rattle.records.specs.Refusal.{Refusal, short-rows, Out, val, fault, _>>=_, _>>_, fault-if, unless-refused}
-use Rattle.model.specs.Outcome.{Outcome, settled}
+use Rattle.model.specs.Outcome.{settled}
 use Rattle.model.specs.ChartSet.{readCharts}
 use Rattle.model.specs.ChartFile.{chartsRefusal}
 use Rattle.model.specs.PathBack.{Row, walkStart, ledBack, rowWords, rowsWritten, pathBack}

@@ -4,7 +4,7 @@ use mathlib.Core.Path.{_≡_, refl, sym, ap, _∙_, subst}
 use mathlib.Core.Bool.{Bool, true, false, cond}
 use mathlib.Core.List.{List, [], _∷_}
 use mathlib.Core.Option.{Option, some, none}
-use Prim.Native.Nat.{ℕ, zero, suc, _+_, _<_}
+use Prim.Native.Nat.{ℕ, suc, _+_, _<_}
 use native.Mathlib.Omega.{arith}
 use borrow.Author.Tests.{eqb-true}
 use lib.Dec.{eqb}
@@ -13,7 +13,7 @@ use Rattle.records.specs.Refusal.{Refusal, Out, val, fault, unless-refused}
 use Rattle.model.specs.Outcome.{settled}
 use Rattle.model.specs.Calls.{Format, cycleCall}
 use Rattle.model.specs.Runs.{Run, cycle}
-use Rattle.machines.specs.Playing.{Played, later, onwards, played, stoppedAt, playing, playCall}
+use Rattle.machines.specs.Playing.{Played, onwards, played, stoppedAt, playing, playCall}
 
 -- ---- cycle calls, one for each mask
 

@@ -1,8 +1,6 @@
 // Arguments and files: a file named by an argument, - for standard input, read whole; one that is longer than any set or table is refused as it is read.
 ghost use mathlib.Core.Path.{_≡_};
-ghost use lib.ListN.{length};
 ghost use Rattle.io.specs.Counts.{Counts};
-ghost use Rattle.records.specs.Bytes.{byte};
 use crate::files::tell_file;
 use file_kinds::Seen;
 use file_kinds::is_dash;

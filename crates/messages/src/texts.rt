@@ -1,5 +1,4 @@
 // Texts of numbers, written into a lent buffer. Bytes past its end are counted and not written, as in `lines`.
-ghost use mathlib.Core.Path.{_≡_};
 ghost use mathlib.Core.List.{_++_};
 ghost use Prim.Native.Nat.{_+_, _≤_, _<_, _^_};
 ghost use lib.ListN.{length};

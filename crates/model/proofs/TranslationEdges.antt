@@ -2,23 +2,23 @@
 use mathlib.Core.Path.{_≡_, refl, sym, ap, _∙_}
 use mathlib.Core.Bool.{Bool, true, false, _&&_}
 use mathlib.Core.List.{List, [], _∷_, _++_, map, append-nil}
-use Prim.Native.Nat.{ℕ, _+_, _-_, _≤_, _<_, zero-le}
+use Prim.Native.Nat.{ℕ, _+_, _≤_, _<_, zero-le}
 use native.Mathlib.Omega.{arith}
-use lib.Dec.{T, ltb, eqb, eqb→eq, eqb-refl, lt→ltb, ltb→lt, nltb→le}
-use lib.ListN.{length, getD, length-append, List·getD-append}
+use lib.Dec.{T, eqb, eqb→eq, eqb-refl}
+use lib.ListN.{length, getD}
 use Rattle.prelude.specs.Lists.{keep, upto, mem}
 use Rattle.records.specs.Refusal.{Out, val, _>>=_}
-use Rattle.prelude.specs.Owned.{of, byOwner}
+use Rattle.prelude.specs.Owned.{of}
 use Rattle.model.specs.Owned.{home}
 use Rattle.model.specs.Runs.{Run}
 use Rattle.model.specs.ChartSet.{ChartSet, transition}
 use Rattle.model.specs.Charts.{row, firstThat}
 use Rattle.model.specs.ChartFile.{prioritiesDiffer}
-use Rattle.model.specs.AutomataTable.{noEdge, Literal, edge}
+use Rattle.model.specs.AutomataTable.{Literal, edge}
 use Rattle.model.specs.Automata.{conditionHolds, literalHolds, reads, opens, leaving, openEdges}
 use Rattle.model.specs.Translation.{Origin, from-transition, from-idling, stateCount, transitionCount, origins, edgeNumber, triedBefore, literal, literalsOf, twin}
-use Rattle.prelude.proofs.Bools.{to-left, to-right, and-right, is-true, is-false, of-true, not-of, not-false, eq→eqb, eqb-ne}
-use Rattle.prelude.proofs.Lists.{keep-mem, mem-kept, distinct-keep, from-mem, mem-from, distinct-from, of-byOwner, getD-map-upto, getD-append-at, length-map-upto}
+use Rattle.prelude.proofs.Bools.{to-left, to-right, and-right, is-false, not-of, eq→eqb, eqb-ne}
+use Rattle.prelude.proofs.Lists.{keep-mem, mem-kept, distinct-keep, from-mem, mem-from, distinct-from}
 use Rattle.model.proofs.TranslationOrigins.{IsOrigin, edges-count, edgeNumber-in, by-origin, edge-of, of-origin}
 use Rattle.model.proofs.ChartsRow.{row-mem, mem-row, row-once, row-by-priority, rowBefore-triedBefore}
 use Rattle.model.proofs.AutomataOpen.{edgeFor, opens-first, own}

@@ -7,9 +7,9 @@ use native.Mathlib.Nat.{zero-add}
 use native.Mathlib.Omega.{arith}
 use borrow.Author.Tests.{ltb-true, ltb-false}
 use lib.Dec.{T, ltb, lt→ltb}
-use lib.ListN.{length, getD, length-append, length-map, List·getD-append, List·getD-eq-default}
+use lib.ListN.{length, length-append, length-map, List·getD-append, List·getD-eq-default}
 use Rattle.prelude.specs.Lists.{all, upto}
-use Rattle.prelude.specs.Owned.{of, byOwner}
+use Rattle.prelude.specs.Owned.{of}
 use Rattle.model.specs.ChartSet.{ChartSet}
 use Rattle.model.specs.AutomataTable.{Edge, noEdge, edge}
 use Rattle.model.specs.Translation.{Origin, from-transition, from-idling, stateCount, transitionCount, origins, edgeNumber, originOf, edgeOf, byEdge, twin}

@@ -1,5 +1,4 @@
 -- An automaton's turn, by its open edges, and its clocks. Assumes nothing: these are definitions.
-use mathlib.Core.Option.{Option, some, none}
 use mathlib.Core.Bool.{Bool, true, false, cond, _&&_}
 use mathlib.Core.List.{List, [], _∷_}
 use Prim.Native.Nat.{ℕ, _+_, min}
@@ -9,8 +8,8 @@ use Rattle.prelude.specs.Lists.{keep, mapFrom, upto}
 use Rattle.records.specs.Refusal.{none-open, many-open, Out, val, fault, _>>=_, choose}
 use Rattle.model.specs.Limits.{mostClocks}
 use Rattle.prelude.specs.Owned.{of}
-use Rattle.model.specs.Runs.{World, Run, present, deeds, guardHolds, Answer, taken, Machine, Runs}
-use Rattle.model.specs.AutomataTable.{LiteralTrigger, always, event, clock, Edge, Literal, Timing, after, every, Clock, Automata, edge, clockAt, AutomataTable}
+use Rattle.model.specs.Runs.{Run, present, deeds, guardHolds, Answer, taken, Machine, Runs}
+use Rattle.model.specs.AutomataTable.{LiteralTrigger, always, event, clock, Literal, Timing, after, every, Automata, edge, clockAt, AutomataTable}
 
 -- ---- time
 

@@ -1,11 +1,11 @@
 -- The refusal of an automata file, 11. Assumes nothing: these are definitions.
-use mathlib.Core.Option.{Option, some, none}
-use mathlib.Core.Bool.{Bool, true, false, not, _&&_, _||_}
+use mathlib.Core.Option.{Option}
+use mathlib.Core.Bool.{Bool, true, not, _&&_, _||_}
 use mathlib.Core.List.{List, [], _∷_, _++_, map}
 use Prim.Native.Nat.{ℕ}
 use lib.Dec.{leb, ltb, eqb}
 use lib.ListN.{length, getD}
-use Rattle.prelude.specs.Lists.{all, any, caseOf, gather, upto}
+use Rattle.prelude.specs.Lists.{all, caseOf, gather, upto}
 use Rattle.records.specs.Refusal.{Refusal, bad-table, lowest}
 use Rattle.records.specs.Bytes.{byte, records, kind}
 use Rattle.framing.specs.Framing.{framingTests, Framing}
@@ -13,7 +13,7 @@ use Rattle.expressions.specs.Nodes.{nodeOf}
 use Rattle.expressions.specs.Sorts.{sortOf, isNumber, isTruth, nodesNamed, operandsFit, operandUses, Sorts}
 use Rattle.model.specs.Limits.{mostCharts, mostStates, mostVariables, mostNodes, mostEdges, mostLiterals, mostClocks, mostUpdates, mostResets, mostTicks}
 use Rattle.model.specs.Owned.{home}
-use Rattle.model.specs.AutomataTable.{LiteralTrigger, always, event, clock, Edge, Literal, Clock, Automata, readAutomata, AutomataTable}
+use Rattle.model.specs.AutomataTable.{LiteralTrigger, always, event, clock, Automata, readAutomata, AutomataTable}
 use Rattle.model.specs.ChartFile.{unusedAreZero, unusedVariable, unusedNode, between, isEvent, variableInCode, nodeInCode, deedInCode, guardNamed, deedNamed, guardNodes, assignedNodes}
 
 -- ---- "1 to 6 read for kinds 33 to 41"

@@ -1,6 +1,6 @@
 -- Automata, kinds 33 to 41: what a file says, and the file of given automata. Assumes nothing: these are definitions.
 use mathlib.Core.Option.{Option, some, none}
-use mathlib.Core.Bool.{Bool, true, false, cond}
+use mathlib.Core.Bool.{Bool, false, cond}
 use mathlib.Core.List.{List, [], _∷_, _++_, map}
 use Prim.Native.Nat.{ℕ}
 use lib.Dec.{eqb}

@@ -1,10 +1,10 @@
 -- The calls, closed: from the file's bytes, the call and everything lent to the answer and everything lent afterwards. Assumes nothing: these are
 -- definitions.
-use mathlib.Core.Option.{Option, some, none}
+use mathlib.Core.Option.{Option}
 use mathlib.Core.List.{List}
 use Prim.Native.Nat.{ℕ}
 use lib.IntN.{ℤ, pos, negℤ}
-use Rattle.records.specs.Refusal.{Refusal, refusalNumber, Out, val, fault, _>>=_, unless-refused}
+use Rattle.records.specs.Refusal.{Refusal, refusalNumber, Out, val, fault, unless-refused}
 use Rattle.model.specs.Outcome.{Outcome, settled}
 use Rattle.model.specs.Runs.{Run, Machine, start, turn, cycle, Answer, taken, idle, time, Call, Trace, unless-stopped, trace}
 use Rattle.model.specs.ChartSet.{readCharts}

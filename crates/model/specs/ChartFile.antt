@@ -1,22 +1,21 @@
 -- The refusals of a chart file, 1 to 9. Assumes nothing: these are definitions.
 use mathlib.Core.Option.{Option, some, none}
-use mathlib.Core.Bool.{Bool, true, false, not, cond, _&&_, _||_}
+use mathlib.Core.Bool.{Bool, true, false, not, _&&_, _||_}
 use mathlib.Core.List.{List, [], _∷_, _++_, map}
 use Prim.Native.Nat.{ℕ, _+_, _-_}
 use lib.Dec.{leb, ltb, eqb}
 use lib.ListN.{length, getD, take, drop}
 use lib.Signed.{leZ}
-use Rattle.prelude.specs.Lists.{keep, all, any, count, caseOf, gather, upto, distinct, Lists}
+use Rattle.prelude.specs.Lists.{keep, all, any, count, caseOf, gather, upto, distinct}
 use Rattle.records.specs.Refusal.{Refusal, stray-byte, broken-code, dangling-number, broken-structure, broken-node, zero-ticks, lowest}
-use Rattle.records.specs.Bytes.{byte, two, four, two±, records, kind, Bytes}
+use Rattle.records.specs.Bytes.{byte, four, two±, records, kind}
 use Rattle.framing.specs.Framing.{framingTests, Framing}
-use Rattle.expressions.specs.Nodes.{Node, nodeOf}
+use Rattle.expressions.specs.Nodes.{nodeOf}
 use Rattle.expressions.specs.Sorts.{sortOf, isNumber, isTruth, nodesNamed, operandsFit, operandUses, Sorts}
 use Rattle.model.specs.Limits.{mostCharts, mostStates, mostTransitions, mostVariables, mostNodes, mostActions, lastEvent, mostPriorities, mostOwned, mostMilliseconds}
-use Rattle.prelude.specs.Owned.{of}
 use Rattle.model.specs.Owned.{home}
 use Rattle.model.specs.Runs.{Deed, assign, raise}
-use Rattle.model.specs.ChartSet.{Trigger, always, event, after, every, Transition, ChartSet, readCharts, transition, ChartSet·}
+use Rattle.model.specs.ChartSet.{Trigger, always, event, after, every, Transition, ChartSet, readCharts, ChartSet·}
 use Rattle.model.specs.Charts.{ticks}
 
 -- ---- 1 to 3: "Chart set, with the most of each kind", from kind 1 on

@@ -10,7 +10,7 @@ use Rattle.records.specs.Refusal.{Out, val, _>>=_, choose}
 use Rattle.model.specs.Limits.{mostCharts}
 use Rattle.prelude.specs.Owned.{of}
 use Rattle.model.specs.Runs.{World, Run, present, deeds, guardHolds, Answer, taken, idle, Machine, Runs}
-use Rattle.model.specs.ChartSet.{Trigger, always, event, after, every, Transition, ChartSet, transition, ChartSet·}
+use Rattle.model.specs.ChartSet.{Trigger, always, event, after, every, ChartSet, transition, ChartSet·}
 
 -- ---- time
 

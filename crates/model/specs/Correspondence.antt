@@ -1,6 +1,6 @@
 -- Corresponding runs, and demand 3 as one statement about every accepted set and every list of calls. Assumes nothing: these are definitions.
 use mathlib.Core.Path.{_≡_}
-use mathlib.Core.Bool.{Bool, true, false, cond}
+use mathlib.Core.Bool.{true, cond}
 use mathlib.Core.List.{List, [], _∷_}
 use Prim.Native.Nat.{ℕ, _+_, _-_, _%_, _<_, min}
 use lib.Dec.{T, ltb, eqb}
@@ -8,10 +8,9 @@ use lib.ListN.{length, getD, take}
 use Rattle.prelude.specs.Lists.{all, gather, mem}
 use Rattle.records.specs.Refusal.{Out, val, fault, refusalNumber}
 use Rattle.prelude.specs.Owned.{of}
-use Rattle.model.specs.Outcome.{Outcome}
-use Rattle.model.specs.Runs.{World, Run, give, Answer, taken, idle, time, Call, one-turn, whole-cycle, Trace, done, stopped, turned}
+use Rattle.model.specs.Runs.{Run, give, Answer, taken, idle, time, Call, one-turn, whole-cycle, Trace, done, stopped, turned}
 use Rattle.model.specs.ChartSet.{ChartSet, readCharts}
-use Rattle.model.specs.AutomataTable.{Automata, Timing, after, every, LiteralTrigger, always, event, clock, Literal, clockAt, edge, readAutomata}
+use Rattle.model.specs.AutomataTable.{Automata, Timing, after, every, LiteralTrigger, always, event, clock, clockAt, edge, readAutomata}
 use Rattle.model.specs.Automata.{top, leaving, openEdges}
 use Rattle.model.specs.Translation.{translate}
 use Rattle.model.specs.Calls.{Format, chartSets, automataTables, startCall, turnCall, cycleCall, callTrace}

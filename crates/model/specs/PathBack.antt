@@ -1,8 +1,8 @@
 -- "Leading a path back". Assumes nothing: these are definitions.
-use mathlib.Core.Bool.{Bool, true, false, not, cond, _&&_, _||_}
+use mathlib.Core.Bool.{Bool, not, cond, _&&_}
 use mathlib.Core.List.{List, [], _∷_, _++_}
 use Prim.Native.Nat.{ℕ, _+_, _*_, _-_, _/_}
-use lib.Dec.{leb, ltb, eqb}
+use lib.Dec.{ltb, eqb}
 use lib.ListN.{length, getD, set, drop}
 use Rattle.prelude.specs.Lists.{gather}
 use Rattle.records.specs.Refusal.{broken-path, short-rows, Out, val, _>>=_, _>>_, fault-if, unless-refused}
@@ -10,7 +10,7 @@ use Rattle.model.specs.Limits.{mostCycles}
 use Rattle.model.specs.Outcome.{Outcome, settled}
 use Rattle.model.specs.ChartSet.{ChartSet, readCharts}
 use Rattle.model.specs.ChartFile.{chartsRefusal}
-use Rattle.model.specs.AutomataTable.{Automata, Edge, edge}
+use Rattle.model.specs.AutomataTable.{edge}
 use Rattle.model.specs.Translation.{Origin, from-transition, from-idling, originOf, twin, Translation}
 
 -- "65,535 for time"

@@ -9,7 +9,7 @@ use lib.IntN.{ℤ, pos, negsuc}
 use Rattle.prelude.specs.Lists.{gather}
 use Rattle.records.specs.Refusal.{Refusal, Out, val, fault}
 use Rattle.records.specs.Bytes.{four}
-use Rattle.model.specs.Runs.{Run, Machine, start, Answer, taken, idle, time, whole-cycle, Trace, done, stopped, turned, trace, ended}
+use Rattle.model.specs.Runs.{Run, start, Answer, taken, idle, time, whole-cycle, Trace, done, stopped, turned, trace, ended}
 use Rattle.model.specs.ChartSet.{ChartSet, readCharts}
 use Rattle.model.specs.Charts.{charts, Charts}
 use Rattle.model.specs.ChartFile.{chartsRefusal, ChartFile}

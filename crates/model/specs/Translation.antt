@@ -5,14 +5,14 @@ use Prim.Native.Nat.{ℕ, _+_, _-_}
 use lib.Dec.{ltb, eqb}
 use lib.ListN.{length, getD, take, drop}
 use Rattle.prelude.specs.Lists.{keep, gather, from, upto}
-use Rattle.records.specs.Refusal.{short-buffer, Out, val, _>>=_, _>>_, fault-if, unless-refused}
+use Rattle.records.specs.Refusal.{short-buffer, Out, val, _>>_, fault-if, unless-refused}
 use Rattle.model.specs.Limits.{mostPriorities}
 use Rattle.prelude.specs.Owned.{of, byOwner}
 use Rattle.model.specs.Owned.{home}
 use Rattle.model.specs.Outcome.{Outcome, settled}
 use Rattle.model.specs.Runs.{Deed}
 use Rattle.model.specs.ChartSet as C
-use Rattle.model.specs.ChartSet.{ChartSet, Transition, transition, readCharts}
+use Rattle.model.specs.ChartSet.{ChartSet, transition, readCharts}
 use Rattle.model.specs.Charts.{ticks, Charts}
 use Rattle.model.specs.ChartFile.{chartsRefusal, ChartFile}
 use Rattle.model.specs.AutomataTable as A

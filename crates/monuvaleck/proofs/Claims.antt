@@ -8,7 +8,7 @@ use lib.Dec.{T, ltb}
 use lib.ListN.{length, take}
 use Rattle.prelude.specs.Lists.{all}
 use Rattle.records.specs.Refusal.{Refusal, val, fault, _>>=_, unless-refused}
-use Rattle.model.specs.Outcome.{Outcome, settled}
+use Rattle.model.specs.Outcome.{settled}
 use Rattle.model.specs.Runs.{Run, Call, start, turn, cycle}
 use Rattle.model.specs.ChartSet.{readCharts}
 use Rattle.model.specs.Charts.{charts}

@@ -8,7 +8,7 @@ use native.Mathlib.Omega.{arith}
 use lib.Dec.{ltb}
 use lib.ListN.{length, drop}
 use Rattle.model.specs.Limits.{longestTable}
-use Rattle.records.specs.Refusal.{Refusal, short-buffer, Out, val, fault, _>>_, fault-if, unless-refused}
+use Rattle.records.specs.Refusal.{Refusal, short-buffer, Out, val, _>>_, fault-if, unless-refused}
 use Rattle.model.specs.Outcome.{settled}
 use Rattle.model.specs.ChartFile.{chartsRefusal}
 use Rattle.model.specs.Translation.{twinBytes, written, translate}

@@ -1,7 +1,7 @@
 -- A path cut in two, and the model's answer from its parts. Assumes nothing.
 use mathlib.Core.Path.{_≡_, refl, sym, ap, _∙_}
 use mathlib.Core.Bool.{Bool, true, false, not, cond, _&&_}
-use mathlib.Core.List.{List, [], _∷_, _++_, append-assoc, append-nil}
+use mathlib.Core.List.{List, [], _∷_, _++_, append-assoc}
 use Prim.Native.Nat.{ℕ}
 use Rattle.records.specs.Refusal.{broken-path, Out, val, fault, _>>=_, _>>_, fault-if}
 use Rattle.model.specs.ChartSet.{ChartSet}

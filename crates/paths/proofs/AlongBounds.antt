@@ -3,25 +3,23 @@ use mathlib.Core.Path.{_≡_, refl, sym, ap, _∙_, subst}
 use mathlib.Core.Bool.{Bool, true, false, cond, _&&_}
 use mathlib.Core.Option.{Option, some, none}
 use mathlib.Core.List.{List, [], _∷_, _++_}
-use Prim.Native.Nat.{ℕ, _+_, _*_, _-_, _/_, _≤_, _<_}
+use Prim.Native.Nat.{ℕ, _+_, _*_, _/_, _≤_, _<_}
 use native.Mathlib.Omega.{arith}
-use borrow.Author.Tests.{ltb-true, ltb-false, eqb-true, eqb-false}
+use borrow.Author.Tests.{ltb-true, eqb-true}
 use lib.Dec.{ltb, eqb}
 use lib.ListN.{length, getD, set, drop, length-append}
-use Rattle.framing.specs.Framing.{howMany, framing, framingTests}
+use Rattle.framing.specs.Framing.{howMany, framingTests}
 use Rattle.records.specs.Refusal.{Refusal, broken-path, short-rows, Out, val, fault, _>>=_, _>>_, fault-if, unless-refused, lowest}
 use Rattle.prelude.proofs.Counts.{and-true}
 use Rattle.model.specs.Outcome.{settled}
 use Rattle.model.specs.ChartSet.{ChartSet, readCharts}
 use Rattle.model.specs.AutomataTable.{edge}
-use Rattle.model.specs.ChartFile.{chartLimits, chartTests, chartsRefusal}
+use Rattle.model.specs.ChartFile.{chartLimits, chartsRefusal}
 use Rattle.model.specs.Translation.{Origin, from-transition, from-idling, originOf, twin}
 use Rattle.model.specs.PathBack.{timeMark, Walk, Row, walkStart, timeFits, edgeFits, stepFits, walked, rowsFrom, stepRows, ledBack, rowWords, rowsWritten, pathBack}
 use Rattle.chart_records.specs.declared.Shape.{Shape}
-use Rattle.chart_records.specs.Places.{homeAt, transitionAt}
 use Rattle.chart_records.proofs.PlacesRead.{length-initial, most-charts}
 use Rattle.chart_records.specs.Accepted.{Accepted}
-use Rattle.chart_steps.proofs.Accepted.{source-known}
 use Rattle.paths.specs.Along.{allFit, rowsAlong}
 use Rattle.paths.proofs.Along.{led-is}
 use Rattle.paths.proofs.LedOfEdges.{automaton-known}

@@ -1,21 +1,21 @@
 -- A path followed up to a step: the walk that it leads to, and the rows so far. Assumes nothing.
 use mathlib.Core.Path.{_≡_, refl, sym, ap, _∙_, subst}
 use mathlib.Core.Bool.{Bool, true, false, cond, _&&_}
-use mathlib.Core.List.{List, [], _∷_, _++_, append-nil, append-assoc}
-use Prim.Native.Nat.{ℕ, suc, _+_, _*_, _-_, _/_, _≤_, _<_}
+use mathlib.Core.List.{List, [], _∷_, _++_, append-nil}
+use Prim.Native.Nat.{ℕ, suc, _+_, _*_, _-_, _≤_, _<_}
 use native.Mathlib.Numerals.{add-one}
 use native.Mathlib.Omega.{arith}
-use borrow.Author.Tests.{lt-ltb, le-ltb, ltb-true, ltb-false}
+use borrow.Author.Tests.{ltb-true, ltb-false}
 use lib.Dec.{ltb}
 use lib.ListN.{length, getD, take, drop, length-append, take-append-drop}
 use lib.Seq.{sets, take-suc, take-all, drop-cons}
 use Rattle.prelude.specs.Lists.{gather}
-use Rattle.records.specs.Refusal.{broken-path, short-rows, Out, val, fault, _>>=_, _>>_, fault-if}
+use Rattle.records.specs.Refusal.{broken-path, val, fault}
 use Rattle.prelude.proofs.Counts.{and-true}
 use Rattle.records.proofs.Wrote.{sets-append}
 use Rattle.model.specs.ChartSet.{ChartSet}
 use Rattle.model.specs.Translation.{Origin, from-transition, from-idling, transitionCount, originOf}
-use Rattle.model.specs.PathBack.{Walk, Row, walkStart, stepFits, walked, rowsFrom, stepRows, ledBack, rowWords, rowsWritten}
+use Rattle.model.specs.PathBack.{Walk, Row, walkStart, stepFits, walked, rowsFrom, stepRows, ledBack, rowWords}
 use Rattle.model.proofs.TranslationOrigins.{originOf-edgeNumber, originOf-idling}
 use Rattle.paths.specs.Along.{allFit, walkAlong, rowsAlong}
 use Rattle.paths.specs.LedOf.{counted}

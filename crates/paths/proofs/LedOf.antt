@@ -1,5 +1,5 @@
 -- What a path comes to, from the count of its rows. Assumes nothing.
-use mathlib.Core.Path.{_≡_, refl, sym, ap, _∙_, subst}
+use mathlib.Core.Path.{_≡_, refl, sym, ap, _∙_}
 use mathlib.Core.Bool.{Bool, true, false, cond}
 use mathlib.Core.List.{List, _++_}
 use Prim.Native.Nat.{ℕ, _+_, _*_, _/_, _≤_, _<_}
@@ -8,7 +8,7 @@ use borrow.Author.Tests.{lt-ltb, le-ltb}
 use lib.Dec.{ltb}
 use lib.ListN.{length, drop}
 use lib.Seq.{sets, sets-eq}
-use Rattle.records.specs.Refusal.{broken-path, short-rows, Out, val, fault, _>>=_, _>>_, fault-if}
+use Rattle.records.specs.Refusal.{broken-path, short-rows, val, fault, _>>=_, _>>_, fault-if}
 use Rattle.model.specs.Outcome.{settled}
 use Rattle.model.specs.ChartSet.{ChartSet}
 use Rattle.model.specs.PathBack.{Row, walkStart, ledBack, rowWords, rowsWritten}

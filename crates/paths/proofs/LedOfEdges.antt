@@ -8,8 +8,8 @@ use borrow.Author.Tests.{ltb-true, ltb-false}
 use lib.Dec.{ltb, ltb→lt}
 use lib.ListN.{length, getD}
 use Rattle.model.specs.Owned.{home}
-use Rattle.model.specs.ChartSet.{transition, readCharts}
-use Rattle.model.specs.AutomataTable.{Edge, edge}
+use Rattle.model.specs.ChartSet.{readCharts}
+use Rattle.model.specs.AutomataTable.{edge}
 use Rattle.model.specs.Translation.{from-transition, from-idling, edgeOf, twin}
 use Rattle.chart_records.specs.declared.Shape.{Shape}
 use Rattle.chart_records.specs.Places.{homeAt, transitionAt}

@@ -3,7 +3,7 @@ use mathlib.Core.Path.{_≡_, refl, sym, ap, _∙_}
 use mathlib.Core.Option.{none}
 use mathlib.Core.Bool.{Bool, true, false, cond}
 use mathlib.Core.List.{List, [], _∷_}
-use Prim.Native.Nat.{ℕ, zero, suc, _+_, _-_, _/_, _≤_, _<_}
+use Prim.Native.Nat.{ℕ, zero, suc, _/_, _≤_, _<_}
 use native.Mathlib.Omega.{arith}
 use borrow.Author.Tests.{ltb-true, ltb-false}
 use lib.Dec.{ltb}
@@ -16,7 +16,7 @@ use Rattle.model.specs.ChartFile.{chartsRefusal}
 use Rattle.model.specs.AutomataTable.{readAutomata}
 use Rattle.model.specs.Automata.{automata}
 use Rattle.model.specs.AutomataFile.{automataRefusal}
-use Rattle.model.specs.Replay.{Replayed, next, cutMasks, masks, replayed, unless-ended, replay}
+use Rattle.model.specs.Replay.{next, cutMasks, masks, replayed, unless-ended, replay}
 use Rattle.lines.specs.Text.{traceText}
 use Rattle.lines.proofs.Texts.{trace-text}
 use Rattle.replays.specs.Loop.{nothing, looped, played, twinReplay}

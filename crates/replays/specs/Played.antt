@@ -1,10 +1,9 @@
--- The line of a part's turn by its answer, and how a cycle ended. Assumes nothing: these are definitions.
+-- The line of a part's turn by its answer. Assumes nothing: these are definitions.
 use mathlib.Core.List.{List, []}
 use Prim.Native.Nat.{ℕ}
 use lib.IntN.{ℤ}
-use Rattle.records.specs.Refusal.{Out, val, fault, _>>=_}
-use Rattle.model.specs.Outcome.{Outcome}
-use Rattle.model.specs.Runs.{Run, Answer, taken, idle, time}
+use Rattle.records.specs.Refusal.{Out, val, fault}
+use Rattle.model.specs.Runs.{Answer, taken, idle, time}
 use Rattle.lines.specs.Text.{lineText}
 
 -- time has no line, nor has a turn that is not taken
@@ -13,7 +12,3 @@ answerText cycle part (val (taken t)) place variables = lineText cycle part (tak
 answerText cycle part (val idle) place variables = lineText cycle part idle place variables
 answerText cycle part (val time) place variables = []
 answerText cycle part (fault w) place variables = []
-
--- the run after a cycle, if there is one
-abbrev pub endedOf : Outcome (Unit {0}) Run → Out Run
-endedOf x = x .answer >>= λ _. val (x .lent)

@@ -1,15 +1,15 @@
 -- A node's record in an accepted file is written as it stands: its operator is known, and what the operator does not use is zero. Assumes nothing.
 use mathlib.Core.Path.{_≡_, refl, sym, ap, _∙_}
-use mathlib.Core.Bool.{Bool, true, false, not, _&&_, _||_}
+use mathlib.Core.Bool.{Bool, true, false, not, _||_}
 use mathlib.Core.List.{List, [], _∷_, _++_, map}
 use Prim.Native.Nat.{ℕ, zero, suc, _+_, _-_, _*_, _^_, _≤_, _<_}
 use native.Mathlib.Omega.{arith}
 use borrow.Author.Tests.{eqb-true, eqb-false, leb-true}
 use lib.Dec.{T, eqb}
-use lib.ListN.{length, getD, take, drop}
+use lib.ListN.{getD, take, drop}
 use lib.Seq.{getD-take, getD-drop}
 use Rattle.prelude.specs.Lists.{all, caseOf}
-use Rattle.records.specs.Bytes.{byte, two, four, four±, signed, unsigned, bytes2, bytes4, records, kind, ofKind}
+use Rattle.records.specs.Bytes.{byte, two, four, four±, bytes2, bytes4, records, kind, ofKind}
 use Rattle.records.specs.Refusal.{odd-length}
 use Rattle.records.proofs.Records.{recordAt, byte-record}
 use Rattle.records.proofs.RoundTrips.{two-record, four-record, unsigned-signed}

@@ -6,7 +6,7 @@ ghost use Rattle.records.specs.Bytes.{bytes2};
 ghost use Rattle.expressions.specs.Nodes.{nodeAt, writeNode};
 ghost use Rattle.model.specs.ChartSet.{readCharts};
 ghost use Rattle.model.specs.AutomataTable.{writeVariable};
-ghost use Rattle.chart_records.specs.Places.{initialAt, homeAt, variableAt, nodePart};
+ghost use Rattle.chart_records.specs.Places.{variableAt, nodePart};
 ghost use Rattle.chart_records.specs.Shape.{IsShape};
 ghost use Rattle.chart_records.specs.Accepted.{Accepted};
 ghost use Rattle.twin_records.specs.Texts.{recordText, section, Puts};

@@ -1,7 +1,5 @@
 // One call on a set and on its twin.
 ghost use mathlib.Core.Path.{_≡_};
-ghost use Prim.Native.Nat.{_≤_};
-ghost use lib.ListN.{length};
 ghost use Rattle.model.specs.Runs.{one-turn, whole-cycle};
 ghost use Rattle.chart_records.specs.Accepted as of-charts;
 ghost use Rattle.chart_runs.specs.RunOf as charts-run;

@@ -1,5 +1,5 @@
 -- `chart_runs::is_possible` meets its contract: what is shared, and the ages. Assumes nothing.
-use mathlib.Core.Path.{_≡_, sym, ap, _∙_}
+use mathlib.Core.Path.{_≡_, sym, _∙_}
 use mathlib.Core.Bool.{_&&_}
 use denote.Ref.{now}
 use lib.Dec.{leb}

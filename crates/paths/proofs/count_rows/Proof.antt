@@ -1,7 +1,6 @@
 -- `count_rows` meets its contract. Assumes nothing.
-use mathlib.Core.Path.{_≡_, sym, ap, _∙_}
-use mathlib.Core.Bool.{Bool, true, false, cond}
-use Prim.Native.Nat.{ℕ, _+_, _-_, _≤_}
+use mathlib.Core.Path.{sym, ap, _∙_}
+use Prim.Native.Nat.{_+_, _-_, _≤_}
 use native.Mathlib.Omega.{arith}
 use borrow.Author.Tests.{not-true, not-false}
 use borrow.Author.Needs.{needs}
@@ -10,7 +9,7 @@ use lib.Dec.{ltb}
 use lib.ListN.{length, getD}
 use Rattle.model.specs.ChartSet.{readCharts}
 use Rattle.chart_records.proofs.PlacesRead.{length-transitions}
-use Rattle.paths.specs.LedOf.{walkIn, nextPosition, nextCycles}
+use Rattle.paths.specs.LedOf.{walkIn}
 use Rattle.paths.proofs.AlongFollowed.{Followed, at-most-one, followed-none, followed-more, followed-all, followed-broken, rows-many}
 use Rattle.paths.proofs.LedOfSteps.{in-turn}
 use Rattle.paths.proofs.count_rows.Statement.{statement}

@@ -1,5 +1,5 @@
 -- `next_position` meets its contract. Assumes nothing.
-use mathlib.Core.Path.{_≡_, sym, ap}
+use mathlib.Core.Path.{sym, ap}
 use mathlib.Core.Bool.{cond}
 use Prim.Native.Nat.{_+_}
 use borrow.Author.Needs.{needs}

@@ -1,15 +1,9 @@
 -- `put_row` meets its contract. Assumes nothing.
-use mathlib.Core.Path.{_≡_, refl, sym, ap, _∙_, subst}
-use mathlib.Core.Bool.{true, false}
-use Prim.Native.Nat.{ℕ, suc, _+_, _-_, _*_, _≤_, _<_}
+use mathlib.Core.Path.{_≡_}
+use Prim.Native.Nat.{suc, _+_, _*_}
 use native.Mathlib.Omega.{arith}
-use borrow.Author.Tests.{eqb-true, eqb-false, eq-eqb, ne-eqb}
 use denote.Ref.{now}
-use lib.Dec.{eqb}
-use lib.ListN.{length, length-set, set}
-use Rattle.model.specs.ChartSet.{readCharts}
-use Rattle.model.specs.PathBack.{edgeFits, stepFits}
-use Rattle.chart_records.proofs.PlacesRead.{most-charts, most-states, most-transitions}
+use lib.ListN.{length-set, set}
 use borrow.Author.Needs.{needs}
 use Rattle.paths.proofs.put_row.Statement.{statement}
 use Rattle.paths.proofs.put_row.Tie as tie

@@ -1,15 +1,7 @@
 -- `rows_of_step` meets its contract. Assumes nothing.
-use mathlib.Core.Path.{_≡_, refl, sym, ap, _∙_, subst}
+use mathlib.Core.Path.{sym, ap}
 use mathlib.Core.Bool.{cond}
-use Prim.Native.Nat.{ℕ, _+_, _-_, _*_, _≤_, _<_}
-use native.Mathlib.Omega.{arith}
 use borrow.Author.Tests.{lt-ltb, le-ltb}
-use denote.Ref.{now}
-use lib.Dec.{eqb}
-use lib.ListN.{length, getD, take}
-use Rattle.model.specs.ChartSet.{readCharts}
-use Rattle.model.specs.PathBack.{edgeFits, stepFits}
-use Rattle.chart_records.proofs.PlacesRead.{most-charts, most-states, most-transitions}
 use Rattle.paths.proofs.rows_of_step.Statement.{statement}
 use Rattle.paths.proofs.rows_of_step.Tie as tie
 use Rattle.paths.proofs.rows_of_step.Reads as reads

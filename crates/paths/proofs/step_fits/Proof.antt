@@ -1,5 +1,5 @@
 -- `step_fits` meets its contract. Assumes nothing.
-use mathlib.Core.Path.{_≡_, sym, _∙_}
+use mathlib.Core.Path.{sym, _∙_}
 use denote.Ref.{now}
 use Rattle.paths.specs.LedOf.{walkIn}
 use Rattle.paths.proofs.LedOfSteps.{step-late, step-time, step-edge}

@@ -1,5 +1,5 @@
 -- `put_tests` meets its contract: the sections, one after the other, the literals by the transitions and then the states. Assumes nothing.
-use mathlib.Core.Path.{refl, sym, ap}
+use mathlib.Core.Path.{sym, ap}
 use mathlib.Core.List.{_++_, map}
 use Prim.Native.Nat.{_*_, _^_}
 use native.Mathlib.Omega.{arith}

@@ -6,7 +6,7 @@ use native.Mathlib.Omega.{arith}
 use borrow.Author.Needs.{needs}
 use denote.Ref.{now}
 use lib.ListN.{length}
-use Rattle.records.specs.Refusal.{val, fault, _>>=_}
+use Rattle.records.specs.Refusal.{val, _>>=_}
 use Rattle.model.specs.Runs.{Run, moved, stepped, taken}
 use Rattle.model.specs.AutomataTable.{readAutomata}
 use Rattle.model.specs.Automata.{automata}

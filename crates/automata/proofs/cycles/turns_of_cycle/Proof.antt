@@ -1,6 +1,6 @@
 -- `cycles::turns_of_cycle` meets its contract. The invariant: the cycle called is the one that is left from the present run on. Assumes nothing.
 use mathlib.Core.Path.{_≡_, refl, sym, ap, _∙_}
-use Prim.Native.Nat.{ℕ, _+_, _-_, _≤_}
+use Prim.Native.Nat.{_+_, _-_, _≤_}
 use native.Mathlib.Omega.{arith}
 use denote.Ref.{now}
 use Rattle.records.specs.Refusal.{val}

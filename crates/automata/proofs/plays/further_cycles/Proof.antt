@@ -1,13 +1,13 @@
 -- `plays::further_cycles` meets its contract. The invariant: so many cycles led to the present run, which can go on, and they are no more than its count.
 -- Assumes nothing.
 use mathlib.Core.Path.{_≡_, refl, sym, ap, _∙_, subst}
-use Prim.Native.Nat.{ℕ, _+_, _-_, _≤_}
+use Prim.Native.Nat.{_+_, _-_, _≤_}
 use native.Mathlib.Omega.{arith}
 use borrow.Author.Needs.{needs}
 use denote.Ref.{now}
 use lib.ListN.{length, getD}
 use Rattle.records.specs.Refusal.{cycles-done}
-use Rattle.model.specs.Runs.{Run, cycle, give}
+use Rattle.model.specs.Runs.{cycle, give}
 use Rattle.model.specs.AutomataTable.{readAutomata}
 use Rattle.model.specs.Automata.{automata}
 use Rattle.automata_records.proofs.PlacesRead.{length-initial}

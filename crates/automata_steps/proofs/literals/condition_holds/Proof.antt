@@ -1,5 +1,5 @@
 -- `literals::condition_holds` meets its contract: the guard is read only where the trigger holds. Assumes nothing.
-use mathlib.Core.Path.{_≡_, sym, ap, _∙_}
+use mathlib.Core.Path.{sym, ap, _∙_}
 use mathlib.Core.Bool.{false, cond}
 use Prim.Native.Nat.{_+_, _*_}
 use native.Mathlib.Omega.{arith}

@@ -1,5 +1,5 @@
 -- `literals::literal_holds` meets its contract, by the sign. Assumes nothing.
-use mathlib.Core.Path.{_≡_, sym, ap, _∙_}
+use mathlib.Core.Path.{sym, ap, _∙_}
 use native.Mathlib.Omega.{arith}
 use denote.Ref.{now}
 use Rattle.expressions.specs.Answers.{valueReasonOf, truthOf}

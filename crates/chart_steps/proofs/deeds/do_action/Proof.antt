@@ -6,7 +6,7 @@ use denote.Ref.{now}
 use lib.ListN.{length}
 use Rattle.records.specs.Bytes.{byte, two}
 use Rattle.model.specs.Runs.{deed}
-use Rattle.model.specs.ChartSet.{readDeed, readCharts}
+use Rattle.model.specs.ChartSet.{readDeed}
 use Rattle.chart_records.specs.Places.{actionAt}
 use Rattle.chart_records.proofs.PlacesRead.{inside}
 use Rattle.machines.specs.Deeds.{Doable}

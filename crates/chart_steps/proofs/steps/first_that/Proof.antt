@@ -1,6 +1,5 @@
 -- `steps::first_that` meets its contract: none of the places before j holds, and from the end on they name none. Assumes nothing.
 use mathlib.Core.Path.{_≡_, refl, sym, ap, _∙_}
-use mathlib.Core.List.{[]}
 use mathlib.Core.Bool.{true, cond}
 use mathlib.Core.Option.{some, none}
 use Prim.Native.Nat.{ℕ, _+_, _-_, _≤_, _<_}

@@ -1,5 +1,5 @@
 -- `steps::turns_in_place` meets its contract: left to take are the turns from a chart on. Assumes nothing.
-use Prim.Native.Nat.{_+_, _-_, _≤_}
+use Prim.Native.Nat.{_-_, _≤_}
 use native.Mathlib.Omega.{arith}
 use denote.Ref.{now}
 use Rattle.model.specs.ChartSet.{readCharts}

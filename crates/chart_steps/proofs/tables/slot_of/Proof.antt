@@ -1,8 +1,7 @@
 -- `tables::slot_of` meets its contract. Assumes nothing.
-use mathlib.Core.Path.{_≡_, sym, _∙_}
+use mathlib.Core.Path.{sym, _∙_}
 use Prim.Native.Nat.{_+_, _<_}
 use native.Mathlib.Omega.{arith}
-use borrow.Author.Needs.{needs}
 use denote.Ref.{now}
 use Rattle.chart_records.proofs.PlacesRead.{most-states}
 use Rattle.chart_steps.proofs.StepOf.{unnamed, placed-one}

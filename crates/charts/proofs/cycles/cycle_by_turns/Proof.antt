@@ -3,7 +3,6 @@ use mathlib.Core.Path.{_≡_, refl, sym, ap, _∙_}
 use Prim.Native.Nat.{_+_, _-_}
 use borrow.Author.Needs.{needs}
 use denote.Ref.{now}
-use Rattle.records.specs.Refusal.{val}
 use Rattle.records.specs.RefusalOf.{refusalOf}
 use Rattle.model.specs.Outcome.{settled}
 use Rattle.model.specs.Runs.{cycle}
@@ -11,7 +10,6 @@ use Rattle.model.specs.ChartSet.{readCharts}
 use Rattle.model.specs.Charts.{charts}
 use Rattle.answers.specs.Answers.{reasonOf, answerOf}
 use Rattle.chart_runs.specs.RunOf.{runOf}
-use Rattle.chart_steps.specs.Prepared.{Prepared}
 use Rattle.charts.proofs.TurnOfCycle.{part-turn, goes-on, nearer, ends, fails}
 use Rattle.charts.proofs.cycles.cycle_by_turns.Statement.{statement}
 use Rattle.charts.proofs.cycles.cycle_by_turns.Tie as tie

@@ -1,6 +1,5 @@
 -- `cycles::fresh` meets its contract. Assumes nothing.
 use mathlib.Core.Path.{ap}
-use borrow.Author.Needs.{needs}
 use Rattle.records.specs.Refusal.{val}
 use Rattle.charts.proofs.cycles.fresh.Statement.{statement}
 use Rattle.charts.proofs.cycles.fresh.Tie as tie

@@ -1,5 +1,5 @@
 -- `plays::play_with_tables` meets its contract: no masks, a first cycle that the checks refuse, or one that they let pass. Assumes nothing.
-use mathlib.Core.Path.{_≡_, sym, ap, _∙_}
+use mathlib.Core.Path.{sym, ap, _∙_}
 use native.Mathlib.Omega.{arith}
 use borrow.Author.Needs.{needs}
 use denote.Ref.{now}

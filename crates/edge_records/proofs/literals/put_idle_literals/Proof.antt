@@ -10,7 +10,7 @@ use Rattle.prelude.specs.Lists.{gather, upto}
 use Rattle.model.specs.ChartSet.{readCharts}
 use Rattle.twin_records.proofs.TextsWritten.{Texts, texts-start, texts-step, texts-end, puts-as}
 use Rattle.edge_records.proofs.TextsEdges.{above-end}
-use Rattle.model.specs.Translation.{from-idling, edgeNumber, transitionCount, literal, literalsOf}
+use Rattle.model.specs.Translation.{from-idling, edgeNumber, literal, literalsOf}
 use Rattle.chart_records.proofs.PlacesRead.{length-transitions, length-homes, most-states, most-transitions}
 use Rattle.twin_records.specs.Texts.{literalTexts}
 use Rattle.edge_records.proofs.literals.put_idle_literals.Statement.{statement}

@@ -1,6 +1,5 @@
 -- `literals::put_negation` meets its contract: a place names one transition or none. Assumes nothing.
 use mathlib.Core.Path.{sym, ap, _∙_}
-use Prim.Native.Nat.{_-_}
 use borrow.Author.Needs.{needs}
 use denote.Ref.{now}
 use mathlib.Core.List.{[], _∷_, map}

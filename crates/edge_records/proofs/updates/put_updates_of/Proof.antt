@@ -1,5 +1,5 @@
 -- `updates::put_updates_of` meets its contract: the deeds of the three keys, one after the other. Assumes nothing.
-use Prim.Native.Nat.{ℕ, _-_, _<_, _^_}
+use Prim.Native.Nat.{ℕ, _<_, _^_}
 use native.Mathlib.Omega.{arith}
 use borrow.Author.Needs.{needs}
 use denote.Ref.{now}

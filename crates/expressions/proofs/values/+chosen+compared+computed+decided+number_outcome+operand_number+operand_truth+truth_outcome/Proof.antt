@@ -1,7 +1,7 @@
 -- The proof of the cycle of calls of `values::number_outcome` and `values::truth_outcome`. Each member's measure comes from its node: an operand's is below
 -- it, and a member that works out operands of node n stands between node n and its operands. Assumes nothing.
 use mathlib.Core.Path.{_≡_, refl, sym, ap, _∙_}
-use mathlib.Core.Bool.{true, false}
+use mathlib.Core.Bool.{false}
 use Prim.Native.Nat.{ℕ, _+_, _*_, _≤_, _<_}
 use native.Mathlib.Omega.{arith}
 use borrow.Author.Needs.{needs}
@@ -17,7 +17,7 @@ use mir.Syntax.{w32, w64}
 use Rattle.records.specs.Refusal.{Out, val, _>>=_, choose}
 use Rattle.expressions.specs.Nodes.{nodeAt}
 use Rattle.arithmetic.specs.Arithmetic.{compute, compare}
-use Rattle.expressions.specs.OperandValues.{operandNumber, operandTruth, decide}
+use Rattle.expressions.specs.OperandValues.{operandNumber, operandTruth}
 use Rattle.arithmetic.specs.Operators.{arithmeticOf, comparisonOf}
 use Rattle.arithmetic.proofs.Outcomes.{stands-same, stands-at, held, handed, of-number, of-zero, number-small, number-in, fault-stands, first-fault, second-fault, both-in, truth-same, truth-in, truth-fault-in, of-truth, turned}
 use Rattle.expressions.proofs.Decided.{undecided, stays}

@@ -4,7 +4,6 @@ use native.Mathlib.Omega.{arith}
 use borrow.Author.Tests.{eq-eqb, ne-eqb}
 use borrow.Author.Needs.{needs}
 use Rattle.records.proofs.Wrote.{nothing-wrote}
-use Rattle.listing_parts.specs.Parts.{WroteNear}
 use Rattle.listing.specs.Tables.{idleText}
 use Rattle.listing_parts.proofs.Near.{near-as}
 use Rattle.listing.proofs.tables.put_idle.Statement.{statement}

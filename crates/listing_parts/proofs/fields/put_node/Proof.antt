@@ -1,5 +1,5 @@
 -- `fields::put_node` meets its contract, by those of its calls. Assumes nothing.
-use mathlib.Core.Path.{ap, _∙_}
+use mathlib.Core.Path.{ap}
 use native.Mathlib.Omega.{arith}
 use borrow.Author.Needs.{needs}
 use Rattle.listing_parts.specs.Parts.{nodeText}

@@ -9,7 +9,6 @@ use borrow.Author.Needs.{needs}
 use lib.IntN.{pos, negsuc}
 use Rattle.records.specs.Bytes.{signed}
 use Rattle.model.specs.Replay.{decimal, signedDecimal, minus}
-use Rattle.listing_parts.specs.Parts.{WroteNear}
 use Rattle.listing_parts.proofs.Near.{near-then, near-as}
 use Rattle.listing_parts.proofs.texts.put_twos.Statement.{statement}
 use Rattle.listing_parts.proofs.texts.put_twos.Tie as tie

@@ -3,7 +3,6 @@ use mathlib.Core.Path.{sym}
 use mathlib.Core.Bool.{not, _&&_}
 use lib.Dec.{eqb}
 use Rattle.records.specs.Refusal.{impossible-run, misplaced-events, cycles-done, _>>_, fault-if}
-use borrow.Author.Needs.{needs}
 use Rattle.machines.proofs.checks.decide.Statement.{statement}
 use Rattle.machines.proofs.checks.decide.Tie as tie
 

@@ -2,7 +2,6 @@
 use Prim.Native.Nat.{_+_, _≤_}
 use native.Mathlib.Omega.{arith}
 use borrow.Author.Needs.{needs}
-use lib.ListN.{length}
 use Rattle.lines.proofs.Digits.{length-decimal}
 use Rattle.records.proofs.Wrote.{wrote-then, wrote-near}
 use Rattle.messages.proofs.texts.put_counted.Statement.{statement}

@@ -1,9 +1,8 @@
 -- `lengths::count_actions` meets its contract: the actions before a are counted. Assumes nothing.
 use mathlib.Core.Path.{_≡_, refl, sym, subst, _∙_}
-use Prim.Native.Nat.{ℕ, _-_, _*_, _<_, _≤_}
+use Prim.Native.Nat.{_-_, _≤_}
 use native.Mathlib.Omega.{arith}
 use denote.Ref.{now}
-use lib.ListN.{getD}
 use Rattle.chart_records.proofs.PlacesRead.{most-actions}
 use Rattle.chart_steps.specs.Tables.{keyAt, keyed}
 use Rattle.prelude.specs.Lists.{bit}

@@ -1,5 +1,5 @@
 -- `lengths::count_effects` meets its contract: the updates and resets of the transitions before t are counted. Assumes nothing.
-use mathlib.Core.Path.{_≡_, sym, ap, subst, _∙_}
+use mathlib.Core.Path.{_≡_, sym, ap, _∙_}
 use Prim.Native.Nat.{ℕ, _+_, _-_, _*_, _<_, _≤_}
 use native.Mathlib.Omega.{arith}
 use denote.Ref.{now}
@@ -7,7 +7,7 @@ use lib.ListN.{length, getD}
 use Rattle.chart_records.proofs.PlacesRead.{transition-is, length-transitions, most-states, most-transitions}
 use Rattle.chart_steps.proofs.Accepted.{source-known, target-known}
 use Rattle.model.specs.ChartSet.{readCharts}
-use Rattle.model.specs.Translation.{from-transition, transitionCount, updatesOf, clocksLeaving, resetsOf}
+use Rattle.model.specs.Translation.{from-transition, transitionCount, clocksLeaving, resetsOf}
 use Rattle.prelude.proofs.Sums.{sumFrom}
 use Rattle.model.proofs.TranslationCounts.{updatesOf-few, resetsOf-few}
 use Rattle.edge_records.proofs.TextsEdges.{updates-count}

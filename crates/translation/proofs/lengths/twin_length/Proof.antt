@@ -1,13 +1,11 @@
 -- `lengths::twin_length` meets its contract: 16 bytes for each thing of the twin. Assumes nothing.
-use mathlib.Core.Path.{_≡_, refl}
+use mathlib.Core.Path.{refl}
 use Prim.Native.Nat.{_+_, _<_}
 use native.Mathlib.Omega.{arith}
 use borrow.Author.Needs.{needs}
 use denote.Ref.{now}
-use lib.ListN.{length}
 use Rattle.chart_records.proofs.PlacesRead.{length-initial, length-homes, length-transitions, length-variables, length-nodes, most-charts, most-states, most-transitions, most-variables, most-nodes}
 use Rattle.model.specs.ChartSet.{readCharts}
-use Rattle.model.specs.Translation.{twin}
 use Rattle.model.proofs.TranslationOrigins.{origins-count, edges-count}
 use Rattle.model.proofs.TranslationCounts.{literals-few, clocks-few, updates-few, resets-few}
 use Rattle.model.proofs.TranslationAccepted.{length-twin}

@@ -1,6 +1,5 @@
 -- `fields::trigger_by` meets its contract: each arm is the table's entry of its code, and the last what no entry has. Assumes nothing.
-use mathlib.Core.Path.{_≡_, sym, ap}
-use Prim.Native.Nat.{ℕ}
+use mathlib.Core.Path.{sym, ap}
 use borrow.Author.Tests.{ne-eqb}
 use Rattle.prelude.specs.Lists.{caseOf}
 use Rattle.chart_records.specs.Places.{triggerBy}
