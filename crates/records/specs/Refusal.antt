@@ -1,4 +1,4 @@
--- The refusal table of document 01: one constructor for each number, and what a computation comes to. Assumes nothing: these are definitions.
+-- The refusal table of document 01, grown by document 02: one constructor for each number, and what a computation comes to. Assumes nothing: these are definitions.
 use mathlib.Core.Bool.{Bool, true, false, cond}
 use mathlib.Core.Option.{Option, some, none}
 use mathlib.Core.List.{List, [], _∷_}
@@ -17,6 +17,8 @@ pub data Refusal : Type 0 where
   out-of-range zero-divisor out-of-bounds none-open many-open : Refusal
   -- path back
   broken-path short-rows : Refusal
+  -- a guard's line
+  broken-line wrong-sort short-space : Refusal
 
 -- The number of each in the table.
 abbrev pub refusalNumber : Refusal → ℕ
@@ -41,6 +43,9 @@ refusalNumber none-open = 18
 refusalNumber many-open = 19
 refusalNumber broken-path = 20
 refusalNumber short-rows = 21
+refusalNumber broken-line = 22
+refusalNumber wrong-sort = 23
+refusalNumber short-space = 24
 
 -- "Within one place the lowest number that applies is given": of tests in ascending order, the first that applies.
 unfoldable pub lowest : List (Refusal × Bool) → Option Refusal

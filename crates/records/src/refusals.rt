@@ -20,6 +20,9 @@ pub enum Refusal {
     CyclesDone,
     BrokenPath,
     ShortRows,
+    BrokenLine,
+    WrongSort,
+    ShortSpace,
 }
 
 // Its number in the table.
@@ -43,5 +46,8 @@ pub fn refusal_number(w: Refusal) -> u8
         Refusal::CyclesDone => 14,
         Refusal::BrokenPath => 20,
         Refusal::ShortRows => 21,
+        Refusal::BrokenLine => 22,
+        Refusal::WrongSort => 23,
+        Refusal::ShortSpace => 24,
     }
 }

@@ -54,10 +54,22 @@ returns-15 c = ap (λ w. refusalNumber (refusalOf w)) (sym (c .enum-told15 .give
 returns-16 : tie.Need-returns-16
 returns-16 c = ap (λ w. refusalNumber (refusalOf w)) (sym (c .enum-told16 .given .1))
 
+returns-17 : tie.Need-returns-17
+returns-17 c = ap (λ w. refusalNumber (refusalOf w)) (sym (c .enum-told17 .given .1))
+
+returns-18 : tie.Need-returns-18
+returns-18 c = ap (λ w. refusalNumber (refusalOf w)) (sym (c .enum-told18 .given .1))
+
+returns-19 : tie.Need-returns-19
+returns-19 c = ap (λ w. refusalNumber (refusalOf w)) (sym (c .enum-told19 .given .1))
+
 pub refusal-number-spec : {M : Type 1} → statement M
 refusal-number-spec =
     tie.close
     (tie.spec
+    (λ c. search needs)
+    (λ c. search needs)
+    (λ c. search needs)
     (λ c. search needs)
     (λ c. search needs)
     (λ c. search needs)
@@ -89,4 +101,7 @@ refusal-number-spec =
     returns-13
     returns-14
     returns-15
-    returns-16)
+    returns-16
+    returns-17
+    returns-18
+    returns-19)
