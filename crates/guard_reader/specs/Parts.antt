@@ -1,0 +1,76 @@
+-- Of the code: nodes written one behind the other, and trees that were read. Assumes nothing: these are definitions.
+use mathlib.Core.Path.{_≡_}
+use mathlib.Core.Bool.{true, false, _&&_}
+use mathlib.Core.List.{List, [], _∷_}
+use Prim.Native.Nat.{ℕ, _+_, _*_, _-_, _≤_, _<_}
+use Prim.Native.Char.{code}
+use lib.Dec.{leb}
+use lib.IntN.{pos}
+use lib.ListN.{length, drop}
+use lib.Seq.{sets}
+use Rattle.prelude.specs.Lists.{caseOf}
+use Rattle.records.specs.Bytes.{byte}
+use Rattle.records.specs.Refusal.{Out}
+use Rattle.expressions.specs.Nodes.{nodeBytes}
+use Rattle.guards.specs.Trees.{Tree, isTruth, fits, pairFits, nodeCount, nodesFrom, recordsOf}
+use Rattle.guards.specs.Grammar.{Read, read, outside, readVariable, readNegative, readPositive}
+use Rattle.guard_reader.specs.declared.trees.Part.{Part}
+use Rattle.guard_reader.specs.declared.rules.Parsed.{Parsed}
+use Rattle.guard_reader.specs.declared.rules.Parsed.the-variants as parsed
+
+-- ---- a node written behind those of its operands, and the tree that it makes
+
+-- the record of node `size`, and what is told of its tree
+pub record PartIs (before : List ℕ) (size : ℕ) (node : List ℕ) (next : ℕ) (after : List ℕ) (r : Part) : Type 0 where
+  pub written : after ≡ sets before (16 * size) (5 ∷ node)
+  pub behind : r .next ≡ next
+  pub counted : r .size ≡ size + 1
+
+pub record LeafIs (before : List ℕ) (size : ℕ) (node : List ℕ) (next : ℕ) (after : List ℕ) (r : Part) : Type 0 where
+  pub part : PartIs before size node next after r
+  pub fitting : r .fits ≡ true
+  pub truthful : r .truth ≡ false
+
+pub record NegationIs (before : List ℕ) (t : Part) (after : List ℕ) (r : Part) : Type 0 where
+  pub part : PartIs before (t .size) (nodeBytes 19 (t .size - 1) 0 0 (pos 0)) (t .next) after r
+  pub fitting : r .fits ≡ (t .fits && t .truth)
+  pub truthful : r .truth ≡ true
+
+-- of the codes 16 and above an operator gives a truth, of 20 and above it takes truths
+pub record JoinIs (before : List ℕ) (code : ℕ) (a b : Part) (after : List ℕ) (r : Part) : Type 0 where
+  pub part : PartIs before (b .size) (nodeBytes code (a .size - 1) (b .size - 1) 0 (pos 0)) (b .next) after r
+  pub fitting : r .fits ≡ (a .fits && b .fits && pairFits (leb 20 code) (a .truth) (b .truth))
+  pub truthful : r .truth ≡ leb 16 code
+
+pub record ChoiceIs (before : List ℕ) (t a b : Part) (after : List ℕ) (r : Part) : Type 0 where
+  pub part : PartIs before (b .size) (nodeBytes 8 (t .size - 1) (a .size - 1) (b .size - 1) (pos 0)) (b .next) after r
+  pub fitting : r .fits ≡ (t .fits && a .fits && b .fits && t .truth && pairFits false (a .truth) (b .truth))
+  pub truthful : r .truth ≡ false
+
+-- ---- reading
+
+-- the grammar's operands that have no operand themselves
+abbrev pub leafAt : List ℕ → Out (Read Tree)
+leafAt s = caseOf (byte s 0) ((code "v", readVariable (drop 1 s)) ∷ (code "-", readNegative (drop 1 s)) ∷ []) (readPositive s)
+
+-- where a tree may begin: no more nodes are written than bytes are read
+pub record Placed (text : List ℕ) (at size : ℕ) : Type 0 where
+  pub inside : at ≤ length text
+  pub short : length text ≤ 256
+  pub few : size ≤ at
+
+-- a tree that was read from `at` on, its nodes written from node `size` on
+pub record ReadTree (text : List ℕ) (at size : ℕ) (before after : List ℕ) (m : Out (Read Tree)) (p : Part) : Type 0 where
+  pub tree : Tree
+  pub same : m ≡ read tree (drop (p .next) text)
+  pub counted : p .size ≡ size + nodeCount tree
+  pub fitting : p .fits ≡ fits tree
+  pub truthful : p .truth ≡ isTruth tree
+  pub written : after ≡ sets before (16 * size) (recordsOf (nodesFrom size tree))
+  pub onward : at < p .next
+  pub inside : p .next ≤ length text
+  pub few : p .size ≤ p .next
+
+abbrev pub Reads : List ℕ → ℕ → ℕ → List ℕ → List ℕ → Out (Read Tree) → Parsed → Type 0
+Reads text at size before after m (parsed.Tree p) = ReadTree text at size before after m p
+Reads text at size before after m parsed.Outside = m ≡ outside

@@ -1,0 +1,115 @@
+// Nodes written one behind the other, and what is told of the tree whose root is the last.
+ghost use mathlib.Core.Path.{_≡_};
+ghost use mathlib.Core.List.{_∷_};
+ghost use Prim.Native.Nat.{_+_, _*_, _≤_, _<_, _^_};
+ghost use Rattle.guards.specs.Trees.{pairFits};
+ghost use lib.IntN.{pos, negℤ};
+ghost use lib.Seq.{sets};
+ghost use Rattle.expressions.specs.Nodes.{nodeBytes};
+ghost use Rattle.guard_reader.specs.Parts.{LeafIs, NegationIs, JoinIs, ChoiceIs};
+use records::put_byte;
+use records::put_i32;
+use records::put_u16;
+use records::put_u32;
+
+// A tree that was read: the place behind it, the number of nodes written with it, whether all operands have the sort that their operator takes, and whether it is a
+// truth.
+pub struct Part {
+    pub next: usize,
+    pub size: u16,
+    pub fits: bool,
+    pub truth: bool,
+}
+
+// The record of node n.
+fn put_node(nodes: &mut [u8], n: u16, code: u8, a: u16, b: u16, c: u16, z: i32)
+    ensures { λ _. ⌜ now (nodes .exit) ≡ sets (now (nodes .entry)) (16 * n) (5 ∷ nodeBytes code a b c z) ⌝ }
+{
+    let at = 16 * (n as usize);
+    put_byte(nodes, at, 5);
+    put_byte(nodes, at + 1, code);
+    put_u16(nodes, at + 2, a);
+    put_u16(nodes, at + 4, b);
+    put_u16(nodes, at + 6, c);
+    put_i32(nodes, at + 8, z);
+    put_u32(nodes, at + 12, 0);
+}
+
+pub fn negative(n: u32) -> i32
+    requires { ⌜ n ≤ 2 ^ 31 ⌝ }
+    ensures { λ r. ⌜ r ≡ negℤ (pos n) ⌝ }
+{
+    (0 - (n as i64)) as i32
+}
+
+pub fn constant(nodes: &mut [u8], size: u16, z: i32, next: usize) -> Part
+    requires { ⌜ size ≤ 256 ⌝ }
+    ensures { λ r. ⌜ LeafIs (now (nodes .entry)) size (nodeBytes 1 0 0 0 z) next (now (nodes .exit)) r ⌝ }
+{
+    put_node(nodes, size, 1, 0, 0, 0, z);
+    Part {
+        next,
+        size: size + 1,
+        fits: true,
+        truth: false,
+    }
+}
+
+pub fn variable(nodes: &mut [u8], size: u16, v: u16, next: usize) -> Part
+    requires { ⌜ size ≤ 256 ⌝ }
+    ensures { λ r. ⌜ LeafIs (now (nodes .entry)) size (nodeBytes 2 v 0 0 (pos 0)) next (now (nodes .exit)) r ⌝ }
+{
+    put_node(nodes, size, 2, v, 0, 0, 0);
+    Part {
+        next,
+        size: size + 1,
+        fits: true,
+        truth: false,
+    }
+}
+
+pub fn negated(nodes: &mut [u8], t: Part) -> Part
+    requires { ⌜ (0 < t .size) × (t .size ≤ 256) ⌝ }
+    ensures { λ r. ⌜ NegationIs (now (nodes .entry)) t (now (nodes .exit)) r ⌝ }
+{
+    put_node(nodes, t.size, 19, t.size - 1, 0, 0, 0);
+    Part {
+        next: t.next,
+        size: t.size + 1,
+        fits: t.fits & t.truth,
+        truth: true,
+    }
+}
+
+fn pair_fits(truths: bool, x: bool, y: bool) -> bool
+    ensures { λ r. ⌜ r ≡ pairFits truths x y ⌝ }
+{
+    if truths { x & y } else { !x & !y }
+}
+
+// The operator of a code between two trees: of the codes 16 and above it gives a truth, of 20 and above it takes truths.
+pub fn joined(nodes: &mut [u8], code: u8, a: Part, b: Part) -> Part
+    requires { ⌜ (0 < a .size) × (0 < b .size) × (b .size ≤ 256) ⌝ }
+    ensures { λ r. ⌜ JoinIs (now (nodes .entry)) code a b (now (nodes .exit)) r ⌝ }
+{
+    put_node(nodes, b.size, code, a.size - 1, b.size - 1, 0, 0);
+    Part {
+        next: b.next,
+        size: b.size + 1,
+        fits: a.fits & b.fits & pair_fits(20 <= code, a.truth, b.truth),
+        truth: 16 <= code,
+    }
+}
+
+pub fn chosen(nodes: &mut [u8], t: Part, a: Part, b: Part) -> Part
+    requires { ⌜ (0 < t .size) × (0 < a .size) × (0 < b .size) × (b .size ≤ 256) ⌝ }
+    ensures { λ r. ⌜ ChoiceIs (now (nodes .entry)) t a b (now (nodes .exit)) r ⌝ }
+{
+    put_node(nodes, b.size, 8, t.size - 1, a.size - 1, b.size - 1, 0);
+    Part {
+        next: b.next,
+        size: b.size + 1,
+        fits: t.fits & a.fits & b.fits & t.truth & pair_fits(false, a.truth, b.truth),
+        truth: false,
+    }
+}
