@@ -1,17 +1,15 @@
 -- Of the code: nodes written one behind the other, and trees that were read. Assumes nothing: these are definitions.
 use mathlib.Core.Path.{_≡_}
 use mathlib.Core.Bool.{true, false, _&&_}
-use mathlib.Core.List.{List, [], _∷_}
+use mathlib.Core.List.{List, [], _∷_, _++_}
 use Prim.Native.Nat.{ℕ, _+_, _*_, _-_, _≤_, _<_}
 use Prim.Native.Char.{code}
 use lib.Dec.{leb}
-use lib.IntN.{pos}
 use lib.ListN.{length, drop}
 use lib.Seq.{sets}
 use Rattle.prelude.specs.Lists.{caseOf}
-use Rattle.records.specs.Bytes.{byte}
+use Rattle.records.specs.Bytes.{byte, bytes2, bytes4}
 use Rattle.records.specs.Refusal.{Out}
-use Rattle.expressions.specs.Nodes.{nodeBytes}
 use Rattle.guards.specs.Trees.{Tree, isTruth, fits, pairFits, nodeCount, nodesFrom, recordsOf}
 use Rattle.guards.specs.Grammar.{Read, read, outside, readVariable, readNegative, readPositive}
 use Rattle.guard_reader.specs.declared.trees.Part.{Part}
@@ -19,6 +17,10 @@ use Rattle.guard_reader.specs.declared.rules.Parsed.{Parsed}
 use Rattle.guard_reader.specs.declared.rules.Parsed.the-variants as parsed
 
 -- ---- a node written behind those of its operands, and the tree that it makes
+
+-- bytes 1 to 15 of a node's record, a constant given by its bits
+abbrev pub nodeBits : ℕ → ℕ → ℕ → ℕ → ℕ → List ℕ
+nodeBits code a b c bits = code ∷ bytes2 a ++ bytes2 b ++ bytes2 c ++ bytes4 bits ++ bytes4 0
 
 -- the record of node `size`, and what is told of its tree
 pub record PartIs (before : List ℕ) (size : ℕ) (node : List ℕ) (next : ℕ) (after : List ℕ) (r : Part) : Type 0 where
@@ -32,18 +34,18 @@ pub record LeafIs (before : List ℕ) (size : ℕ) (node : List ℕ) (next : ℕ
   pub truthful : r .truth ≡ false
 
 pub record NegationIs (before : List ℕ) (t : Part) (after : List ℕ) (r : Part) : Type 0 where
-  pub part : PartIs before (t .size) (nodeBytes 19 (t .size - 1) 0 0 (pos 0)) (t .next) after r
+  pub part : PartIs before (t .size) (nodeBits 19 (t .size - 1) 0 0 0) (t .next) after r
   pub fitting : r .fits ≡ (t .fits && t .truth)
   pub truthful : r .truth ≡ true
 
 -- of the codes 16 and above an operator gives a truth, of 20 and above it takes truths
 pub record JoinIs (before : List ℕ) (code : ℕ) (a b : Part) (after : List ℕ) (r : Part) : Type 0 where
-  pub part : PartIs before (b .size) (nodeBytes code (a .size - 1) (b .size - 1) 0 (pos 0)) (b .next) after r
+  pub part : PartIs before (b .size) (nodeBits code (a .size - 1) (b .size - 1) 0 0) (b .next) after r
   pub fitting : r .fits ≡ (a .fits && b .fits && pairFits (leb 20 code) (a .truth) (b .truth))
   pub truthful : r .truth ≡ leb 16 code
 
 pub record ChoiceIs (before : List ℕ) (t a b : Part) (after : List ℕ) (r : Part) : Type 0 where
-  pub part : PartIs before (b .size) (nodeBytes 8 (t .size - 1) (a .size - 1) (b .size - 1) (pos 0)) (b .next) after r
+  pub part : PartIs before (b .size) (nodeBits 8 (t .size - 1) (a .size - 1) (b .size - 1) 0) (b .next) after r
   pub fitting : r .fits ≡ (t .fits && a .fits && b .fits && t .truth && pairFits false (a .truth) (b .truth))
   pub truthful : r .truth ≡ false
 

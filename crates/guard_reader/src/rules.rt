@@ -38,7 +38,7 @@ fn leaf(text: &[u8], at: usize, nodes: &mut [u8], size: u16) -> Parsed
         return Parsed::Tree(constant(nodes, size, negative(n), next));
     }
     let Numeral::Value(n, next) = number_at(text, at, 2147483647) else { return Parsed::Outside; };
-    Parsed::Tree(constant(nodes, size, n as i32, next))
+    Parsed::Tree(constant(nodes, size, n, next))
 }
 
 fn operand(text: &[u8], at: usize, nodes: &mut [u8], size: u16) -> Parsed

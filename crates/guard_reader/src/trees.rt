@@ -5,10 +5,9 @@ ghost use Prim.Native.Nat.{_+_, _*_, _≤_, _<_, _^_};
 ghost use Rattle.guards.specs.Trees.{pairFits};
 ghost use lib.IntN.{pos, negℤ};
 ghost use lib.Seq.{sets};
-ghost use Rattle.expressions.specs.Nodes.{nodeBytes};
-ghost use Rattle.guard_reader.specs.Parts.{LeafIs, NegationIs, JoinIs, ChoiceIs};
+ghost use Rattle.records.specs.Bytes.{unsigned};
+ghost use Rattle.guard_reader.specs.Parts.{nodeBits, LeafIs, NegationIs, JoinIs, ChoiceIs};
 use records::put_byte;
-use records::put_i32;
 use records::put_u16;
 use records::put_u32;
 
@@ -21,9 +20,9 @@ pub struct Part {
     pub truth: bool,
 }
 
-// The record of node n.
-fn put_node(nodes: &mut [u8], n: u16, code: u8, a: u16, b: u16, c: u16, z: i32)
-    ensures { λ _. ⌜ now (nodes .exit) ≡ sets (now (nodes .entry)) (16 * n) (5 ∷ nodeBytes code a b c z) ⌝ }
+// The record of node n; a constant is given by its bits.
+fn put_node(nodes: &mut [u8], n: u16, code: u8, a: u16, b: u16, c: u16, bits: u32)
+    ensures { λ _. ⌜ now (nodes .exit) ≡ sets (now (nodes .entry)) (16 * n) (5 ∷ nodeBits code a b c bits) ⌝ }
 {
     let at = 16 * (n as usize);
     put_byte(nodes, at, 5);
@@ -31,22 +30,23 @@ fn put_node(nodes: &mut [u8], n: u16, code: u8, a: u16, b: u16, c: u16, z: i32)
     put_u16(nodes, at + 2, a);
     put_u16(nodes, at + 4, b);
     put_u16(nodes, at + 6, c);
-    put_i32(nodes, at + 8, z);
+    put_u32(nodes, at + 8, bits);
     put_u32(nodes, at + 12, 0);
 }
 
-pub fn negative(n: u32) -> i32
+// The bits of minus n.
+pub fn negative(n: u32) -> u32
     requires { ⌜ n ≤ 2 ^ 31 ⌝ }
-    ensures { λ r. ⌜ r ≡ negℤ (pos n) ⌝ }
+    ensures { λ r. ⌜ r ≡ unsigned (2 ^ 31) (negℤ (pos n)) ⌝ }
 {
-    (0 - (n as i64)) as i32
+    if n == 0 { 0 } else { 4294967295 - (n - 1) }
 }
 
-pub fn constant(nodes: &mut [u8], size: u16, z: i32, next: usize) -> Part
+pub fn constant(nodes: &mut [u8], size: u16, bits: u32, next: usize) -> Part
     requires { ⌜ size ≤ 256 ⌝ }
-    ensures { λ r. ⌜ LeafIs (now (nodes .entry)) size (nodeBytes 1 0 0 0 z) next (now (nodes .exit)) r ⌝ }
+    ensures { λ r. ⌜ LeafIs (now (nodes .entry)) size (nodeBits 1 0 0 0 bits) next (now (nodes .exit)) r ⌝ }
 {
-    put_node(nodes, size, 1, 0, 0, 0, z);
+    put_node(nodes, size, 1, 0, 0, 0, bits);
     Part {
         next,
         size: size + 1,
@@ -57,7 +57,7 @@ pub fn constant(nodes: &mut [u8], size: u16, z: i32, next: usize) -> Part
 
 pub fn variable(nodes: &mut [u8], size: u16, v: u16, next: usize) -> Part
     requires { ⌜ size ≤ 256 ⌝ }
-    ensures { λ r. ⌜ LeafIs (now (nodes .entry)) size (nodeBytes 2 v 0 0 (pos 0)) next (now (nodes .exit)) r ⌝ }
+    ensures { λ r. ⌜ LeafIs (now (nodes .entry)) size (nodeBits 2 v 0 0 0) next (now (nodes .exit)) r ⌝ }
 {
     put_node(nodes, size, 2, v, 0, 0, 0);
     Part {

@@ -1,94 +1,45 @@
+-- `trees::put_node` meets its contract: the record's fields one behind the other. Assumes nothing.
+use mathlib.Core.Path.{refl}
+use mathlib.Core.List.{[], _∷_}
+use Prim.Native.Nat.{_+_, _*_}
+use native.Mathlib.Omega.{arith}
+use Rattle.records.specs.Bytes.{bytes2, bytes4}
+use Rattle.records.specs.Wrote.{Wrote}
+use Rattle.records.proofs.Wrote.{wrote-then}
 use borrow.Author.Needs.{needs}
 use Rattle.guard_reader.proofs.trees.put_node.Statement.{statement}
 use Rattle.guard_reader.proofs.trees.put_node.Tie as tie
-use Rattle.guard_reader.proofs.trees.put_node.Reads as reads
-use Rattle.guard_reader.proofs.trees.put_node.Lts as lts
-use Rattle.records.proofs.put_byte.Reads as put-byte-reads
-use Rattle.records.proofs.put_i32.Reads as put-i32-reads
-use Rattle.records.proofs.put_u16.Reads as put-u16-reads
-use Rattle.records.proofs.put_u32.Reads as put-u32-reads
 
--- src/trees.rt:28:14
-mul-at : tie.Need-mul-at
-mul-at c = search needs
-
--- src/trees.rt:29:5
-put-byte-requires : tie.Need-put-byte-requires
-put-byte-requires c κs = search needs
-
--- src/trees.rt:30:21
-add-put-byte : tie.Need-add-put-byte
-add-put-byte c = search needs
-
--- src/trees.rt:30:5
-put-byte-requires-2 : tie.Need-put-byte-requires-2
-put-byte-requires-2 c κs = search needs
-
--- src/trees.rt:31:20
-add-put-u16 : tie.Need-add-put-u16
-add-put-u16 c = search needs
-
--- src/trees.rt:31:5
-put-u16-requires : tie.Need-put-u16-requires
-put-u16-requires c κs = search needs
-
--- src/trees.rt:32:20
-add-put-u16-2 : tie.Need-add-put-u16-2
-add-put-u16-2 c = search needs
-
--- src/trees.rt:32:5
-put-u16-requires-2 : tie.Need-put-u16-requires-2
-put-u16-requires-2 c κs = search needs
-
--- src/trees.rt:33:20
-add-put-u16-3 : tie.Need-add-put-u16-3
-add-put-u16-3 c = search needs
-
--- src/trees.rt:33:5
-put-u16-requires-3 : tie.Need-put-u16-requires-3
-put-u16-requires-3 c κs = search needs
-
--- src/trees.rt:34:20
-add-put-i32 : tie.Need-add-put-i32
-add-put-i32 c = search needs
-
--- src/trees.rt:34:5
-put-i32-requires : tie.Need-put-i32-requires
-put-i32-requires c κs = search needs
-
--- src/trees.rt:35:20
-add-put-u32 : tie.Need-add-put-u32
-add-put-u32 c = search needs
-
--- src/trees.rt:35:5
-put-u32-requires : tie.Need-put-u32-requires
-put-u32-requires c κs = search needs
-
--- src/trees.rt:25:1
-same-length : tie.Need-same-length
-same-length c = search needs
-
--- src/trees.rt:25:1
 returns : tie.Need-returns
-returns c = ?
+returns c =
+    let x = c .before .before .before .before .before .before .before .before .before .before .before .before .before .before .before .before .before .before .before .before .before .before .before .before .before .before .before .before .before .args in
+    let k = 16 * x .n in
+    let kind : Wrote (x .nodes .now) k (5 ∷ []) (c .before .before .before .before .before .before .before .before .before .before .before .before .before .before .before .before .before .before .before .before .before .before .before .before .before .before .put-byte .last .0) (k + 1) = record { behind = omega arith; written = c .before .before .before .before .before .before .before .before .before .before .before .before .before .before .before .before .before .before .before .before .before .before .before .before .before .before .put-byte .ensures } in
+    let code : Wrote (c .before .before .before .before .before .before .before .before .before .before .before .before .before .before .before .before .before .before .before .before .before .before .before .before .before .before .put-byte .last .0) (k + 1) (x .code ∷ []) (c .before .before .before .before .before .before .before .before .before .before .before .before .before .before .before .before .before .before .before .before .before .before .put-byte2 .last .0) (k + 2) = record { behind = omega arith; written = c .before .before .before .before .before .before .before .before .before .before .before .before .before .before .before .before .before .before .before .before .before .before .put-byte2 .ensures } in
+    let a : Wrote (c .before .before .before .before .before .before .before .before .before .before .before .before .before .before .before .before .before .before .before .before .before .before .put-byte2 .last .0) (k + 2) (bytes2 (x .a)) (c .before .before .before .before .before .before .before .before .before .before .before .before .before .before .before .before .before .before .put-u16 .last .0) (k + 4) = record { behind = omega arith; written = c .before .before .before .before .before .before .before .before .before .before .before .before .before .before .before .before .before .before .put-u16 .ensures } in
+    let b : Wrote (c .before .before .before .before .before .before .before .before .before .before .before .before .before .before .before .before .before .before .put-u16 .last .0) (k + 4) (bytes2 (x .b)) (c .before .before .before .before .before .before .before .before .before .before .before .before .before .before .put-u162 .last .0) (k + 6) = record { behind = omega arith; written = c .before .before .before .before .before .before .before .before .before .before .before .before .before .before .put-u162 .ensures } in
+    let third : Wrote (c .before .before .before .before .before .before .before .before .before .before .before .before .before .before .put-u162 .last .0) (k + 6) (bytes2 (x .c)) (c .before .before .before .before .before .before .before .before .before .before .put-u163 .last .0) (k + 8) = record { behind = omega arith; written = c .before .before .before .before .before .before .before .before .before .before .put-u163 .ensures } in
+    let bits : Wrote (c .before .before .before .before .before .before .before .before .before .before .put-u163 .last .0) (k + 8) (bytes4 (x .bits)) (c .before .before .before .before .before .before .put-u32 .last .0) (k + 12) = record { behind = omega arith; written = c .before .before .before .before .before .before .put-u32 .ensures } in
+    let unnamed : Wrote (c .before .before .before .before .before .before .put-u32 .last .0) (k + 12) (bytes4 0) (c .before .before .put-u322 .last .0) (k + 16) = record { behind = omega arith; written = c .before .before .put-u322 .ensures } in
+    wrote-then (wrote-then (wrote-then (wrote-then (wrote-then (wrote-then kind code) a) b) third) bits) unnamed .written
 
 pub put-node-spec : {M : Type 1} → statement M
 put-node-spec =
     tie.close
     (tie.spec
-    mul-at
-    put-byte-requires
-    add-put-byte
-    put-byte-requires-2
-    add-put-u16
-    put-u16-requires
-    add-put-u16-2
-    put-u16-requires-2
-    add-put-u16-3
-    put-u16-requires-3
-    add-put-i32
-    put-i32-requires
-    add-put-u32
-    put-u32-requires
-    same-length
+    (λ c. search needs)
+    (λ c κs. search needs)
+    (λ c. search needs)
+    (λ c κs. search needs)
+    (λ c. search needs)
+    (λ c κs. search needs)
+    (λ c. search needs)
+    (λ c κs. search needs)
+    (λ c. search needs)
+    (λ c κs. search needs)
+    (λ c. search needs)
+    (λ c κs. search needs)
+    (λ c. search needs)
+    (λ c κs. search needs)
+    (λ c. search needs)
     returns)
