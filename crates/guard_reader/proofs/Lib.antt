@@ -1,1 +1,2 @@
 pub mod FromPlace
+pub mod Leaves

@@ -62,16 +62,19 @@ pub record Placed (text : List ℕ) (at size : ℕ) : Type 0 where
   pub few : size ≤ at
 
 -- a tree that was read from `at` on, its nodes written from node `size` on
-pub record ReadTree (text : List ℕ) (at size : ℕ) (before after : List ℕ) (m : Out (Read Tree)) (p : Part) : Type 0 where
-  pub tree : Tree
-  pub same : m ≡ read tree (drop (p .next) text)
-  pub counted : p .size ≡ size + nodeCount tree
-  pub fitting : p .fits ≡ fits tree
-  pub truthful : p .truth ≡ isTruth tree
-  pub written : after ≡ sets before (16 * size) (recordsOf (nodesFrom size tree))
+pub record HasTree (text : List ℕ) (at size : ℕ) (before after : List ℕ) (t : Tree) (p : Part) : Type 0 where
+  pub counted : p .size ≡ size + nodeCount t
+  pub fitting : p .fits ≡ fits t
+  pub truthful : p .truth ≡ isTruth t
+  pub written : after ≡ sets before (16 * size) (recordsOf (nodesFrom size t))
   pub onward : at < p .next
   pub inside : p .next ≤ length text
   pub few : p .size ≤ p .next
+
+pub record ReadTree (text : List ℕ) (at size : ℕ) (before after : List ℕ) (m : Out (Read Tree)) (p : Part) : Type 0 where
+  pub tree : Tree
+  pub same : m ≡ read tree (drop (p .next) text)
+  pub has : HasTree text at size before after tree p
 
 abbrev pub Reads : List ℕ → ℕ → ℕ → List ℕ → List ℕ → Out (Read Tree) → Parsed → Type 0
 Reads text at size before after m (parsed.Tree p) = ReadTree text at size before after m p
