@@ -1,2 +1,4 @@
 pub mod FromPlace
 pub mod Leaves
+pub mod PartTrees
+pub mod GrammarSteps

@@ -69,7 +69,7 @@ pub record HasTree (text : List ℕ) (at size : ℕ) (before after : List ℕ) (
   pub written : after ≡ sets before (16 * size) (recordsOf (nodesFrom size t))
   pub onward : at < p .next
   pub inside : p .next ≤ length text
-  pub few : p .size ≤ p .next
+  pub few : p .size + at ≤ p .next + size
 
 pub record ReadTree (text : List ℕ) (at size : ℕ) (before after : List ℕ) (m : Out (Read Tree)) (p : Part) : Type 0 where
   pub tree : Tree

@@ -46,7 +46,11 @@ pub fn past(text: &[u8], at: usize, mark: u8) -> Place
     ensures { λ r. ⌜ FindsMark (now (text .entry)) at mark r ⌝ }
 {
     let i = skip(text, at);
-    if byte_at(text, i) == mark { Place::At(i + 1) } else { Place::Missing }
+    if byte_at(text, i) == mark {
+        Place::At(i + 1)
+    } else {
+        Place::Missing
+    }
 }
 
 fn is_digit(b: u8) -> bool
@@ -96,16 +100,88 @@ fn sign_by(a: u8, b: u8, at: usize) -> Sign
     ensures { λ r. ⌜ SignIs (operatorBy a b) at r ⌝ }
 {
     match a {
-        42 => Sign { code: 5, level: 2, next: at + 1 },
-        47 => Sign { code: 6, level: 2, next: at + 1 },
-        37 => Sign { code: 7, level: 2, next: at + 1 },
-        43 => Sign { code: 3, level: 3, next: at + 1 },
-        45 => Sign { code: 4, level: 3, next: at + 1 },
-        60 => if b == 61 { Sign { code: 18, level: 4, next: at + 2 } } else { Sign { code: 17, level: 4, next: at + 1 } },
-        61 => if b == 61 { Sign { code: 16, level: 4, next: at + 2 } } else { Sign { code: 0, level: 255, next: at } },
-        38 => if b == 38 { Sign { code: 20, level: 5, next: at + 2 } } else { Sign { code: 0, level: 255, next: at } },
-        124 => if b == 124 { Sign { code: 21, level: 6, next: at + 2 } } else { Sign { code: 0, level: 255, next: at } },
-        _ => Sign { code: 0, level: 255, next: at },
+        42 => Sign {
+            code: 5,
+            level: 2,
+            next: at + 1,
+        },
+        47 => Sign {
+            code: 6,
+            level: 2,
+            next: at + 1,
+        },
+        37 => Sign {
+            code: 7,
+            level: 2,
+            next: at + 1,
+        },
+        43 => Sign {
+            code: 3,
+            level: 3,
+            next: at + 1,
+        },
+        45 => Sign {
+            code: 4,
+            level: 3,
+            next: at + 1,
+        },
+        60 => if b == 61 {
+            Sign {
+                code: 18,
+                level: 4,
+                next: at + 2,
+            }
+        } else {
+            Sign {
+                code: 17,
+                level: 4,
+                next: at + 1,
+            }
+        },
+        61 => if b == 61 {
+            Sign {
+                code: 16,
+                level: 4,
+                next: at + 2,
+            }
+        } else {
+            Sign {
+                code: 0,
+                level: 255,
+                next: at,
+            }
+        },
+        38 => if b == 38 {
+            Sign {
+                code: 20,
+                level: 5,
+                next: at + 2,
+            }
+        } else {
+            Sign {
+                code: 0,
+                level: 255,
+                next: at,
+            }
+        },
+        124 => if b == 124 {
+            Sign {
+                code: 21,
+                level: 6,
+                next: at + 2,
+            }
+        } else {
+            Sign {
+                code: 0,
+                level: 255,
+                next: at,
+            }
+        },
+        _ => Sign {
+            code: 0,
+            level: 255,
+            next: at,
+        },
     }
 }
 

@@ -30,14 +30,20 @@ fn leaf(text: &[u8], at: usize, nodes: &mut [u8], size: u16) -> Parsed
 {
     let b = byte_at(text, at);
     if b == 118 {
-        let Numeral::Value(n, next) = number_at(text, at + 1, 63) else { return Parsed::Outside; };
+        let Numeral::Value(n, next) = number_at(text, at + 1, 63) else {
+            return Parsed::Outside;
+        };
         return Parsed::Tree(variable(nodes, size, n as u16, next));
     }
     if b == 45 {
-        let Numeral::Value(n, next) = number_at(text, at + 1, 2147483648) else { return Parsed::Outside; };
+        let Numeral::Value(n, next) = number_at(text, at + 1, 2147483648) else {
+            return Parsed::Outside;
+        };
         return Parsed::Tree(constant(nodes, size, negative(n), next));
     }
-    let Numeral::Value(n, next) = number_at(text, at, 2147483647) else { return Parsed::Outside; };
+    let Numeral::Value(n, next) = number_at(text, at, 2147483647) else {
+        return Parsed::Outside;
+    };
     Parsed::Tree(constant(nodes, size, n, next))
 }
 
@@ -48,8 +54,12 @@ fn operand(text: &[u8], at: usize, nodes: &mut [u8], size: u16) -> Parsed
     let i = skip(text, at);
     let b = byte_at(text, i);
     if b == 40 {
-        let Parsed::Tree(t) = choice(text, i + 1, nodes, size) else { return Parsed::Outside; };
-        let Place::At(next) = past(text, t.next, 41) else { return Parsed::Outside; };
+        let Parsed::Tree(t) = choice(text, i + 1, nodes, size) else {
+            return Parsed::Outside;
+        };
+        let Place::At(next) = past(text, t.next, 41) else {
+            return Parsed::Outside;
+        };
         return Parsed::Tree(Part {
             next,
             size: t.size,
@@ -58,7 +68,9 @@ fn operand(text: &[u8], at: usize, nodes: &mut [u8], size: u16) -> Parsed
         });
     }
     if b == 33 {
-        let Parsed::Tree(t) = operand(text, i + 1, nodes, size) else { return Parsed::Outside; };
+        let Parsed::Tree(t) = operand(text, i + 1, nodes, size) else {
+            return Parsed::Outside;
+        };
         return Parsed::Tree(negated(nodes, t));
     }
     leaf(text, i, nodes, size)
@@ -69,7 +81,9 @@ fn binary(text: &[u8], at: usize, k: u8, nodes: &mut [u8], size: u16) -> Parsed
     requires { ⌜ Placed (now text) at size × (k ≤ 7) ⌝ }
     ensures { λ r. ⌜ ((d : ℕ) → 3 * (length (now (text .entry)) - at) + 2 ≤ d → Reads (now (text .entry)) at size (now (nodes .entry)) (now (nodes .exit)) (binaryAt d k (drop at (now (text .entry)))) r) ⌝ }
 {
-    let Parsed::Tree(first) = operand(text, at, nodes, size) else { return Parsed::Outside; };
+    let Parsed::Tree(first) = operand(text, at, nodes, size) else {
+        return Parsed::Outside;
+    };
     let mut left = first;
     loop {
         let i = skip(text, left.next);
@@ -77,7 +91,9 @@ fn binary(text: &[u8], at: usize, k: u8, nodes: &mut [u8], size: u16) -> Parsed
         if k < s.level {
             return Parsed::Tree(left);
         }
-        let Parsed::Tree(right) = binary(text, s.next, s.level - 1, nodes, left.size) else { return Parsed::Outside; };
+        let Parsed::Tree(right) = binary(text, s.next, s.level - 1, nodes, left.size) else {
+            return Parsed::Outside;
+        };
         left = joined(nodes, s.code, left, right);
     }
 }
@@ -86,10 +102,20 @@ pub fn choice(text: &[u8], at: usize, nodes: &mut [u8], size: u16) -> Parsed
     requires { ⌜ Placed (now text) at size ⌝ }
     ensures { λ r. ⌜ ((d : ℕ) → 3 * (length (now (text .entry)) - at) + 3 ≤ d → Reads (now (text .entry)) at size (now (nodes .entry)) (now (nodes .exit)) (choiceAt d (drop at (now (text .entry)))) r) ⌝ }
 {
-    let Parsed::Tree(t) = binary(text, at, 6, nodes, size) else { return Parsed::Outside; };
-    let Place::At(i) = past(text, t.next, 63) else { return Parsed::Tree(t); };
-    let Parsed::Tree(a) = choice(text, i, nodes, t.size) else { return Parsed::Outside; };
-    let Place::At(j) = past(text, a.next, 58) else { return Parsed::Outside; };
-    let Parsed::Tree(b) = choice(text, j, nodes, a.size) else { return Parsed::Outside; };
+    let Parsed::Tree(t) = binary(text, at, 6, nodes, size) else {
+        return Parsed::Outside;
+    };
+    let Place::At(i) = past(text, t.next, 63) else {
+        return Parsed::Tree(t);
+    };
+    let Parsed::Tree(a) = choice(text, i, nodes, t.size) else {
+        return Parsed::Outside;
+    };
+    let Place::At(j) = past(text, a.next, 58) else {
+        return Parsed::Outside;
+    };
+    let Parsed::Tree(b) = choice(text, j, nodes, a.size) else {
+        return Parsed::Outside;
+    };
     Parsed::Tree(chosen(nodes, t, a, b))
 }
