@@ -2,3 +2,4 @@ pub mod FromPlace
 pub mod Leaves
 pub mod PartTrees
 pub mod GrammarSteps
+pub mod Readings

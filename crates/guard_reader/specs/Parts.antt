@@ -71,11 +71,22 @@ pub record HasTree (text : List ℕ) (at size : ℕ) (before after : List ℕ) (
   pub inside : p .next ≤ length text
   pub few : p .size + at ≤ p .next + size
 
-pub record ReadTree (text : List ℕ) (at size : ℕ) (before after : List ℕ) (m : Out (Read Tree)) (p : Part) : Type 0 where
+-- A rule of the grammar at every depth from `least` on: it gives the tree, or it refuses.
+pub record ReadTree (text : List ℕ) (at size : ℕ) (before after : List ℕ) (least : ℕ) (rule : ℕ → Out (Read Tree)) (p : Part) : Type 0 where
   pub tree : Tree
-  pub same : m ≡ read tree (drop (p .next) text)
+  pub same : (d : ℕ) → least ≤ d → rule d ≡ read tree (drop (p .next) text)
   pub has : HasTree text at size before after tree p
 
-abbrev pub Reads : List ℕ → ℕ → ℕ → List ℕ → List ℕ → Out (Read Tree) → Parsed → Type 0
-Reads text at size before after m (parsed.Tree p) = ReadTree text at size before after m p
-Reads text at size before after m parsed.Outside = m ≡ outside
+abbrev pub Reads : List ℕ → ℕ → ℕ → List ℕ → List ℕ → ℕ → (ℕ → Out (Read Tree)) → Parsed → Type 0
+Reads text at size before after least rule (parsed.Tree p) = ReadTree text at size before after least rule p
+Reads text at size before after least rule parsed.Outside = (d : ℕ) → least ≤ d → rule d ≡ outside
+
+-- depths that are enough for a rule with so many bytes to go
+abbrev pub operandDepth : ℕ → ℕ
+operandDepth n = 3 * n + 1
+
+abbrev pub binaryDepth : ℕ → ℕ
+binaryDepth n = 3 * n + 2
+
+abbrev pub choiceDepth : ℕ → ℕ
+choiceDepth n = 3 * n + 3

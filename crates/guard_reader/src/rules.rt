@@ -1,8 +1,8 @@
 // The rules of the grammar: a function for each.
-ghost use Prim.Native.Nat.{ℕ, _+_, _*_, _-_, _≤_};
+ghost use Prim.Native.Nat.{_-_, _≤_};
 ghost use lib.ListN.{length, drop};
 ghost use Rattle.guards.specs.Grammar.{choiceAt, binaryAt, operandAt};
-ghost use Rattle.guard_reader.specs.Parts.{Reads, Placed, leafAt};
+ghost use Rattle.guard_reader.specs.Parts.{Reads, Placed, leafAt, operandDepth, binaryDepth, choiceDepth};
 use super::lexemes::Numeral;
 use super::lexemes::Place;
 use super::lexemes::number_at;
@@ -26,7 +26,7 @@ pub enum Parsed {
 // A variable or a constant, at a place that has no space.
 fn leaf(text: &[u8], at: usize, nodes: &mut [u8], size: u16) -> Parsed
     requires { ⌜ Placed (now text) at size ⌝ }
-    ensures { λ r. ⌜ Reads (now (text .entry)) at size (now (nodes .entry)) (now (nodes .exit)) (leafAt (drop at (now (text .entry)))) r ⌝ }
+    ensures { λ r. ⌜ Reads (now (text .entry)) at size (now (nodes .entry)) (now (nodes .exit)) 0 (λ d. leafAt (drop at (now (text .entry)))) r ⌝ }
 {
     let b = byte_at(text, at);
     if b == 118 {
@@ -49,7 +49,7 @@ fn leaf(text: &[u8], at: usize, nodes: &mut [u8], size: u16) -> Parsed
 
 fn operand(text: &[u8], at: usize, nodes: &mut [u8], size: u16) -> Parsed
     requires { ⌜ Placed (now text) at size ⌝ }
-    ensures { λ r. ⌜ ((d : ℕ) → 3 * (length (now (text .entry)) - at) + 1 ≤ d → Reads (now (text .entry)) at size (now (nodes .entry)) (now (nodes .exit)) (operandAt d (drop at (now (text .entry)))) r) ⌝ }
+    ensures { λ r. ⌜ Reads (now (text .entry)) at size (now (nodes .entry)) (now (nodes .exit)) (operandDepth (length (now (text .entry)) - at)) (λ d. operandAt d (drop at (now (text .entry)))) r ⌝ }
 {
     let i = skip(text, at);
     let b = byte_at(text, i);
@@ -79,7 +79,7 @@ fn operand(text: &[u8], at: usize, nodes: &mut [u8], size: u16) -> Parsed
 // Operators of levels up to k with their operands.
 fn binary(text: &[u8], at: usize, k: u8, nodes: &mut [u8], size: u16) -> Parsed
     requires { ⌜ Placed (now text) at size × (k ≤ 7) ⌝ }
-    ensures { λ r. ⌜ ((d : ℕ) → 3 * (length (now (text .entry)) - at) + 2 ≤ d → Reads (now (text .entry)) at size (now (nodes .entry)) (now (nodes .exit)) (binaryAt d k (drop at (now (text .entry)))) r) ⌝ }
+    ensures { λ r. ⌜ Reads (now (text .entry)) at size (now (nodes .entry)) (now (nodes .exit)) (binaryDepth (length (now (text .entry)) - at)) (λ d. binaryAt d k (drop at (now (text .entry)))) r ⌝ }
 {
     let Parsed::Tree(first) = operand(text, at, nodes, size) else {
         return Parsed::Outside;
@@ -100,7 +100,7 @@ fn binary(text: &[u8], at: usize, k: u8, nodes: &mut [u8], size: u16) -> Parsed
 
 pub fn choice(text: &[u8], at: usize, nodes: &mut [u8], size: u16) -> Parsed
     requires { ⌜ Placed (now text) at size ⌝ }
-    ensures { λ r. ⌜ ((d : ℕ) → 3 * (length (now (text .entry)) - at) + 3 ≤ d → Reads (now (text .entry)) at size (now (nodes .entry)) (now (nodes .exit)) (choiceAt d (drop at (now (text .entry)))) r) ⌝ }
+    ensures { λ r. ⌜ Reads (now (text .entry)) at size (now (nodes .entry)) (now (nodes .exit)) (choiceDepth (length (now (text .entry)) - at)) (λ d. choiceAt d (drop at (now (text .entry)))) r ⌝ }
 {
     let Parsed::Tree(t) = binary(text, at, 6, nodes, size) else {
         return Parsed::Outside;

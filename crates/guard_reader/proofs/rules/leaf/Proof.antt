@@ -23,7 +23,7 @@ number-at-requires c κs =
 returns : tie.Need-returns
 returns c =
     let x = c .before .before .before .before .before .before .before .args in
-    is-variable (x .text .now) (x .at) (sym (c .before .before .before .before .byte-at .ensures) ∙ c .before .before .before .if1 .taken)
+    λ d _. is-variable (x .text .now) (x .at) (sym (c .before .before .before .before .byte-at .ensures) ∙ c .before .before .before .if1 .taken)
     ∙ ap (λ o. o >>= λ n. read (variable (n .got)) (n .rest)) (no-number (x .text .now) (x .at + 1) 63 (c .before .before .number-at .result) (c .before .before .number-at .ensures) (c .enum-told .given .1))
 
 cast-variable : tie.Need-cast-variable
@@ -42,7 +42,7 @@ returns-2 c =
     let on : x .at + 1 + 1 ≤ g .0 .1 .0 = r .onward in
     record {
       tree = variable (g .0 .0);
-      same = is-variable (x .text .now) (x .at) (sym (c .before .before .before .before .before .before .before .before .before .byte-at .ensures) ∙ c .before .before .before .before .before .before .before .before .if1 .taken) ∙ ap (λ o. o >>= λ n. read (variable (n .got)) (n .rest)) (r .same) ∙ ap (λ k. read (variable (g .0 .0)) (drop k (x .text .now))) (sym (c .before .before .variable .ensures .part .behind));
+      same = λ d _. is-variable (x .text .now) (x .at) (sym (c .before .before .before .before .before .before .before .before .before .byte-at .ensures) ∙ c .before .before .before .before .before .before .before .before .if1 .taken) ∙ ap (λ o. o >>= λ n. read (variable (n .got)) (n .rest)) (r .same) ∙ ap (λ k. read (variable (g .0 .0)) (drop k (x .text .now))) (sym (c .before .before .variable .ensures .part .behind));
       has = variable-tree (c .before .before .before .before .before .before .before .before .before .before .before .before .pre .few) (omega arith) (r .inside) (g .0 .0) (c .before .before .variable .ensures);
     }
 
@@ -55,7 +55,7 @@ number-at-requires-2 c κs =
 returns-3 : tie.Need-returns-3
 returns-3 c =
     let x = c .before .before .before .before .before .before .before .before .args in
-    is-negative (x .text .now) (x .at) (sym (c .before .before .before .before .before .byte-at .ensures) ∙ c .before .before .before .if2 .taken)
+    λ d _. is-negative (x .text .now) (x .at) (sym (c .before .before .before .before .before .byte-at .ensures) ∙ c .before .before .before .if2 .taken)
     ∙ ap (λ o. o >>= λ n. read (constant (negℤ (pos (n .got)))) (n .rest)) (no-number (x .text .now) (x .at + 1) 2147483648 (c .before .before .number-at2 .result) (c .before .before .number-at2 .ensures) (c .enum-told2 .given .1))
 
 negative-requires : tie.Need-negative-requires
@@ -72,7 +72,7 @@ returns-4 c =
     let on : x .at + 1 + 1 ≤ g .0 .1 .0 = r .onward in
     record {
       tree = constant (negℤ (pos (g .0 .0)));
-      same = is-negative (x .text .now) (x .at) (sym (c .before .before .before .before .before .before .before .before .before .before .before .byte-at .ensures) ∙ c .before .before .before .before .before .before .before .before .before .if2 .taken) ∙ ap (λ o. o >>= λ n. read (constant (negℤ (pos (n .got)))) (n .rest)) (r .same) ∙ ap (λ k. read (constant (negℤ (pos (g .0 .0)))) (drop k (x .text .now))) (sym (c .before .before .constant .ensures .part .behind));
+      same = λ d _. is-negative (x .text .now) (x .at) (sym (c .before .before .before .before .before .before .before .before .before .before .before .byte-at .ensures) ∙ c .before .before .before .before .before .before .before .before .before .if2 .taken) ∙ ap (λ o. o >>= λ n. read (constant (negℤ (pos (n .got)))) (n .rest)) (r .same) ∙ ap (λ k. read (constant (negℤ (pos (g .0 .0)))) (drop k (x .text .now))) (sym (c .before .before .constant .ensures .part .behind));
       has = constant-tree (c .before .before .before .before .before .before .before .before .before .before .before .before .before .before .pre .few) (omega arith) (r .inside) (negℤ (pos (g .0 .0))) (c .before .before .before .negative .result) (c .before .before .before .negative .ensures) (c .before .before .constant .ensures);
     }
 
@@ -80,7 +80,7 @@ returns-5 : tie.Need-returns-5
 returns-5 c =
     let x = c .before .before .before .before .before .before .before .before .args in
     let first = c .before .before .before .before .before .byte-at .ensures in
-    is-positive (x .text .now) (x .at) (λ e. c .before .before .before .before .if1 .left (first ∙ e)) (λ e. c .before .before .before .if2 .left (first ∙ e))
+    λ d _. is-positive (x .text .now) (x .at) (λ e. c .before .before .before .before .if1 .left (first ∙ e)) (λ e. c .before .before .before .if2 .left (first ∙ e))
     ∙ ap (λ o. o >>= λ n. read (constant (pos (n .got))) (n .rest)) (no-number (x .text .now) (x .at) 2147483647 (c .before .before .number-at3 .result) (c .before .before .number-at3 .ensures) (c .enum-told3 .given .1))
 
 returns-6 : tie.Need-returns-6
@@ -92,7 +92,7 @@ returns-6 c =
     let on : x .at + 1 ≤ g .0 .1 .0 = r .onward in
     record {
       tree = constant (pos (g .0 .0));
-      same = is-positive (x .text .now) (x .at) (λ e. c .before .before .before .before .before .before .before .before .before .if1 .left (first ∙ e)) (λ e. c .before .before .before .before .before .before .before .before .if2 .left (first ∙ e)) ∙ ap (λ o. o >>= λ n. read (constant (pos (n .got))) (n .rest)) (r .same) ∙ ap (λ k. read (constant (pos (g .0 .0))) (drop k (x .text .now))) (sym (c .before .before .constant2 .ensures .part .behind));
+      same = λ d _. is-positive (x .text .now) (x .at) (λ e. c .before .before .before .before .before .before .before .before .before .if1 .left (first ∙ e)) (λ e. c .before .before .before .before .before .before .before .before .if2 .left (first ∙ e)) ∙ ap (λ o. o >>= λ n. read (constant (pos (n .got))) (n .rest)) (r .same) ∙ ap (λ k. read (constant (pos (g .0 .0))) (drop k (x .text .now))) (sym (c .before .before .constant2 .ensures .part .behind));
       has = constant-tree (c .before .before .before .before .before .before .before .before .before .before .before .before .before .pre .few) (omega arith) (r .inside) (pos (g .0 .0)) (g .0 .0) refl (c .before .before .constant2 .ensures);
     }
 
