@@ -6,7 +6,7 @@ use Prim.Native.Nat.{ℕ, suc, _+_, _-_, _*_, _≤_, _<_}
 use native.Mathlib.Omega.{arith}
 use lib.Dec.{leb}
 use lib.ListN.{length, length-append}
-use lib.Seq.{sets}
+use lib.Seq.{sets, length-sets}
 use Rattle.prelude.specs.Lists.{gather}
 use Rattle.prelude.proofs.Lists.{gather-append}
 use Rattle.prelude.proofs.Gathered.{gather-one}
@@ -15,7 +15,7 @@ use Rattle.records.proofs.Wrote.{wrote-then}
 use Rattle.arithmetic.specs.Operators.{Arithmetic, sum, difference, product, quotient, remainder, Comparison, equal, less, at-most}
 use Rattle.expressions.specs.Nodes as N
 use Rattle.expressions.specs.Nodes.{Node}
-use Rattle.guards.specs.Trees.{Binary, arithmetic, comparison, both, either, Tree, constant, variable, negation, binary, choice, isTruth, givesTruth, takesTruths, fits, pairFits, nodeCount, nodesFrom, binaryNode, nodeRecord, recordsOf}
+use Rattle.guards.specs.Trees.{Binary, arithmetic, comparison, both, either, Tree, constant, variable, negation, binary, choice, binaryLevel, isTruth, givesTruth, takesTruths, fits, pairFits, nodeCount, nodesFrom, binaryNode, nodeRecord, recordsOf}
 use Rattle.guard_reader.specs.Places.{binaryCode}
 use Rattle.guard_reader.specs.Parts.{nodeBits, PartIs, NegationIs, JoinIs, ChoiceIs, HasTree}
 use Rattle.guard_reader.specs.declared.trees.Part.{Part}
@@ -53,6 +53,19 @@ length-nodesFrom n (choice t a b) =
     let g = length-nodesFrom (n + nodeCount t + nodeCount a) b in
     simp length-append (omega arith)
 
+arithmeticLevel-least : (o : Arithmetic) → 2 ≤ binaryLevel (arithmetic o)
+arithmeticLevel-least sum = omega arith
+arithmeticLevel-least difference = omega arith
+arithmeticLevel-least product = omega arith
+arithmeticLevel-least quotient = omega arith
+arithmeticLevel-least remainder = omega arith
+
+pub binaryLevel-least : (o : Binary) → 2 ≤ binaryLevel o
+binaryLevel-least (arithmetic o) = arithmeticLevel-least o
+binaryLevel-least (comparison o) = omega arith
+binaryLevel-least both = omega arith
+binaryLevel-least either = omega arith
+
 pub nodeCount-positive : (t : Tree) → 0 < nodeCount t
 unfolding nodeCount
 nodeCount-positive (constant z) = omega arith
@@ -72,6 +85,9 @@ module _ {text : List ℕ} {at size : ℕ} {before after : List ℕ} {t : Tree} 
         omega arith;
     written = h .written;
   }
+
+  pub tree-length : length after ≡ length before
+  tree-length = ap length (h .written) ∙ length-sets before (16 * size) (recordsOf (nodesFrom size t))
 
   pub tree-positive : size < p .size
   tree-positive = let c : p .size ≡ size + nodeCount t = h .counted in let n : 0 < nodeCount t = nodeCount-positive t in omega arith
