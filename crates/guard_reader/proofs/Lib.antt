@@ -3,3 +3,4 @@ pub mod Leaves
 pub mod PartTrees
 pub mod GrammarSteps
 pub mod Readings
+pub mod WholeLines

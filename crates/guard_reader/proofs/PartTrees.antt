@@ -33,12 +33,12 @@ length-record (N.both a b) = refl
 length-record (N.either a b) = refl
 length-record N.unknown = refl
 
-length-recordsOf : (xs : List Node) → length (recordsOf xs) ≡ 16 * length xs
+pub length-recordsOf : (xs : List Node) → length (recordsOf xs) ≡ 16 * length xs
 unfolding gather
 length-recordsOf [] = refl
 length-recordsOf (x ∷ xs) = length-append (nodeRecord x) (recordsOf xs) ∙ (let e : length (nodeRecord x) ≡ 16 = length-record x in let f : length (recordsOf xs) ≡ 16 * length xs = length-recordsOf xs in omega arith)
 
-length-nodesFrom : (n : ℕ) (t : Tree) → length (nodesFrom n t) ≡ nodeCount t
+pub length-nodesFrom : (n : ℕ) (t : Tree) → length (nodesFrom n t) ≡ nodeCount t
 unfolding nodesFrom nodeCount
 length-nodesFrom n (constant z) = refl
 length-nodesFrom n (variable v) = refl
