@@ -1,0 +1,90 @@
+-- Nodes written as records are read back, wherever they stand in the list. Assumes nothing.
+use mathlib.Core.Path.{_≡_, refl, ap, _∙_}
+use mathlib.Core.List.{List, [], _∷_, _++_, append-assoc}
+use Prim.Native.Nat.{ℕ, zero, suc, _+_, _*_, _^_, _<_}
+use native.Mathlib.Omega.{arith}
+use lib.ListN.{length, drop, length-append}
+use lib.Seq.{drop-append-add}
+use lib.IntN.{ℤ, pos}
+use lib.Signed.{mag}
+use Rattle.prelude.specs.Lists.{gather}
+use Rattle.arithmetic.specs.Operators.{Arithmetic, sum, difference, product, quotient, remainder, Comparison, equal, less, at-most}
+use Rattle.expressions.specs.Nodes.{Node, constant, variable, arithmetic, choice, comparison, negation, both, either, unknown, nodeBy, readNode, nodeOf, nodeAt, nodeBytes, Nodes}
+use Rattle.guards.specs.Trees.{nodeRecord, recordsOf}
+use Rattle.records.proofs.RoundTrips.{two-bytes2, four±-bytes4±}
+
+-- a node that a record can hold: its numbers have 16 bits, its constant 32
+abbrev Numbers : ℕ → ℕ → Type 0
+Numbers a b = (a < 2 ^ 16) × (b < 2 ^ 16)
+
+abbrev pub Recordable : Node → Type 0
+Recordable (constant z) = mag z < 2 ^ 31
+Recordable (variable v) = v < 2 ^ 16
+Recordable (arithmetic o a b) = Numbers a b
+Recordable (choice t a b) = (t < 2 ^ 16) × (a < 2 ^ 16) × (b < 2 ^ 16)
+Recordable (comparison o a b) = Numbers a b
+Recordable (negation a) = a < 2 ^ 16
+Recordable (both a b) = Numbers a b
+Recordable (either a b) = Numbers a b
+Recordable unknown = Unit
+
+abbrev pub AllRecordable : List Node → Type 0
+AllRecordable [] = Unit
+AllRecordable (x ∷ xs) = Recordable x × AllRecordable xs
+
+pub recordable-append : (xs ys : List Node) → AllRecordable xs → AllRecordable ys → AllRecordable (xs ++ ys)
+recordable-append [] ys p q = q
+recordable-append (x ∷ xs) ys p q = (p .0, recordable-append xs ys (p .1) q)
+
+-- ---- one record
+
+fields : (op a b c : ℕ) (z : ℤ) (r : List ℕ) → a < 2 ^ 16 → b < 2 ^ 16 → c < 2 ^ 16 → mag z < 2 ^ 31 →
+    readNode ((5 ∷ nodeBytes op a b c z) ++ r) ≡ nodeBy op a b c z
+fields op a b c z r la lb lc lz = λ i. nodeBy op (two-bytes2 a la i) (two-bytes2 b lb i) (two-bytes2 c lc i) (four±-bytes4± z lz i)
+
+pub node-back : (x : Node) (r : List ℕ) → Recordable x → readNode (nodeRecord x ++ r) ≡ x
+unfolding Nodes
+node-back (constant z) r h = fields 1 0 0 0 z r (omega arith) (omega arith) (omega arith) h
+node-back (variable v) r h = fields 2 v 0 0 (pos 0) r h (omega arith) (omega arith) (omega arith)
+node-back (arithmetic sum a b) r h = fields 3 a b 0 (pos 0) r (h .0) (h .1) (omega arith) (omega arith)
+node-back (arithmetic difference a b) r h = fields 4 a b 0 (pos 0) r (h .0) (h .1) (omega arith) (omega arith)
+node-back (arithmetic product a b) r h = fields 5 a b 0 (pos 0) r (h .0) (h .1) (omega arith) (omega arith)
+node-back (arithmetic quotient a b) r h = fields 6 a b 0 (pos 0) r (h .0) (h .1) (omega arith) (omega arith)
+node-back (arithmetic remainder a b) r h = fields 7 a b 0 (pos 0) r (h .0) (h .1) (omega arith) (omega arith)
+node-back (choice t a b) r h = fields 8 t a b (pos 0) r (h .0) (h .1) (h .2) (omega arith)
+node-back (comparison equal a b) r h = fields 16 a b 0 (pos 0) r (h .0) (h .1) (omega arith) (omega arith)
+node-back (comparison less a b) r h = fields 17 a b 0 (pos 0) r (h .0) (h .1) (omega arith) (omega arith)
+node-back (comparison at-most a b) r h = fields 18 a b 0 (pos 0) r (h .0) (h .1) (omega arith) (omega arith)
+node-back (negation a) r h = fields 19 a 0 0 (pos 0) r h (omega arith) (omega arith) (omega arith)
+node-back (both a b) r h = fields 20 a b 0 (pos 0) r (h .0) (h .1) (omega arith) (omega arith)
+node-back (either a b) r h = fields 21 a b 0 (pos 0) r (h .0) (h .1) (omega arith) (omega arith)
+node-back unknown r h = fields 0 0 0 0 (pos 0) r (omega arith) (omega arith) (omega arith) (omega arith)
+
+-- ---- a list of them
+
+pub record-length : (x : Node) → length (nodeRecord x) ≡ 16
+record-length (constant z) = refl
+record-length (variable v) = refl
+record-length (arithmetic o a b) = refl
+record-length (choice t a b) = refl
+record-length (comparison o a b) = refl
+record-length (negation a) = refl
+record-length (both a b) = refl
+record-length (either a b) = refl
+record-length unknown = refl
+
+pub records-length : (xs : List Node) → length (recordsOf xs) ≡ 16 * length xs
+unfolding gather
+records-length [] = refl
+records-length (x ∷ xs) = let h : length (recordsOf xs) ≡ 16 * length xs = records-length xs in length-append (nodeRecord x) (recordsOf xs) ∙ omega (arith, record-length x)
+
+pub nodeAt-records : (xs : List Node) (r : List ℕ) (n : ℕ) → AllRecordable xs → n < length xs → nodeAt (recordsOf xs ++ r) n ≡ nodeOf xs n
+unfolding gather
+nodeAt-records [] r n h l = absurd (omega arith)
+nodeAt-records (x ∷ xs) r zero h l = ap readNode (append-assoc (nodeRecord x) (recordsOf xs) r) ∙ node-back x (recordsOf xs ++ r) (h .0)
+nodeAt-records (x ∷ xs) r (suc n) h l =
+    ap readNode (
+    ap (drop (16 * suc n)) (append-assoc (nodeRecord x) (recordsOf xs) r)
+    ∙ ap (λ k. drop k (nodeRecord x ++ (recordsOf xs ++ r))) (let e : 16 * suc n ≡ length (nodeRecord x) + 16 * n = omega (arith, record-length x) in e)
+    ∙ drop-append-add (nodeRecord x) (recordsOf xs ++ r) (16 * n))
+    ∙ nodeAt-records xs r n (h .1) (omega arith)
