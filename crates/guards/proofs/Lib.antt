@@ -1,2 +1,3 @@
 pub mod LineExamples
 pub mod NodeRecords
+pub mod Numbering

@@ -42,49 +42,49 @@ fields : (op a b c : ℕ) (z : ℤ) (r : List ℕ) → a < 2 ^ 16 → b < 2 ^ 16
     readNode ((5 ∷ nodeBytes op a b c z) ++ r) ≡ nodeBy op a b c z
 fields op a b c z r la lb lc lz = λ i. nodeBy op (two-bytes2 a la i) (two-bytes2 b lb i) (two-bytes2 c lc i) (four±-bytes4± z lz i)
 
-pub node-back : (x : Node) (r : List ℕ) → Recordable x → readNode (nodeRecord x ++ r) ≡ x
+pub readNode-record : (x : Node) (r : List ℕ) → Recordable x → readNode (nodeRecord x ++ r) ≡ x
 unfolding Nodes
-node-back (constant z) r h = fields 1 0 0 0 z r (omega arith) (omega arith) (omega arith) h
-node-back (variable v) r h = fields 2 v 0 0 (pos 0) r h (omega arith) (omega arith) (omega arith)
-node-back (arithmetic sum a b) r h = fields 3 a b 0 (pos 0) r (h .0) (h .1) (omega arith) (omega arith)
-node-back (arithmetic difference a b) r h = fields 4 a b 0 (pos 0) r (h .0) (h .1) (omega arith) (omega arith)
-node-back (arithmetic product a b) r h = fields 5 a b 0 (pos 0) r (h .0) (h .1) (omega arith) (omega arith)
-node-back (arithmetic quotient a b) r h = fields 6 a b 0 (pos 0) r (h .0) (h .1) (omega arith) (omega arith)
-node-back (arithmetic remainder a b) r h = fields 7 a b 0 (pos 0) r (h .0) (h .1) (omega arith) (omega arith)
-node-back (choice t a b) r h = fields 8 t a b (pos 0) r (h .0) (h .1) (h .2) (omega arith)
-node-back (comparison equal a b) r h = fields 16 a b 0 (pos 0) r (h .0) (h .1) (omega arith) (omega arith)
-node-back (comparison less a b) r h = fields 17 a b 0 (pos 0) r (h .0) (h .1) (omega arith) (omega arith)
-node-back (comparison at-most a b) r h = fields 18 a b 0 (pos 0) r (h .0) (h .1) (omega arith) (omega arith)
-node-back (negation a) r h = fields 19 a 0 0 (pos 0) r h (omega arith) (omega arith) (omega arith)
-node-back (both a b) r h = fields 20 a b 0 (pos 0) r (h .0) (h .1) (omega arith) (omega arith)
-node-back (either a b) r h = fields 21 a b 0 (pos 0) r (h .0) (h .1) (omega arith) (omega arith)
-node-back unknown r h = fields 0 0 0 0 (pos 0) r (omega arith) (omega arith) (omega arith) (omega arith)
+readNode-record (constant z) r h = fields 1 0 0 0 z r (omega arith) (omega arith) (omega arith) h
+readNode-record (variable v) r h = fields 2 v 0 0 (pos 0) r h (omega arith) (omega arith) (omega arith)
+readNode-record (arithmetic sum a b) r h = fields 3 a b 0 (pos 0) r (h .0) (h .1) (omega arith) (omega arith)
+readNode-record (arithmetic difference a b) r h = fields 4 a b 0 (pos 0) r (h .0) (h .1) (omega arith) (omega arith)
+readNode-record (arithmetic product a b) r h = fields 5 a b 0 (pos 0) r (h .0) (h .1) (omega arith) (omega arith)
+readNode-record (arithmetic quotient a b) r h = fields 6 a b 0 (pos 0) r (h .0) (h .1) (omega arith) (omega arith)
+readNode-record (arithmetic remainder a b) r h = fields 7 a b 0 (pos 0) r (h .0) (h .1) (omega arith) (omega arith)
+readNode-record (choice t a b) r h = fields 8 t a b (pos 0) r (h .0) (h .1) (h .2) (omega arith)
+readNode-record (comparison equal a b) r h = fields 16 a b 0 (pos 0) r (h .0) (h .1) (omega arith) (omega arith)
+readNode-record (comparison less a b) r h = fields 17 a b 0 (pos 0) r (h .0) (h .1) (omega arith) (omega arith)
+readNode-record (comparison at-most a b) r h = fields 18 a b 0 (pos 0) r (h .0) (h .1) (omega arith) (omega arith)
+readNode-record (negation a) r h = fields 19 a 0 0 (pos 0) r h (omega arith) (omega arith) (omega arith)
+readNode-record (both a b) r h = fields 20 a b 0 (pos 0) r (h .0) (h .1) (omega arith) (omega arith)
+readNode-record (either a b) r h = fields 21 a b 0 (pos 0) r (h .0) (h .1) (omega arith) (omega arith)
+readNode-record unknown r h = fields 0 0 0 0 (pos 0) r (omega arith) (omega arith) (omega arith) (omega arith)
 
 -- ---- a list of them
 
-pub record-length : (x : Node) → length (nodeRecord x) ≡ 16
-record-length (constant z) = refl
-record-length (variable v) = refl
-record-length (arithmetic o a b) = refl
-record-length (choice t a b) = refl
-record-length (comparison o a b) = refl
-record-length (negation a) = refl
-record-length (both a b) = refl
-record-length (either a b) = refl
-record-length unknown = refl
+pub nodeRecord-length : (x : Node) → length (nodeRecord x) ≡ 16
+nodeRecord-length (constant z) = refl
+nodeRecord-length (variable v) = refl
+nodeRecord-length (arithmetic o a b) = refl
+nodeRecord-length (choice t a b) = refl
+nodeRecord-length (comparison o a b) = refl
+nodeRecord-length (negation a) = refl
+nodeRecord-length (both a b) = refl
+nodeRecord-length (either a b) = refl
+nodeRecord-length unknown = refl
 
-pub records-length : (xs : List Node) → length (recordsOf xs) ≡ 16 * length xs
+pub recordsOf-length : (xs : List Node) → length (recordsOf xs) ≡ 16 * length xs
 unfolding gather
-records-length [] = refl
-records-length (x ∷ xs) = let h : length (recordsOf xs) ≡ 16 * length xs = records-length xs in length-append (nodeRecord x) (recordsOf xs) ∙ omega (arith, record-length x)
+recordsOf-length [] = refl
+recordsOf-length (x ∷ xs) = let h : length (recordsOf xs) ≡ 16 * length xs = recordsOf-length xs in length-append (nodeRecord x) (recordsOf xs) ∙ omega (arith, nodeRecord-length x)
 
 pub nodeAt-records : (xs : List Node) (r : List ℕ) (n : ℕ) → AllRecordable xs → n < length xs → nodeAt (recordsOf xs ++ r) n ≡ nodeOf xs n
 unfolding gather
 nodeAt-records [] r n h l = absurd (omega arith)
-nodeAt-records (x ∷ xs) r zero h l = ap readNode (append-assoc (nodeRecord x) (recordsOf xs) r) ∙ node-back x (recordsOf xs ++ r) (h .0)
+nodeAt-records (x ∷ xs) r zero h l = ap readNode (append-assoc (nodeRecord x) (recordsOf xs) r) ∙ readNode-record x (recordsOf xs ++ r) (h .0)
 nodeAt-records (x ∷ xs) r (suc n) h l =
     ap readNode (
     ap (drop (16 * suc n)) (append-assoc (nodeRecord x) (recordsOf xs) r)
-    ∙ ap (λ k. drop k (nodeRecord x ++ (recordsOf xs ++ r))) (let e : 16 * suc n ≡ length (nodeRecord x) + 16 * n = omega (arith, record-length x) in e)
+    ∙ ap (λ k. drop k (nodeRecord x ++ (recordsOf xs ++ r))) (let e : 16 * suc n ≡ length (nodeRecord x) + 16 * n = omega (arith, nodeRecord-length x) in e)
     ∙ drop-append-add (nodeRecord x) (recordsOf xs ++ r) (16 * n))
     ∙ nodeAt-records xs r n (h .1) (omega arith)
