@@ -1,3 +1,5 @@
 pub mod LineExamples
 pub mod NodeRecords
 pub mod Numbering
+pub mod PlacedTrees
+pub mod PlacedUses
