@@ -3,3 +3,4 @@ pub mod NodeRecords
 pub mod Numbering
 pub mod PlacedTrees
 pub mod PlacedUses
+pub mod ReadLists

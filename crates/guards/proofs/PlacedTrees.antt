@@ -89,7 +89,7 @@ module _ (node : ℕ → Node) where
 
   -- ---- its nodes pass the tests of each node: known, operands lower and of the right sort, a variable of the 64
 
-  placed-sort : (m : ℕ) (t : Tree) → Placed node m t → sortOf (node (m + nodeCount t - 1)) ≡ treeSort t
+  pub placed-sort : (m : ℕ) (t : Tree) → Placed node m t → sortOf (node (m + nodeCount t - 1)) ≡ treeSort t
   unfolding Placed nodeCount
   placed-sort m (constant z) p = ap sortOf (ap node (let h : m + 1 - 1 ≡ m = omega arith in h) ∙ p)
   placed-sort m (variable v) p = ap sortOf (ap node (let h : m + 1 - 1 ≡ m = omega arith in h) ∙ p)
