@@ -4,3 +4,4 @@ pub mod Numbering
 pub mod PlacedTrees
 pub mod PlacedUses
 pub mod ReadLists
+pub mod AcceptedLists
