@@ -5,3 +5,5 @@ pub mod PlacedTrees
 pub mod PlacedUses
 pub mod ReadLists
 pub mod AcceptedLists
+pub mod ReadSteps
+pub mod ReadTrees

@@ -8,7 +8,7 @@ use lib.Seq.{drop-append-add}
 use lib.IntN.{ℤ, pos}
 use lib.Signed.{mag}
 use Rattle.prelude.specs.Lists.{gather}
-use Rattle.arithmetic.specs.Operators.{Arithmetic, sum, difference, product, quotient, remainder, Comparison, equal, less, at-most}
+use Rattle.arithmetic.specs.Operators.{sum, difference, product, quotient, remainder, equal, less, at-most}
 use Rattle.expressions.specs.Nodes.{Node, constant, variable, arithmetic, choice, comparison, negation, both, either, unknown, nodeBy, readNode, nodeOf, nodeAt, nodeBytes, Nodes}
 use Rattle.guards.specs.Trees.{nodeRecord, recordsOf}
 use Rattle.records.proofs.RoundTrips.{two-bytes2, four±-bytes4±}

@@ -1,14 +1,12 @@
 -- The reader's numbering: how many nodes a tree has, that records can hold them, and where they stand in a list of nodes that has them. Assumes nothing.
 use mathlib.Core.Path.{_≡_, refl, sym, ap, _∙_, subst}
-use mathlib.Core.Bool.{Bool, true, false, _&&_}
+use mathlib.Core.Bool.{true, _&&_}
 use mathlib.Core.List.{List, [], _∷_, _++_}
-use Prim.Native.Nat.{ℕ, zero, suc, _+_, _-_, _^_, _≤_, _<_}
+use Prim.Native.Nat.{ℕ, _+_, _-_, _^_, _≤_, _<_}
 use native.Mathlib.Nat.{add-zero, add-assoc}
 use native.Mathlib.Omega.{arith}
 use borrow.Author.Tests.{ltb-true, leb-true}
-use lib.Dec.{ltb, leb}
 use lib.ListN.{length, length-append, List·getD-append}
-use lib.Seq.{getD-at}
 use lib.Signed.{mag}
 use Rattle.prelude.proofs.Counts.{and-true}
 use Rattle.prelude.proofs.Lists.{getD-append-at}

@@ -1,24 +1,21 @@
 -- A tree whose nodes stand in a list of nodes: the list has it back, and its nodes pass the writer's tests of each. Assumes nothing.
 use mathlib.Core.Path.{_≡_, refl, sym, ap, _∙_}
-use mathlib.Core.Bool.{Bool, true, false, not, cond, _&&_, _||_}
-use mathlib.Core.List.{List, [], _∷_, _++_}
+use mathlib.Core.Bool.{Bool, true, not, cond, _&&_, _||_}
+use mathlib.Core.List.{[], _∷_}
 use Prim.Native.Nat.{ℕ, zero, suc, _+_, _-_, _≤_, _<_}
 use native.Mathlib.Nat.{add-assoc}
 use native.Mathlib.Omega.{arith}
 use borrow.Author.Tests.{leb-true, lt-ltb, not-true}
-use lib.Dec.{ltb, leb, eqb}
+use lib.Dec.{ltb}
 use lib.IntN.{pos}
-use Rattle.prelude.specs.Lists.{all, count, gather, from}
+use Rattle.prelude.specs.Lists.{all, from}
 use Rattle.prelude.proofs.Counts.{and-true}
-use Rattle.prelude.proofs.Gathered.{from-append, gather-one}
-use Rattle.prelude.proofs.Lists.{gather-append}
-use Rattle.prelude.proofs.Numbers.{both-true, all-append, count-append}
+use Rattle.prelude.proofs.Gathered.{from-append}
+use Rattle.prelude.proofs.Numbers.{both-true, all-append}
 use Rattle.expressions.specs.Nodes as N
 use Rattle.expressions.specs.Nodes.{Node}
 use Rattle.expressions.specs.Sorts as S
-use Rattle.expressions.specs.Sorts.{Sort, a-number, a-truth, sortOf, isNumber, sameSort, operands, variablesOf, operandFits}
-use Rattle.expressions.specs.Uses.{operandNumbers}
-use Rattle.expressions.proofs.Uses.{times}
+use Rattle.expressions.specs.Sorts.{Sort, a-number, a-truth, sortOf, isNumber, operands, variablesOf, operandFits}
 use Rattle.guards.specs.Trees.{Binary, arithmetic, comparison, both, either, Tree, constant, variable, negation, binary, choice, nodeCount, binaryNode, takesTruths, isTruth, pairFits, fits, isWritable}
 use Rattle.guards.specs.Lists.{treeBy, treeAt, mostVariables}
 use Rattle.guards.proofs.Numbering.{Placed, nodeCount-some}

@@ -14,7 +14,7 @@ use Rattle.expressions.specs.Nodes.{Node}
 use Rattle.expressions.specs.Uses.{operandNumbers}
 use Rattle.expressions.proofs.Uses.{times}
 use Rattle.guards.specs.Trees.{Binary, arithmetic, comparison, both, either, Tree, constant, variable, negation, binary, choice, nodeCount, binaryNode}
-use Rattle.guards.proofs.Numbering.{Placed, nodeCount-some}
+use Rattle.guards.proofs.Numbering.{Placed}
 
 numbers-binary : (o : Binary) (a b : ℕ) → operandNumbers (binaryNode o a b) ≡ a ∷ b ∷ []
 numbers-binary (arithmetic o) a b = refl

@@ -1,29 +1,28 @@
 -- What the reader gives is accepted by the writer: the records of a tree's nodes, in the reader's numbering, are a list that the writer takes, and its tree is
 -- the tree. Assumes nothing.
-use mathlib.Core.Path.{_≡_, refl, sym, ap, _∙_}
-use mathlib.Core.Bool.{Bool, true, false, not, cond, _&&_, _||_}
-use mathlib.Core.Option.{Option, some, none}
+use mathlib.Core.Path.{_≡_, refl, ap, _∙_}
+use mathlib.Core.Bool.{Bool, true, false, not, cond, _&&_}
+use mathlib.Core.Option.{none}
 use mathlib.Core.List.{List, [], _∷_, _++_}
-use Prim.Native.Nat.{ℕ, zero, suc, _+_, _-_, _≤_, _<_}
+use Prim.Native.Nat.{ℕ, suc, _+_, _-_, _≤_, _<_}
 use native.Mathlib.Omega.{arith}
 use borrow.Author.Tests.{lt-ltb, le-ltb, eq-eqb, ne-eqb, eqb-true, eqb-false}
-use lib.Dec.{T, ltb, eqb, ltb→lt, lt→ltb}
-use lib.ListN.{length}
+use lib.Dec.{ltb, eqb, ltb→lt, lt→ltb}
 use Rattle.prelude.specs.Lists.{all, count, upto, bit}
 use Rattle.prelude.proofs.Bools.{and-left, is-true, of-true, eqb-comm}
 use Rattle.prelude.proofs.Counts.{and-true}
 use Rattle.prelude.proofs.Lists.{all-imp}
 use Rattle.prelude.proofs.Numbers.{both-true, all-at, all-by}
 use Rattle.prelude.proofs.Sums.{sumFrom, sum-alike, count-from, once-most, once-least}
-use Rattle.records.specs.Refusal.{Refusal, wrong-amounts, broken-code, dangling-number, broken-node, lowest}
+use Rattle.records.specs.Refusal.{wrong-amounts, broken-code, dangling-number, broken-node, lowest}
 use Rattle.expressions.specs.Nodes.{Node, nodeAt}
 use Rattle.expressions.specs.Sorts as S
-use Rattle.expressions.specs.Sorts.{Sort, a-number, a-truth, sortOf, isNumber, operands, variablesOf, operandFits, nodeFits, nodeNamed, nodesNamed, operandsFit, operandUses}
+use Rattle.expressions.specs.Sorts.{a-number, a-truth, sortOf, operands, variablesOf, operandFits, nodeFits, nodeNamed, nodesNamed, operandsFit, operandUses}
 use Rattle.expressions.proofs.Uses.{times}
 use Rattle.guards.specs.Trees.{Tree, nodeCount, nodesFrom, recordsOf, isTruth, fits, isWritable}
 use Rattle.guards.specs.Lists.{mostNodes, mostVariables, isKnown, usedRightly, isOneTree, listRefusal, treeOf}
 use Rattle.guards.proofs.NodeRecords.{nodeAt-records}
-use Rattle.guards.proofs.Numbering.{Placed, nodeCount-some, nodesFrom-length, nodesFrom-recordable, nodesFrom-placed}
+use Rattle.guards.proofs.Numbering.{Placed, nodeCount-some, nodesFrom-recordable, nodesFrom-placed}
 use Rattle.guards.proofs.PlacedTrees.{passes, placed-tree, placed-sort, placed-passes}
 use Rattle.guards.proofs.PlacedUses.{placed-uses}
 
