@@ -5,5 +5,7 @@ pub mod PlacedTrees
 pub mod PlacedUses
 pub mod ReadLists
 pub mod AcceptedLists
+pub mod AcceptedSizes
 pub mod ReadSteps
 pub mod ReadTrees
+pub mod ReadCalls
