@@ -1,29 +1,26 @@
 -- A list of nodes that the writer takes is a tree that a line can hold. Assumes nothing.
 use mathlib.Core.Path.{_≡_, refl, sym, _∙_, subst}
-use mathlib.Core.Bool.{Bool, true, false, cond, _||_}
+use mathlib.Core.Bool.{Bool, true, false, _||_}
 use mathlib.Core.Option.{none}
 use mathlib.Core.List.{List, [], _∷_}
-use Prim.Native.Nat.{ℕ, zero, suc, _+_, _-_, _*_, _^_, _≤_, _<_}
+use Prim.Native.Nat.{ℕ, zero, suc, _-_, _^_, _≤_, _<_}
 use native.Mathlib.Omega.{arith}
 use borrow.Author.Tests.{lt-ltb, ltb-true, ltb-false, le-leb, not-false}
 use lib.Dec.{ltb}
-use lib.ListN.{drop}
-use lib.Seq.{getD-drop}
-use lib.IntN.{pos}
 use lib.Signed.{mag}
 use Rattle.prelude.specs.Lists.{all, upto}
 use Rattle.prelude.proofs.Counts.{and-true, impossible}
 use Rattle.prelude.proofs.Numbers.{both-true, all-at}
-use Rattle.records.specs.Bytes.{byte, two, four±}
 use Rattle.records.specs.Refusal.{Refusal, lowest}
-use Rattle.records.proofs.RoundTrips.{OfBytes, four±-low}
+use Rattle.records.proofs.RoundTrips.{OfBytes}
 use Rattle.expressions.specs.Nodes as N
 use Rattle.expressions.specs.Nodes.{Node, nodeAt}
 use Rattle.expressions.specs.Sorts as S
 use Rattle.expressions.specs.Sorts.{Sort, a-number, a-truth, neither, sortOf, sameSort, operands, variablesOf, operandFits, nodeFits, nodeNamed, nodesNamed, operandsFit}
-use Rattle.expressions.proofs.Codes.{by-code}
-use Rattle.guards.specs.Trees.{Binary, arithmetic, comparison, both, either, Tree, constant, variable, negation, binary, choice, givesTruth, takesTruths, isTruth, pairFits, fits, isWritable}
+use Rattle.guards.specs.Trees.{Binary, arithmetic, comparison, both, either, Tree, binary, givesTruth, takesTruths, isTruth, pairFits, fits, isWritable}
 use Rattle.guards.specs.Lists.{mostNodes, mostVariables, isKnown, usedRightly, isOneTree, listRefusal, treeBy, treeAt, treeOf}
+use Rattle.guards.proofs.NodeRecords.{Recordable, nodeAt-recordable}
+use Rattle.guards.proofs.NodeTrees.{operandTree, operandTree-lower}
 
 -- ---- what the tests say
 
@@ -60,25 +57,6 @@ accepted node size e =
       used = x .1;
     }
 
--- ---- constants have 32 bits
-
-abbrev pub LowConstant : Node → Type 0
-LowConstant (N.constant z) = mag z < 2 ^ 31
-LowConstant (N.variable v) = Unit
-LowConstant (N.arithmetic o a b) = Unit
-LowConstant (N.choice t a b) = Unit
-LowConstant (N.comparison o a b) = Unit
-LowConstant (N.negation a) = Unit
-LowConstant (N.both a b) = Unit
-LowConstant (N.either a b) = Unit
-LowConstant N.unknown = Unit
-
-pub nodeAt-constant : (s : List ℕ) → OfBytes s → (n : ℕ) → LowConstant (nodeAt s n)
-nodeAt-constant s bytes n =
-    let r = drop (16 * n) s in
-    let low : OfBytes r = λ k. subst (λ b. b < 256) (sym (getD-drop (16 * n) s k 0)) (bytes (16 * n + k)) in
-    by-code (λ k x. LowConstant x) (two r 2) (two r 4) (two r 6) (four± r 8) (four±-low r low 8) tt tt tt tt tt tt tt tt tt tt tt tt tt (λ k o. tt) (byte r 1)
-
 -- ---- the tree of a node
 
 -- a tree that a line can hold, its operands of the right sorts, and itself of sort s
@@ -106,13 +84,14 @@ binary-held o s r t u e g p q =
 
 module _ (node : ℕ → Node) (n d : ℕ) (lower : (a : ℕ) → a < n → Held (sortOf (node a)) (treeAt node d a)) where
   abbrev below : ℕ → Tree
-  below a = cond (ltb a n) (treeAt node d a) (constant (pos 0))
+  below a = operandTree node d n a
 
   operand-held : (a : ℕ) (s : Sort) → operandFits node n (a, s) ≡ true → Held s (below a)
   operand-held a s e =
       let x = and-true (ltb a n) (sameSort s (sortOf (node a))) e in
-      let h = lower a (ltb-true a n (x .0)) in
-      subst (λ b. Held s (cond b (treeAt node d a) (constant (pos 0)))) (sym (x .0)) (h .0, h .1, h .2 ∙ same-sort s (sortOf (node a)) (x .1))
+      let l = ltb-true a n (x .0) in
+      let h = lower a l in
+      subst (Held s) (sym (operandTree-lower node d n a l)) (h .0, h .1, h .2 ∙ same-sort s (sortOf (node a)) (x .1))
 
   two-held : (a b : ℕ) (s : Sort) → all (operandFits node n) ((a, s) ∷ (b, s) ∷ []) ≡ true → Held s (below a) × Held s (below b)
   unfolding all
@@ -121,7 +100,7 @@ module _ (node : ℕ → Node) (n d : ℕ) (lower : (a : ℕ) → a < n → Held
       let y = and-true (operandFits node n (b, s)) _ (x .1) in
       (operand-held a s (x .0), operand-held b s (y .0))
 
-  node-held : (x : Node) → LowConstant x → all (operandFits node n) (operands x) ≡ true → all (λ v. ltb v mostVariables) (variablesOf x) ≡ true →
+  node-held : (x : Node) → Recordable x → all (operandFits node n) (operands x) ≡ true → all (λ v. ltb v mostVariables) (variablesOf x) ≡ true →
       (S.isNumber (sortOf x) || S.isTruth (sortOf x)) ≡ true → Held (sortOf x) (treeBy below x)
   unfolding all isWritable fits
   node-held (N.constant z) c f v k = (lt-ltb (mag z) (2 ^ 31) c, refl, refl)
@@ -143,7 +122,7 @@ module _ (node : ℕ → Node) (n d : ℕ) (lower : (a : ℕ) → a < n → Held
   node-held (N.either a b) c f v k = let h = two-held a b a-truth f in binary-held either a-truth a-truth (below a) (below b) refl refl (h .0) (h .1)
   node-held N.unknown c f v k = impossible (sym k)
 
-module _ (node : ℕ → Node) (size : ℕ) (ok : Accepted node size) (low : (n : ℕ) → LowConstant (node n)) where
+module _ (node : ℕ → Node) (size : ℕ) (ok : Accepted node size) (low : (n : ℕ) → Recordable (node n)) where
   treeAt-held : (d n : ℕ) → n < d → n < size → Held (sortOf (node n)) (treeAt node d n)
   unfolding treeAt
   treeAt-held zero n l m = absurd (omega arith)
@@ -163,4 +142,4 @@ module _ (node : ℕ → Node) (size : ℕ) (ok : Accepted node size) (low : (n 
 pub listRefusal-held : (s : List ℕ) → OfBytes s → (size : ℕ) → listRefusal (nodeAt s) size ≡ none →
     let t = treeOf (nodeAt s) (size - 1) in
     (isWritable t ≡ true) × (fits t ≡ true) × (isTruth t ≡ true)
-listRefusal-held s bytes size e = treeOf-held (nodeAt s) size (accepted (nodeAt s) size e) (nodeAt-constant s bytes)
+listRefusal-held s bytes size e = treeOf-held (nodeAt s) size (accepted (nodeAt s) size e) (nodeAt-recordable s bytes)

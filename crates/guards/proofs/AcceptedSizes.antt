@@ -1,6 +1,6 @@
 -- A list of nodes that the writer takes has as many nodes as its tree: each node but the root is an operand once, so that of the sum of all trees' nodes those
 -- of every tree but the root's are counted once as parts. Assumes nothing.
-use mathlib.Core.Path.{_≡_, refl, sym, ap, _∙_, fun-ext}
+use mathlib.Core.Path.{_≡_, refl, sym, ap, _∙_}
 use mathlib.Core.Bool.{Bool, true, false, cond}
 use mathlib.Core.Option.{none}
 use mathlib.Core.List.{List, [], _∷_, _++_}
@@ -9,7 +9,6 @@ use native.Mathlib.Nat.{add-zero, zero-add, zero-mul, one-mul, add-mul}
 use native.Mathlib.Omega.{arith}
 use borrow.Author.Tests.{ltb-true, eq-eqb, ne-eqb, eqb-true, eqb-false}
 use lib.Dec.{T, ltb, eqb, ltb→lt, lt→ltb}
-use lib.IntN.{pos}
 use Rattle.prelude.specs.Lists.{all, count, gather, from, upto}
 use Rattle.prelude.proofs.Bools.{and-left, and-right, of-true}
 use Rattle.prelude.proofs.Counts.{and-true}
@@ -21,23 +20,10 @@ use Rattle.expressions.specs.Nodes.{Node, nodeAt}
 use Rattle.expressions.specs.Sorts.{Sort, a-number, a-truth, sortOf, sameSort, operands, operandFits, nodeFits, operandUses}
 use Rattle.expressions.specs.Uses.{operandNumbers}
 use Rattle.expressions.proofs.Uses.{times}
-use Rattle.guards.specs.Trees.{Tree, constant, nodeCount}
+use Rattle.guards.specs.Trees.{Tree, nodeCount}
 use Rattle.guards.specs.Lists.{usedRightly, listRefusal, treeBy, treeAt, treeOf}
+use Rattle.guards.proofs.NodeTrees.{operandTree, operandTree-lower, treeAt-deep}
 use Rattle.guards.proofs.AcceptedLists.{Accepted, accepted}
-
--- ---- any depth above a node's number gives its tree
-
-module _ (node : ℕ → Node) where
-  treeAt-deep : (d e n : ℕ) → n < d → n < e → treeAt node d n ≡ treeAt node e n
-  unfolding treeAt
-  treeAt-deep zero e n l m = absurd (omega arith)
-  treeAt-deep (suc d) zero n l m = absurd (omega arith)
-  treeAt-deep (suc d) (suc e) n l m =
-      ap (λ f. treeBy f (node n)) (fun-ext (λ a. go (ltb a n) (λ t. let h : a < n = ltb-true a n t in treeAt-deep d e a (omega arith) (omega arith))))
-    where
-      go : {x y : Tree} (t : Bool) → (t ≡ true → x ≡ y) → cond t x (constant (pos 0)) ≡ cond t y (constant (pos 0))
-      go true h = h refl
-      go false h = refl
 
 -- ---- sums over lists
 
@@ -100,13 +86,12 @@ module _ (node : ℕ → Node) where
 
   module _ (n : ℕ) where
     abbrev below : ℕ → Tree
-    below a = cond (ltb a n) (treeAt node n a) (constant (pos 0))
+    below a = operandTree node n n a
 
     operand-size : (a : ℕ) (s : Sort) → operandFits node n (a, s) ≡ true → nodeCount (below a) ≡ size-of a
     operand-size a s e =
-        let t = and-true (ltb a n) (sameSort s (sortOf (node a))) e .0 in
-        let l : a < n = ltb-true a n t in
-        ap (λ b. nodeCount (cond b (treeAt node n a) (constant (pos 0)))) t ∙ ap nodeCount (treeAt-deep node n (suc a) a l (omega arith))
+        let l : a < n = ltb-true a n (and-true (ltb a n) (sameSort s (sortOf (node a))) e .0) in
+        ap nodeCount (operandTree-lower node n n a l ∙ treeAt-deep node n (suc a) a l (omega arith))
 
     two-sizes : (a b : ℕ) (s : Sort) → all (operandFits node n) ((a, s) ∷ (b, s) ∷ []) ≡ true → (nodeCount (below a) ≡ size-of a) × (nodeCount (below b) ≡ size-of b)
     unfolding all
@@ -190,7 +175,8 @@ module _ (node : ℕ → Node) (size : ℕ) (ok : Accepted node size) where
         sum-last (size-of node) size f,
         sum-last (weight (size-of node) places) size f,
         weight-root,
-        sum-alike (weight (size-of node) places) (size-of node) 0 (size - 1) (λ k a b. weight-lower k (omega arith)))
+        sum-alike (weight (size-of node) places) (size-of node) 0 (size - 1) (λ k a b. weight-lower k (omega arith)),
+      )
 
 -- of bytes
 pub listRefusal-size : (s : List ℕ) (size : ℕ) → listRefusal (nodeAt s) size ≡ none → nodeCount (treeOf (nodeAt s) (size - 1)) ≡ size

@@ -1,5 +1,6 @@
 pub mod LineExamples
 pub mod NodeRecords
+pub mod NodeTrees
 pub mod Numbering
 pub mod PlacedTrees
 pub mod PlacedUses

@@ -1,17 +1,19 @@
 -- Nodes written as records are read back, wherever they stand in the list. Assumes nothing.
-use mathlib.Core.Path.{_≡_, refl, ap, _∙_}
+use mathlib.Core.Path.{_≡_, refl, sym, ap, _∙_, subst}
 use mathlib.Core.List.{List, [], _∷_, _++_, append-assoc}
 use Prim.Native.Nat.{ℕ, zero, suc, _+_, _*_, _^_, _<_}
 use native.Mathlib.Omega.{arith}
 use lib.ListN.{length, drop, length-append}
-use lib.Seq.{drop-append-add}
+use lib.Seq.{drop-append-add, getD-drop}
 use lib.IntN.{ℤ, pos}
 use lib.Signed.{mag}
 use Rattle.prelude.specs.Lists.{gather}
+use Rattle.records.specs.Bytes.{byte, two, four±}
+use Rattle.records.proofs.RoundTrips.{OfBytes, two-bytes2, four±-bytes4±, two-low, four±-low}
 use Rattle.arithmetic.specs.Operators.{sum, difference, product, quotient, remainder, equal, less, at-most}
 use Rattle.expressions.specs.Nodes.{Node, constant, variable, arithmetic, choice, comparison, negation, both, either, unknown, nodeBy, readNode, nodeOf, nodeAt, nodeBytes, Nodes}
+use Rattle.expressions.proofs.Codes.{by-code}
 use Rattle.guards.specs.Trees.{nodeRecord, recordsOf}
-use Rattle.records.proofs.RoundTrips.{two-bytes2, four±-bytes4±}
 
 -- a node that a record can hold: its numbers have 16 bits, its constant 32
 abbrev Numbers : ℕ → ℕ → Type 0
@@ -88,3 +90,14 @@ nodeAt-records (x ∷ xs) r (suc n) h l =
     ∙ ap (λ k. drop k (nodeRecord x ++ (recordsOf xs ++ r))) (let e : 16 * suc n ≡ length (nodeRecord x) + 16 * n = omega (arith, nodeRecord-length x) in e)
     ∙ drop-append-add (nodeRecord x) (recordsOf xs ++ r) (16 * n))
     ∙ nodeAt-records xs r n (h .1) (omega arith)
+
+-- ---- and of any bytes what is read is such a node
+
+pub nodeAt-recordable : (s : List ℕ) → OfBytes s → (n : ℕ) → Recordable (nodeAt s n)
+nodeAt-recordable s bytes n =
+    let r = drop (16 * n) s in
+    let low : OfBytes r = λ k. subst (λ b. b < 256) (sym (getD-drop (16 * n) s k 0)) (bytes (16 * n + k)) in
+    let a = two-low r low 2 in
+    let b = two-low r low 4 in
+    let c = two-low r low 6 in
+    by-code (λ k x. Recordable x) (two r 2) (two r 4) (two r 6) (four± r 8) (four±-low r low 8) a (a, b) (a, b) (a, b) (a, b) (a, b) (a, b, c) (a, b) (a, b) (a, b) a (a, b) (a, b) (λ k o. tt) (byte r 1)

@@ -2,12 +2,11 @@
 use mathlib.Core.Path.{_≡_, refl, sym, ap, _∙_}
 use mathlib.Core.Bool.{Bool, true, not, cond, _&&_, _||_}
 use mathlib.Core.List.{[], _∷_}
-use Prim.Native.Nat.{ℕ, zero, suc, _+_, _-_, _≤_, _<_}
+use Prim.Native.Nat.{ℕ, _+_, _-_, _≤_, _<_}
 use native.Mathlib.Nat.{add-assoc}
 use native.Mathlib.Omega.{arith}
 use borrow.Author.Tests.{leb-true, lt-ltb, not-true}
 use lib.Dec.{ltb}
-use lib.IntN.{pos}
 use Rattle.prelude.specs.Lists.{all, from}
 use Rattle.prelude.proofs.Counts.{and-true}
 use Rattle.prelude.proofs.Gathered.{from-append}
@@ -18,6 +17,7 @@ use Rattle.expressions.specs.Sorts as S
 use Rattle.expressions.specs.Sorts.{Sort, a-number, a-truth, sortOf, isNumber, operands, variablesOf, operandFits}
 use Rattle.guards.specs.Trees.{Binary, arithmetic, comparison, both, either, Tree, constant, variable, negation, binary, choice, nodeCount, binaryNode, takesTruths, isTruth, pairFits, fits, isWritable}
 use Rattle.guards.specs.Lists.{treeBy, treeAt, mostVariables}
+use Rattle.guards.proofs.NodeTrees.{operandTree, operandTree-lower, treeAt-node}
 use Rattle.guards.proofs.Numbering.{Placed, nodeCount-some}
 
 abbrev pub treeSort : Tree → Sort
@@ -40,37 +40,28 @@ sort-binary either a b t u = refl
 module _ (node : ℕ → Node) where
   -- ---- the tree is had back
 
-  -- an operand's tree
-  abbrev lower : ℕ → ℕ → ℕ → Tree
-  lower d n a = cond (ltb a n) (treeAt node d a) (constant (pos 0))
-
-  lower-is : (d n a : ℕ) (t : Tree) → a < n → treeAt node d a ≡ t → lower d n a ≡ t
-  lower-is d n a t l e = rw (lt-ltb a n l) e
-
-  at-node : (d n : ℕ) (x : Node) → n < d → node n ≡ x → treeAt node d n ≡ treeBy (lower (d - 1) n) x
-  unfolding treeAt
-  at-node zero n x l e = absurd (omega arith)
-  at-node (suc d) n x l e = ap (treeBy (lower d n)) e ∙ ap (λ c. treeBy (lower c n) x) (let h : d ≡ suc d - 1 = omega arith in h)
+  operand-is : (d n a : ℕ) (t : Tree) → a < n → treeAt node d a ≡ t → operandTree node d n a ≡ t
+  operand-is d n a t l e = operandTree-lower node d n a l ∙ e
 
   pub placed-tree : (m : ℕ) (t : Tree) → Placed node m t → (d n : ℕ) → n + 1 ≡ m + nodeCount t → n < d → treeAt node d n ≡ t
   unfolding Placed nodeCount
-  placed-tree m (constant z) p d n e l = at-node d n (N.constant z) l (ap node (let h : n ≡ m = omega arith in h) ∙ p)
-  placed-tree m (variable v) p d n e l = at-node d n (N.variable v) l (ap node (let h : n ≡ m = omega arith in h) ∙ p)
+  placed-tree m (constant z) p d n e l = treeAt-node node d n (N.constant z) l (ap node (let h : n ≡ m = omega arith in h) ∙ p)
+  placed-tree m (variable v) p d n e l = treeAt-node node d n (N.variable v) l (ap node (let h : n ≡ m = omega arith in h) ∙ p)
   placed-tree m (negation t) p d n e l =
       let c = nodeCount-some t in
       let k = m + nodeCount t in
-      at-node d n (N.negation (k - 1)) l (ap node (let h : n ≡ k = omega arith in h) ∙ p .1)
-      ∙ ap negation (lower-is (d - 1) n (k - 1) t (omega arith) (placed-tree m t (p .0) (d - 1) (k - 1) (omega arith) (omega arith)))
+      treeAt-node node d n (N.negation (k - 1)) l (ap node (let h : n ≡ k = omega arith in h) ∙ p .1)
+      ∙ ap negation (operand-is (d - 1) n (k - 1) t (omega arith) (placed-tree m t (p .0) (d - 1) (k - 1) (omega arith) (omega arith)))
   placed-tree m (binary o a b) p d n e l =
       let ca = nodeCount-some a in
       let cb = nodeCount-some b in
       let k = m + nodeCount a in
       let j = k + nodeCount b in
-      at-node d n (binaryNode o (k - 1) (j - 1)) l (ap node (let h : n ≡ j = omega arith in h) ∙ p .2)
-      ∙ treeBy-binary (lower (d - 1) n) o (k - 1) (j - 1)
+      treeAt-node node d n (binaryNode o (k - 1) (j - 1)) l (ap node (let h : n ≡ j = omega arith in h) ∙ p .2)
+      ∙ treeBy-binary (operandTree node (d - 1) n) o (k - 1) (j - 1)
       ∙ (λ i. binary o
-      (lower-is (d - 1) n (k - 1) a (omega arith) (placed-tree m a (p .0) (d - 1) (k - 1) (omega arith) (omega arith)) i)
-      (lower-is (d - 1) n (j - 1) b (omega arith) (placed-tree k b (p .1) (d - 1) (j - 1) (omega arith) (omega arith)) i))
+      (operand-is (d - 1) n (k - 1) a (omega arith) (placed-tree m a (p .0) (d - 1) (k - 1) (omega arith) (omega arith)) i)
+      (operand-is (d - 1) n (j - 1) b (omega arith) (placed-tree k b (p .1) (d - 1) (j - 1) (omega arith) (omega arith)) i))
   placed-tree m (choice t a b) p d n e l =
       let ct = nodeCount-some t in
       let ca = nodeCount-some a in
@@ -78,11 +69,11 @@ module _ (node : ℕ → Node) where
       let k = m + nodeCount t in
       let j = k + nodeCount a in
       let f = j + nodeCount b in
-      at-node d n (N.choice (k - 1) (j - 1) (f - 1)) l (ap node (let h : n ≡ f = omega arith in h) ∙ p .3)
+      treeAt-node node d n (N.choice (k - 1) (j - 1) (f - 1)) l (ap node (let h : n ≡ f = omega arith in h) ∙ p .3)
       ∙ (λ i. choice
-      (lower-is (d - 1) n (k - 1) t (omega arith) (placed-tree m t (p .0) (d - 1) (k - 1) (omega arith) (omega arith)) i)
-      (lower-is (d - 1) n (j - 1) a (omega arith) (placed-tree k a (p .1) (d - 1) (j - 1) (omega arith) (omega arith)) i)
-      (lower-is (d - 1) n (f - 1) b (omega arith) (placed-tree j b (p .2) (d - 1) (f - 1) (omega arith) (omega arith)) i))
+      (operand-is (d - 1) n (k - 1) t (omega arith) (placed-tree m t (p .0) (d - 1) (k - 1) (omega arith) (omega arith)) i)
+      (operand-is (d - 1) n (j - 1) a (omega arith) (placed-tree k a (p .1) (d - 1) (j - 1) (omega arith) (omega arith)) i)
+      (operand-is (d - 1) n (f - 1) b (omega arith) (placed-tree j b (p .2) (d - 1) (f - 1) (omega arith) (omega arith)) i))
 
   -- ---- its nodes pass the tests of each node: known, operands lower and of the right sort, a variable of the 64
 

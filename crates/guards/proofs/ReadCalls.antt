@@ -53,15 +53,14 @@ readGuard-answer text lent n e = go (lineTree text) refl e
     go : (o : Out Tree) → lineTree text ≡ o → settled lent (o >>= guardOf lent) .answer ≡ val n → (t : Tree) × WasRead text lent n t
     go (val t) e h =
         let x = guardBy-answer lent t n (fits t && isTruth t) (ltb (length lent / 16) (nodeCount t)) h in
-        let y = and-true (fits t) (isTruth t) (x .0) in
-        (
+        let y = and-true (fits t) (isTruth t) (x .0) in (
           t,
           record {
             line = e;
             fit = y .0;
             truth = y .1;
             size = x .2;
-            lent-after = ap (λ o. settled lent (o >>= guardOf lent) .lent) e ∙ (λ i. settled lent (guardBy lent t (x .0 i) (x .1 i)) .lent)
+            lent-after = ap (λ o. settled lent (o >>= guardOf lent) .lent) e ∙ (λ i. settled lent (guardBy lent t (x .0 i) (x .1 i)) .lent);
           },
         )
     go (fault w) e h = let z : _≡_ {A = ℕ} 0 1 = cc in absurd (omega arith)
@@ -106,8 +105,8 @@ module _ (text lent : List ℕ) (n : ℕ) (t : Tree) (was : WasRead text lent n 
       writeGuard (nodesRead text lent n) out ≡ settled out (fault-if (ltb (length out) (length (textOf t))) short-space >> val (written (length (textOf t)) (textOf t) out))
   writeGuard-reread out =
       λ i. settled out (
-        unless-refused (listRefusal-reread i) (
-          fault-if (ltb (length out) (length (writtenLine-reread i))) short-space >> val (written (length (writtenLine-reread i)) (writtenLine-reread i) out)))
+      unless-refused (listRefusal-reread i) (
+      fault-if (ltb (length out) (length (writtenLine-reread i))) short-space >> val (written (length (writtenLine-reread i)) (writtenLine-reread i) out)))
 
 -- all of it, of an answer
 pub readGuard-reread : (text lent : List ℕ) (n : ℕ) → readGuard text lent .answer ≡ val n →
