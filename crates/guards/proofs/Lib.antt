@@ -1,1 +1,12 @@
 pub mod LineExamples
+pub mod NodeRecords
+pub mod NodeTrees
+pub mod Numbering
+pub mod PlacedTrees
+pub mod PlacedUses
+pub mod ReadLists
+pub mod AcceptedLists
+pub mod AcceptedSizes
+pub mod ReadSteps
+pub mod ReadTrees
+pub mod ReadCalls

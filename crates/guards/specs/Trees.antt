@@ -1,8 +1,10 @@
 -- The tree of a guard: how tightly its operators bind, its sorts, and its nodes in the reader's numbering. Assumes nothing: these are definitions.
 use mathlib.Core.Bool.{Bool, true, false, not, cond, _&&_}
 use mathlib.Core.List.{List, [], _∷_, _++_}
-use Prim.Native.Nat.{ℕ, _+_, _-_}
+use Prim.Native.Nat.{ℕ, _+_, _-_, _^_}
+use lib.Dec.{ltb, leb}
 use lib.IntN.{ℤ}
+use lib.Signed.{mag}
 use Rattle.prelude.specs.Lists.{gather}
 use Rattle.arithmetic.specs.Operators.{Arithmetic, sum, difference, product, quotient, remainder, Comparison}
 use Rattle.expressions.specs.Nodes as N
@@ -112,3 +114,11 @@ nodeRecord x = 5 ∷ writeNode x
 
 abbrev pub recordsOf : List Node → List ℕ
 recordsOf xs = gather nodeRecord xs
+
+-- a tree that a line can hold: constants of 32 bits, variables v0 to v63
+unfoldable pub isWritable : Tree → Bool
+isWritable (constant z) = ltb (mag z) (2 ^ 31)
+isWritable (variable v) = leb v 63
+isWritable (negation t) = isWritable t
+isWritable (binary o a b) = isWritable a && isWritable b
+isWritable (choice t a b) = isWritable t && isWritable a && isWritable b
