@@ -5,7 +5,7 @@ use mathlib.Core.List.{List, [], _∷_, _++_}
 use Prim.Native.Nat.{ℕ, suc, _+_, _-_, _*_, _≤_, _<_}
 use native.Mathlib.Omega.{arith}
 use lib.Dec.{leb}
-use lib.ListN.{length, length-append}
+use lib.ListN.{length}
 use lib.Seq.{sets, length-sets}
 use Rattle.prelude.specs.Lists.{gather}
 use Rattle.prelude.proofs.Lists.{gather-append}
@@ -16,42 +16,13 @@ use Rattle.arithmetic.specs.Operators.{Arithmetic, sum, difference, product, qu
 use Rattle.expressions.specs.Nodes as N
 use Rattle.expressions.specs.Nodes.{Node}
 use Rattle.guards.specs.Trees.{Binary, arithmetic, comparison, both, either, Tree, constant, variable, negation, binary, choice, binaryLevel, isTruth, givesTruth, takesTruths, fits, pairFits, nodeCount, nodesFrom, binaryNode, nodeRecord, recordsOf}
+use Rattle.guards.proofs.NodeRecords.{recordsOf-length}
+use Rattle.guards.proofs.Numbering.{nodeCount-some, nodesFrom-length}
 use Rattle.guard_reader.specs.Places.{binaryCode}
 use Rattle.guard_reader.specs.Parts.{nodeBits, PartIs, NegationIs, JoinIs, ChoiceIs, HasTree}
 use Rattle.guard_reader.specs.declared.trees.Part.{Part}
 
--- ---- lengths
-
-length-record : (x : Node) → length (nodeRecord x) ≡ 16
-length-record (N.constant z) = refl
-length-record (N.variable v) = refl
-length-record (N.arithmetic o a b) = refl
-length-record (N.choice t a b) = refl
-length-record (N.comparison o a b) = refl
-length-record (N.negation a) = refl
-length-record (N.both a b) = refl
-length-record (N.either a b) = refl
-length-record N.unknown = refl
-
-pub length-recordsOf : (xs : List Node) → length (recordsOf xs) ≡ 16 * length xs
-unfolding gather
-length-recordsOf [] = refl
-length-recordsOf (x ∷ xs) = length-append (nodeRecord x) (recordsOf xs) ∙ (let e : length (nodeRecord x) ≡ 16 = length-record x in let f : length (recordsOf xs) ≡ 16 * length xs = length-recordsOf xs in omega arith)
-
-pub length-nodesFrom : (n : ℕ) (t : Tree) → length (nodesFrom n t) ≡ nodeCount t
-unfolding nodesFrom nodeCount
-length-nodesFrom n (constant z) = refl
-length-nodesFrom n (variable v) = refl
-length-nodesFrom n (negation t) = length-append (nodesFrom n t) _ ∙ ap (λ k. k + 1) (length-nodesFrom n t)
-length-nodesFrom n (binary o a b) =
-    let e = length-nodesFrom n a in
-    let f = length-nodesFrom (n + nodeCount a) b in
-    simp length-append (omega arith)
-length-nodesFrom n (choice t a b) =
-    let e = length-nodesFrom n t in
-    let f = length-nodesFrom (n + nodeCount t) a in
-    let g = length-nodesFrom (n + nodeCount t + nodeCount a) b in
-    simp length-append (omega arith)
+-- ---- levels
 
 arithmeticLevel-least : (o : Arithmetic) → 2 ≤ binaryLevel (arithmetic o)
 arithmeticLevel-least sum = omega arith
@@ -66,14 +37,6 @@ binaryLevel-least (comparison o) = omega arith
 binaryLevel-least both = omega arith
 binaryLevel-least either = omega arith
 
-pub nodeCount-positive : (t : Tree) → 0 < nodeCount t
-unfolding nodeCount
-nodeCount-positive (constant z) = omega arith
-nodeCount-positive (variable v) = omega arith
-nodeCount-positive (negation t) = omega arith
-nodeCount-positive (binary o a b) = omega arith
-nodeCount-positive (choice t a b) = omega arith
-
 -- ---- what was written with a tree, and with the node behind it
 
 module _ {text : List ℕ} {at size : ℕ} {before after : List ℕ} {t : Tree} {p : Part} (h : HasTree text at size before after t p) where
@@ -81,7 +44,7 @@ module _ {text : List ℕ} {at size : ℕ} {before after : List ℕ} {t : Tree} 
   tree-wrote = record {
     behind =
         let c : p .size ≡ size + nodeCount t = h .counted in
-        let l : length (recordsOf (nodesFrom size t)) ≡ 16 * nodeCount t = length-recordsOf (nodesFrom size t) ∙ ap (λ k. 16 * k) (length-nodesFrom size t) in
+        let l : length (recordsOf (nodesFrom size t)) ≡ 16 * nodeCount t = recordsOf-length (nodesFrom size t) ∙ ap (λ k. 16 * k) (nodesFrom-length size t) in
         omega arith;
     written = h .written;
   }
@@ -90,7 +53,7 @@ module _ {text : List ℕ} {at size : ℕ} {before after : List ℕ} {t : Tree} 
   tree-length = ap length (h .written) ∙ length-sets before (16 * size) (recordsOf (nodesFrom size t))
 
   pub tree-positive : size < p .size
-  tree-positive = let c : p .size ≡ size + nodeCount t = h .counted in let n : 0 < nodeCount t = nodeCount-positive t in omega arith
+  tree-positive = let c : p .size ≡ size + nodeCount t = h .counted in let n : 1 ≤ nodeCount t = nodeCount-some t in omega arith
 
   pub tree-few : length text ≤ 256 → size ≤ at → p .size ≤ 256
   tree-few s e = let f : p .size + at ≤ p .next + size = h .few in let i : p .next ≤ length text = h .inside in omega arith

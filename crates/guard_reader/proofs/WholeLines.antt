@@ -13,11 +13,12 @@ use Rattle.model.specs.Outcome.{Outcome, settled}
 use Rattle.guards.specs.Trees.{Tree, isTruth, fits, nodeCount, nodesFrom, recordsOf}
 use Rattle.guards.specs.Grammar.{Read, read, outside, unspaced, choiceAt, lineTree}
 use Rattle.guards.specs.Calls.{readGuard, written}
+use Rattle.guards.proofs.NodeRecords.{recordsOf-length}
+use Rattle.guards.proofs.Numbering.{nodesFrom-length}
 use Rattle.guard_reader.specs.Places.{Skipped}
 use Rattle.guard_reader.specs.Parts.{ReadTree, HasTree, choiceDepth}
 use Rattle.guard_reader.specs.Answer.{HasLine}
 use Rattle.guard_reader.specs.declared.trees.Part.{Part}
-use Rattle.guard_reader.proofs.PartTrees.{length-recordsOf, length-nodesFrom}
 
 second-false : (a b : Bool) → (a || b) ≡ false → b ≡ false
 second-false true b e = absurd (let z : _≡_ {A = ℕ} 0 1 = cc in omega arith)
@@ -96,7 +97,7 @@ module _ {text before own : List ℕ} {p : Part} (h : HasLine text before own p)
   guard-short e l = let c : p .size ≡ nodeCount (h .tree) = h .counted in guard-by true true (sorts ∙ e) (lt-ltb (length lent / 16) (nodeCount (h .tree)) (omega arith))
 
   length-nodes : length (recordsOf (nodesFrom 0 (h .tree))) ≡ 16 * p .size
-  length-nodes = length-recordsOf (nodesFrom 0 (h .tree)) ∙ ap (λ k. 16 * k) (length-nodesFrom 0 (h .tree) ∙ sym (h .counted))
+  length-nodes = recordsOf-length (nodesFrom 0 (h .tree)) ∙ ap (λ k. 16 * k) (nodesFrom-length 0 (h .tree) ∙ sym (h .counted))
 
   pub own-nodes : 4096 ≤ length before → take (16 * p .size) own ≡ recordsOf (nodesFrom 0 (h .tree))
   own-nodes l =
