@@ -1,0 +1,29 @@
+// Guards typed as a line.
+ghost use mathlib.Core.Path.{_≡_};
+ghost use Prim.Native.Nat.{ℕ, _≤_};
+ghost use Rattle.records.specs.Refusal.{val};
+ghost use Rattle.model.specs.Calls.{numbered};
+ghost use Rattle.answers.specs.Answers.{countCode};
+ghost use Rattle.guards.specs.Calls.{readGuard};
+ghost use Rattle.guard_reader.specs.Answer.{answerOf as nodesOf};
+use answers::refused_code;
+use guard_reader::Guard;
+
+fn guard_code(answer: Guard) -> i32
+    ensures { λ r. ⌜ r ≡ numbered countCode (nodesOf answer) ⌝ }
+{
+    match answer {
+        Guard::Nodes(n) => n as i32,
+        Guard::Refused(w) => refused_code(w),
+    }
+}
+
+// The number of the line's nodes, or minus the refusal's number.
+#[no_mangle]
+pub extern "C" fn guard_read(text: &[u8], nodes: &mut [u8]) -> i32
+    ensures { λ r. ⌜ r ≡ numbered countCode (readGuard (now (text .entry)) (now (nodes .entry)) .answer) ⌝ }
+    ensures { λ _. ⌜ now (nodes .exit) ≡ readGuard (now (text .entry)) (now (nodes .entry)) .lent ⌝ }
+{
+    let answer = guard_reader::read_guard(text, nodes);
+    guard_code(answer)
+}
