@@ -1,7 +1,11 @@
 pub mod LineExamples
+pub mod Values
 pub mod Numerals
 pub mod Steps
 pub mod Derived
 pub mod Readings
 pub mod Complete
+pub mod Fronts
+pub mod Correct
+pub mod Lines
 pub mod WrittenLines

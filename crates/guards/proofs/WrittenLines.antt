@@ -1,44 +1,22 @@
--- A line of the rules is read as its tree, and so is the text that is written of a tree. Assumes nothing.
-use mathlib.Core.Path.{_≡_, refl, sym, ap, _∙_}
-use mathlib.Core.Bool.{Bool, true, false, cond, _&&_, _||_}
-use mathlib.Core.List.{List, [], _∷_, _++_, append-nil}
-use Prim.Native.Nat.{ℕ, suc, _+_, _-_, _*_, _^_, _≤_, _<_}
+-- The text that is written of a tree is a line of the rules, so it is read back. Assumes nothing.
+use mathlib.Core.Path.{_≡_, refl}
+use mathlib.Core.Bool.{Bool, true, false, cond, _&&_}
+use mathlib.Core.List.{List, [], _∷_, _++_}
+use Prim.Native.Nat.{ℕ, suc, _-_, _^_, _≤_, _<_}
 use native.Mathlib.Omega.{arith}
-use borrow.Author.Tests.{ne-eqb, le-ltb, ltb-true, leb-true}
-use lib.Dec.{eqb, ltb, leb}
+use borrow.Author.Tests.{ltb-true, leb-true}
+use lib.Dec.{leb}
 use lib.IntN.{ℤ, pos, negsuc}
 use lib.ListN.{length}
 use Rattle.prelude.proofs.Counts.{and-true}
-use Rattle.records.specs.Refusal.{broken-line, val, _>>=_, _>>_, fault-if}
+use Rattle.records.specs.Refusal.{val}
 use Rattle.guards.specs.Trees.{Tree, constant, variable, negation, binary, choice, binaryLevel, level}
 use Rattle.guards.specs.Texts.{placed, textOf}
-use Rattle.guards.specs.Grammar.{unspaced, choiceAt, lineTree, Grammar}
+use Rattle.guards.specs.Grammar.{lineTree}
 use Rattle.guards.specs.Rules.{Derives, named, positive, negative, enclosed, negated, joined, chosen, tighter, Line, isConstant, isWritable}
 use Rattle.guards.proofs.Derived.{Begun-filled, Derives-begun}
 use Rattle.guards.proofs.Steps.{Level, binaryLevel-within}
-use Rattle.guards.proofs.Readings.{Reads, End, no-operator}
-use Rattle.guards.proofs.Complete.{Derives-complete}
-
--- ---- lines
-
-line-end : End []
-unfolding Grammar
-line-end = record { next = no-operator 7 [] refl refl; bare = refl }
-
-module _ (t : Tree) (s : List ℕ) (l : Line t s) where
-  right-size : (eqb (length s) 0 || ltb 256 (length s)) ≡ false
-  right-size = let filled : 1 ≤ length s = l .filled in rw (ne-eqb (length s) 0 (omega arith), le-ltb 256 (length s) (l .short)) refl
-
-  pub lineTree-complete : lineTree s ≡ val t
-  unfolding unspaced
-  lineTree-complete =
-      let e : s ++ [] ≡ s = append-nil s in
-      let x : Reads t [] (choiceAt (3 * length s + 3) (s ++ [])) = Derives-complete (l .tree) .whole (3 * length s + 3) [] line-end (omega (arith, ap length e)) in
-      ap (λ b. fault-if b broken-line >> (choiceAt (3 * length s + 3) s >>= λ t. fault-if (ltb 0 (length (unspaced (t .rest)))) broken-line >> val (t .got))) right-size
-      ∙ ap (λ m. m >>= λ t. fault-if (ltb 0 (length (unspaced (t .rest)))) broken-line >> val (t .got)) (ap (choiceAt (3 * length s + 3)) (sym e) ∙ x .out)
-      ∙ ap (λ u. fault-if (ltb 0 (length u)) broken-line >> val t) (x .same)
-
--- ---- the text of a tree
+use Rattle.guards.proofs.Lines.{lineTree-complete}
 
 pub level-most : (t : Tree) → level t ≤ 7
 level-most (constant z) = omega arith
