@@ -9,3 +9,4 @@ pub mod Fronts
 pub mod Correct
 pub mod Lines
 pub mod WrittenLines
+pub mod Parentheses

@@ -4,9 +4,10 @@ use mathlib.Core.Bool.{Bool, _&&_}
 use mathlib.Core.List.{List, [], _∷_, _++_}
 use Prim.Native.Nat.{ℕ, _-_, _^_, _≤_}
 use Prim.Native.Char.{code}
-use lib.Dec.{ltb, leb}
+use lib.Dec.{ltb, leb, eqb}
 use lib.ListN.{length}
 use lib.IntN.{ℤ, pos, negsuc, negℤ}
+use Rattle.prelude.specs.Lists.{count}
 use Rattle.model.specs.Replay.{decimal}
 use Rattle.guards.specs.Trees.{Binary, Tree, constant, variable, negation, binary, choice, binaryLevel}
 use Rattle.guards.specs.Texts.{sign}
@@ -57,3 +58,7 @@ isWritable (variable v) = leb v 63
 isWritable (negation t) = isWritable t
 isWritable (binary o a b) = isWritable a && isWritable b
 isWritable (choice t a b) = isWritable t && isWritable a && isWritable b
+
+-- how many parentheses are opened
+abbrev pub opens : List ℕ → ℕ
+opens s = count (λ b. eqb b (code "(")) s
