@@ -13,7 +13,7 @@ use Rattle.guards.specs.Texts.{sign}
 use Rattle.guards.specs.Grammar.{read, unspaced, operatorAt, past, numeral, choiceAt, binaryAt, goOn, operandAt, Grammar}
 use Rattle.guards.specs.Rules.{Derives, named, positive, negative, enclosed, negated, joined, chosen, tighter, before, behind}
 use Rattle.guards.proofs.Numerals.{Leading, decimal-leading, numeral-decimal}
-use Rattle.guards.proofs.Derived.{Begun, Derives-begun, Begun-other}
+use Rattle.guards.proofs.Derived.{joined-parts, choice-parts, Begun, Derives-begun, Begun-other}
 use Rattle.guards.proofs.Steps.{operandAt-space, binaryAt-space, choiceAt-space, Level, binaryLevel-within, Signed, sign-read, Next, before-sign, spaced-next, goOn-goes, operandAt-enclosed, operandAt-negated, operandAt-named, operandAt-negative, operandAt-positive, past-mark, choiceAt-chosen}
 use Rattle.guards.proofs.Readings.{Reads, Goes, End, no-operator, Operand, Run, Whole, Complete, rest-least, run-ends, of-operand, of-run, of-whole}
 
@@ -96,7 +96,7 @@ module _ (o : Binary) (a b : Tree) (s u : List ℕ) (begun : Begun u) (f : Run (
   joined-read : Run (binaryLevel o) (binary o a b) (s ++ sign o ++ u)
   joined-read d k r l n h =
       let q : Signed o (u ++ r) = sign-read o (u ++ r) (Begun-other u r begun) in
-      let e : s ++ sign o ++ u ++ r ≡ s ++ (sign o ++ (u ++ r)) = simp append-assoc in
+      let e : s ++ sign o ++ u ++ r ≡ s ++ (sign o ++ (u ++ r)) = joined-parts s (sign o) u r in
       let x : Goes k a (sign o ++ (u ++ r)) (binaryAt d k (s ++ (sign o ++ (u ++ r)))) = f d k (sign o ++ (u ++ r)) l (before-sign o (u ++ r) q) (omega (arith, ap length e)) in
       let y : Goes k (binary o a b) r (goOn (x .depth) k a (x .left)) = operator-read (x .depth) k r (x .left) l n (x .same ∙ q .bare) (omega (arith, x .enough, ap length (q .bare), length-append (sign o) (u ++ r), q .filled)) in
       record { depth = y .depth; left = y .left; same = y .same; enough = y .enough; out = ap (binaryAt d k) e ∙ x .out ∙ y .out }
@@ -117,7 +117,7 @@ module _ (t a b : Tree) (s u w : List ℕ) (f : Run 6 t s) (g : Whole a u) (h : 
   chosen-read zero r e l = absurd (omega arith)
   chosen-read (suc d) r e l =
       let v : List ℕ = u ++ (58 ∷ w ++ r) in
-      let i : s ++ (63 ∷ u) ++ (58 ∷ w) ++ r ≡ s ++ (63 ∷ v) = simp append-assoc in
+      let i : s ++ (63 ∷ u) ++ (58 ∷ w) ++ r ≡ s ++ (63 ∷ v) = choice-parts s u w r in
       let x : Reads t (63 ∷ v) (binaryAt d 6 (s ++ (63 ∷ v))) = run-ends 6 t s f d 6 (63 ∷ v) (omega arith) (asked v) (omega (arith, ap length i)) in
       let y : Reads a (58 ∷ w ++ r) (choiceAt d v) = g d (58 ∷ w ++ r) (parted (w ++ r)) (omega (arith, ap length i, length-append s (63 ∷ v))) in
       let z : Reads b r (choiceAt d (w ++ r)) = h d r e (omega (arith, ap length i, length-append s (63 ∷ v), length-append u (58 ∷ w ++ r))) in

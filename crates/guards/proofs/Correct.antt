@@ -18,6 +18,7 @@ use Rattle.guards.specs.Grammar.{Read, read, unspaced, operatorAt, byOpe
 use Rattle.guards.specs.Rules.{Derives, named, positive, negative, enclosed, negated, joined, chosen, tighter}
 use Rattle.guards.proofs.Values.{val-same, no-value, bound, case-by}
 use Rattle.guards.proofs.Numerals.{Numeral, numeral-told}
+use Rattle.guards.proofs.Derived.{choice-parts}
 use Rattle.guards.proofs.Steps.{Level, binaryLevel-within}
 use Rattle.guards.proofs.Fronts.{Front, Front-read, Front-spaced, Padded, padded, Front-padded, byte-first, Front-past, operator-found}
 
@@ -180,14 +181,11 @@ module _ (d : ℕ) (c : Correct d) (x : Read Tree) (s : List ℕ) where
 
 -- ---- choices
 
-choice-parts : (s u w r : List ℕ) → s ++ (63 ∷ u ++ (58 ∷ w ++ r)) ≡ s ++ (63 ∷ u) ++ (58 ∷ w) ++ r
-choice-parts s u w r = simp append-assoc
-
 Front-chosen : {t a b : Tree} {s v u r : List ℕ} → Front 6 t s (63 ∷ v) → Front 7 a v (58 ∷ u) → Front 7 b u r → Front 7 (choice t a b) s r
 Front-chosen {r} f g h =
     record {
       front = f .front ++ (63 ∷ g .front) ++ (58 ∷ h .front);
-      same = f .same ∙ ap (λ v. f .front ++ (63 ∷ v)) (g .same ∙ ap (λ u. g .front ++ (58 ∷ u)) (h .same)) ∙ choice-parts (f .front) (g .front) (h .front) r;
+      same = f .same ∙ ap (λ v. f .front ++ (63 ∷ v)) (g .same ∙ ap (λ u. g .front ++ (58 ∷ u)) (h .same)) ∙ sym (choice-parts (f .front) (g .front) (h .front) r);
       tree = chosen (f .tree) (g .tree) (h .tree);
     }
 

@@ -1,6 +1,6 @@
--- The first byte of what the rules derive. Assumes nothing.
+-- What the rules derive: its parts before bytes behind it, and its first byte. Assumes nothing.
 use mathlib.Core.Path.{_≡_, refl, sym, ap, _∙_}
-use mathlib.Core.List.{List, [], _∷_, _++_}
+use mathlib.Core.List.{List, [], _∷_, _++_, append-assoc}
 use Prim.Native.Nat.{ℕ, suc, _^_, _≤_, _<_}
 use native.Mathlib.Omega.{arith}
 use lib.ListN.{length}
@@ -10,7 +10,14 @@ use Rattle.guards.specs.Trees.{Tree}
 use Rattle.guards.specs.Rules.{Derives, named, positive, negative, enclosed, negated, joined, chosen, tighter, before, behind}
 use Rattle.guards.proofs.Numerals.{Leading, decimal-leading, digit-most}
 
--- there is one, and it is no `=`
+pub joined-parts : (s o u r : List ℕ) → s ++ o ++ u ++ r ≡ s ++ (o ++ (u ++ r))
+joined-parts s o u r = simp append-assoc
+
+pub choice-parts : (s u w r : List ℕ) → s ++ (63 ∷ u) ++ (58 ∷ w) ++ r ≡ s ++ (63 ∷ u ++ (58 ∷ w ++ r))
+choice-parts s u w r = simp append-assoc
+
+-- ---- there is a first byte, and it is no `=`
+
 pub record Begun (s : List ℕ) : Type 0 where
   pub first : ℕ
   pub others : List ℕ
