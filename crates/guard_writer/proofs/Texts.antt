@@ -6,8 +6,10 @@ use Prim.Native.Nat.{ℕ, _+_, _≤_, _<_, _^_}
 use native.Mathlib.Omega.{arith}
 use borrow.Author.Tests.{le-leb, lt-leb}
 use lib.Dec.{leb}
+use lib.IntN.{pos}
 use lib.ListN.{length, length-append}
 use Rattle.records.specs.Wrote.{Wrote}
+use Rattle.lines.proofs.Digits.{decimal-one}
 use Rattle.arithmetic.specs.Operators.{sum, difference, product, quotient, remainder}
 use Rattle.guards.specs.Trees.{Tree, Binary, constant, variable, negation, binary, choice, arithmetic, comparison, both, either, binaryLevel, level}
 use Rattle.guards.specs.Texts.{textOf, textIn, placed}
@@ -25,6 +27,12 @@ near-as {at} h e = subst (Near at) e h
 
 pub wrote-as : {l m xs ys : List ℕ} {at j : ℕ} → Wrote l at xs m j → xs ≡ ys → Wrote l at ys m j
 wrote-as {l} {m} {xs} {ys} {at} {j} w e = subst (λ t. Wrote l at t m j) e w
+
+-- ---- 0, as an operand that is not lower, and an unknown operator, are written
+
+pub zero-line : 48 ∷ [] ≡ textOf (constant (pos 0))
+unfolding textOf
+zero-line = sym (decimal-one 0 (omega arith))
 
 -- ---- levels
 
@@ -60,6 +68,9 @@ bare k t h = sym (ap (λ b. cond b (textOf t) (40 ∷ textOf t ++ (41 ∷ []))) 
 
 pub enclosed : (k : ℕ) (t : Tree) → k < level t → 40 ∷ textOf t ++ (41 ∷ []) ≡ textIn k t
 enclosed k t h = sym (ap (λ b. cond b (textOf t) (40 ∷ textOf t ++ (41 ∷ []))) (lt-leb (level t) k h))
+
+pub zero-text : (k : ℕ) → 48 ∷ [] ≡ textIn k (constant (pos 0))
+zero-text k = zero-line ∙ bare k (constant (pos 0)) (omega arith)
 
 -- a place that takes all
 pub anywhere : (t : Tree) → textIn 7 t ≡ textOf t
