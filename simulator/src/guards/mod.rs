@@ -3,7 +3,7 @@
 //! The reader goes from bytes to tokens, from tokens to a tree, from the tree to nodes; the writer from nodes to a
 //! tree, from the tree to text. What binds how tight stands once, in `binding`.
 
-mod binding;
+pub(crate) mod binding;
 mod parser;
 mod tokens;
 mod tree;

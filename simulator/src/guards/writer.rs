@@ -37,7 +37,7 @@ impl Tree {
     }
 
     /// A negative constant is as tight as any: its minus is its own.
-    fn level(&self) -> usize {
+    pub(crate) fn level(&self) -> usize {
         match self {
             Tree::Operation(operator, _) => level(*operator),
             _ => LEAF_LEVEL,
