@@ -582,6 +582,7 @@ static void buffers(void)
 }
 
 static uint16_t steps[MANY_STEPS];
+static uint32_t rows[12]; /* apart from the filler, which stays as it is */
 
 static void path_refused(const uint16_t *path, size_t len, size_t rows_len, unsigned number, const char *what)
 {
@@ -606,7 +607,7 @@ static void paths(void)
     path_refused(elsewhere, 1, 30, 20, "an edge of another location");
     path_refused(idle_elsewhere, 4, 30, 20, "an idle edge of another location");
     path_refused(late, 3, 0, 20, "a broken path, and no rows");
-    must(path_back(work.bytes, work.len, good, 8, (uint32_t *)(void *)filler, 12) == 4, "a path of four rows");
+    must(path_back(work.bytes, work.len, good, 8, rows, 12) == 4, "a path of four rows");
     for (size_t rows_len = 0; rows_len < 12; rows_len++) {
         path_refused(good, 8, rows_len, 21, "short rows");
     }
@@ -624,7 +625,7 @@ static void longest_path(void)
         steps[i] = i % 2 == 1 ? 65535 : 2;
     }
     steps[0] = 0;
-    must(path_back(work.bytes, work.len, steps, MANY_STEPS - 1, (uint32_t *)(void *)filler, 3) == 1, "a path of 1,000,000 cycles");
+    must(path_back(work.bytes, work.len, steps, MANY_STEPS - 1, rows, 3) == 1, "a path of 1,000,000 cycles");
     path_refused(steps, MANY_STEPS, 3, 20, "a step after 1,000,000 cycles");
     path_refused(steps, MANY_STEPS - 1, 2, 21, "a long path, and short rows");
 }
@@ -914,6 +915,17 @@ static void broken_lists(void)
     for (size_t i = 0; i < sizeof no_trees / sizeof no_trees[0]; i++) {
         set_words(&list, no_trees[i]);
         refuses_in_all(WRITE, &list, 8, no_trees[i]);
+    }
+    /* rings of so many negations beside a whole guard: each is used once, and only the order is broken */
+    for (unsigned ring = 1; ring < 4; ring++) {
+        list.len = 0;
+        for (unsigned i = 0; i < ring; i++) {
+            add_node(&list, NODE, NOT, (i + 1) % ring, 0, 0);
+        }
+        add_node(&list, NODE, VALUE, 0, 0, 0);
+        add_constant(&list, NODE, 0);
+        add_node(&list, NODE, LESS, ring, ring + 1, 0);
+        refuses_in_all(WRITE, &list, 8, "a ring");
     }
     set_words(&list, "v0 0 <");
     memmove(list.bytes + RECORD, list.bytes, 2 * RECORD);
