@@ -795,14 +795,16 @@ static void foreign_bytes(void)
 /* A line of so many bytes, with its spaces before, behind, or between. */
 static void spaced_line(size_t len, unsigned where)
 {
-    static const size_t at[] = {0, 4, 2};
+    static const char whole[] = {'v', '0', '<', '0'};
+    static const size_t fronts[] = {0, sizeof whole, 2};
+    size_t front = fronts[where], rest = sizeof whole - front;
     memset(line.bytes, ' ', len);
-    memcpy(line.bytes, "v0<0", at[where]);
-    memcpy(line.bytes + len - (4 - at[where]), "v0<0" + at[where], 4 - at[where]);
+    memcpy(line.bytes, whole, front);
+    memcpy(line.bytes + len - rest, whole + front, rest);
     line.len = len;
 }
 
-/* 256 bytes are a line and 257 are none, spaces and all; so are 257 whose nodes are few. */
+/* 256 bytes are a line and 257 are none, spaces and all. */
 static void longest_lines(void)
 {
     set_words(&list, "v0 0 <");
