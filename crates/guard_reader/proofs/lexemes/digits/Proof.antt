@@ -8,7 +8,8 @@ use borrow.Author.Tests.{not-true, not-false}
 use lib.ListN.{length, getD, drop}
 use Rattle.records.specs.Refusal.{Out}
 use Rattle.guards.specs.Grammar.{isDigit, digitsAfter, upTo, outside}
-use Rattle.guard_reader.proofs.FromPlace.{digit-least, digit-most, no-digit-end, digits-end, digits-more, digits-other, too-large, within}
+use Rattle.guards.proofs.Numerals.{digit-least, digit-most}
+use Rattle.guard_reader.proofs.FromPlace.{no-digit-end, digits-end, digits-more, digits-other, too-large, within}
 use Rattle.guard_reader.proofs.lexemes.digits.Statement.{statement}
 use Rattle.guard_reader.proofs.lexemes.digits.Tie as tie
 
