@@ -1,21 +1,17 @@
 -- Spaces and numbers of a text, byte by byte from a place on, and the bytes of an operator. Assumes nothing.
-use mathlib.Core.Path.{_≡_, refl, sym, ap, _∙_, subst}
+use mathlib.Core.Path.{_≡_, refl, sym, ap, _∙_}
 use mathlib.Core.Bool.{Bool, true, false, not, cond, _&&_}
-use mathlib.Core.Option.{Option, some, none}
 use mathlib.Core.List.{List, [], _∷_}
 use Prim.Native.Nat.{ℕ, zero, suc, _+_, _-_, _*_, _≤_, _<_}
 use native.Mathlib.Nat.{add-zero}
 use native.Mathlib.Numerals.{add-one}
 use native.Mathlib.Omega.{arith}
-use borrow.Author.Tests.{lt-ltb, le-ltb, eq-eqb, ne-eqb, leb-true}
-use lib.Dec.{leb, eqb}
+use borrow.Author.Tests.{lt-ltb, le-ltb, eq-eqb, ne-eqb}
+use lib.Dec.{eqb}
 use lib.ListN.{length, getD, drop}
 use lib.Seq.{drop-cons, getD-drop}
-use Rattle.prelude.specs.Lists.{caseOf}
-use Rattle.prelude.proofs.Counts.{and-true}
 use Rattle.records.specs.Bytes.{byte}
-use Rattle.records.specs.Refusal.{broken-line, Out, val, fault, _>>=_, _>>_, fault-if}
-use Rattle.guards.specs.Trees.{Binary}
+use Rattle.records.specs.Refusal.{broken-line, Out, _>>_, fault-if}
 use Rattle.guards.specs.Grammar.{Read, read, outside, unspaced, isDigit, digitsAfter, upTo, numeral, operatorBy, operatorAt}
 use Rattle.guards.proofs.Numerals.{digits-by, digitsAfter-grows}
 use Rattle.guard_reader.specs.Places.{ReadsNumber}

@@ -1,11 +1,10 @@
 -- `rules::leaf` meets its contract: a variable or a constant by its first byte, and the tree of its record. Assumes nothing.
 use mathlib.Core.Path.{_≡_, refl, sym, ap, _∙_}
-use Prim.Native.Nat.{ℕ, _+_, _^_, _≤_, _<_}
+use Prim.Native.Nat.{ℕ, _+_, _≤_, _<_}
 use native.Mathlib.Omega.{arith}
 use borrow.Author.Needs.{needs}
 use lib.IntN.{pos, negℤ}
 use lib.ListN.{length, drop}
-use Rattle.records.specs.Bytes.{byte}
 use Rattle.records.specs.Refusal.{_>>=_}
 use Rattle.guards.specs.Trees.{constant, variable}
 use Rattle.guards.specs.Grammar.{read}

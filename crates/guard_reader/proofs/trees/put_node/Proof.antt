@@ -1,5 +1,4 @@
 -- `trees::put_node` meets its contract: the record's fields one behind the other, as far as there is room. Assumes nothing.
-use mathlib.Core.Path.{refl}
 use mathlib.Core.List.{[], _∷_}
 use Prim.Native.Nat.{_+_, _*_}
 use native.Mathlib.Omega.{arith}
