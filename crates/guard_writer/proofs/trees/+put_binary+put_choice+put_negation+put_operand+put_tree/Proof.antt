@@ -1,0 +1,450 @@
+-- The proof of the cycle of calls of `trees::put_tree`. Each member's measure comes from its node: an operand's is below it, and a member that writes operands of
+-- node n stands between node n and its operands. Assumes nothing.
+use mathlib.Core.Path.{_≡_, sym, ap, _∙_}
+use mathlib.Core.List.{[], _∷_, _++_}
+use Prim.Native.Nat.{ℕ, _+_, _*_, _-_, _<_}
+use native.Mathlib.Omega.{arith}
+use borrow.Author.Needs.{needs}
+use borrow.Fn.Kinds.{In}
+use borrow.Fn.PlainCycle.{Measures, is, falls, and}
+use denote.Ref.{now}
+use mir.Facts.{toZ-ofZ}
+use mir.Syntax.{w32}
+use mir.Val.{SFits}
+use Rattle.records.proofs.Wrote.{wrote-then}
+use Rattle.expressions.specs.Nodes.{nodeAt}
+use Rattle.guards.specs.Trees.{constant, binaryLevel, level}
+use Rattle.guards.specs.Texts.{sign, textOf, textIn}
+use Rattle.guards.specs.Lists.{treeOf}
+use Rattle.guard_writer.specs.Operands.{binaryOf, operandTree}
+use Rattle.guard_writer.proofs.Texts.{near-left, near-then, near-as, wrote-as, level-positive, anywhere, zero-text, zero-line}
+use Rattle.guard_writer.proofs.Rules.{tree-read, level-read, no-operand, bare-operand, enclosed-operand}
+use Rattle.guard_writer.proofs.trees.put_binary.Reads as put-binary
+use Rattle.guard_writer.proofs.trees.put_binary.Kinds as put-binary-kinds
+use Rattle.guard_writer.proofs.trees.+put_binary+put_choice+put_negation+put_operand+put_tree.Lts-put_binary as put-binary-lts
+use Rattle.guard_writer.proofs.trees.put_choice.Reads as put-choice
+use Rattle.guard_writer.proofs.trees.put_choice.Kinds as put-choice-kinds
+use Rattle.guard_writer.proofs.trees.+put_binary+put_choice+put_negation+put_operand+put_tree.Lts-put_choice as put-choice-lts
+use Rattle.guard_writer.proofs.trees.put_negation.Reads as put-negation
+use Rattle.guard_writer.proofs.trees.put_negation.Kinds as put-negation-kinds
+use Rattle.guard_writer.proofs.trees.+put_binary+put_choice+put_negation+put_operand+put_tree.Lts-put_negation as put-negation-lts
+use Rattle.guard_writer.proofs.trees.put_operand.Reads as put-operand
+use Rattle.guard_writer.proofs.trees.put_operand.Kinds as put-operand-kinds
+use Rattle.guard_writer.proofs.trees.+put_binary+put_choice+put_negation+put_operand+put_tree.Lts-put_operand as put-operand-lts
+use Rattle.guard_writer.proofs.trees.put_tree.Reads as put-tree
+use Rattle.guard_writer.proofs.trees.put_tree.Kinds as put-tree-kinds
+use Rattle.guard_writer.proofs.trees.+put_binary+put_choice+put_negation+put_operand+put_tree.Lts-put_tree as put-tree-lts
+use Rattle.expressions.proofs.nodes.node_at.Reads as node-at-reads
+use Rattle.guard_writer.proofs.trees.binary_level.Reads as binary-level-reads
+use Rattle.guard_writer.proofs.trees.level.Reads as level-reads
+use Rattle.guard_writer.proofs.trees.put_constant.Reads as put-constant-reads
+use Rattle.guard_writer.proofs.trees.put_sign.Reads as put-sign-reads
+use Rattle.guard_writer.proofs.trees.put_variable.Reads as put-variable-reads
+use Rattle.lines.proofs.put_text.Reads as put-text-reads
+use Rattle.guard_writer.proofs.trees.+put_binary+put_choice+put_negation+put_operand+put_tree.{statement}
+use Rattle.guard_writer.proofs.trees.+put_binary+put_choice+put_negation+put_operand+put_tree.Tie.{close}
+
+abbrev μ-put-binary : Measures 2 put-binary-kinds.ps ℕ
+μ-put-binary κs a = 3 * a .1 .0 + 1
+
+abbrev μ-put-choice : Measures 2 put-choice-kinds.ps ℕ
+μ-put-choice κs a = 3 * a .1 .0 + 1
+
+abbrev μ-put-negation : Measures 2 put-negation-kinds.ps ℕ
+μ-put-negation κs a = 3 * a .1 .0 + 1
+
+abbrev μ-put-operand : Measures 2 put-operand-kinds.ps ℕ
+μ-put-operand κs a = 3 * a .1 .0
+
+abbrev μ-put-tree : Measures 2 put-tree-kinds.ps ℕ
+μ-put-tree κs a = 3 * a .1 .0 + 2
+
+-- what each is given at the measure t, and what a call of it asks below t
+abbrev put-binary-at : ℕ → In 2 put-binary-kinds.ps
+put-binary-at t = and 2 put-binary-kinds.ps (is 2 put-binary-kinds.ps μ-put-binary t) put-binary.Pre
+
+abbrev put-binary-below : ℕ → In 2 put-binary-kinds.ps
+put-binary-below t = and 2 put-binary-kinds.ps (falls 2 put-binary-kinds.ps _<_ μ-put-binary t) put-binary.Pre
+
+abbrev put-choice-at : ℕ → In 2 put-choice-kinds.ps
+put-choice-at t = and 2 put-choice-kinds.ps (is 2 put-choice-kinds.ps μ-put-choice t) put-choice.Pre
+
+abbrev put-choice-below : ℕ → In 2 put-choice-kinds.ps
+put-choice-below t = and 2 put-choice-kinds.ps (falls 2 put-choice-kinds.ps _<_ μ-put-choice t) put-choice.Pre
+
+abbrev put-negation-at : ℕ → In 2 put-negation-kinds.ps
+put-negation-at t = and 2 put-negation-kinds.ps (is 2 put-negation-kinds.ps μ-put-negation t) put-negation.Pre
+
+abbrev put-negation-below : ℕ → In 2 put-negation-kinds.ps
+put-negation-below t = and 2 put-negation-kinds.ps (falls 2 put-negation-kinds.ps _<_ μ-put-negation t) put-negation.Pre
+
+abbrev put-operand-at : ℕ → In 2 put-operand-kinds.ps
+put-operand-at t = and 2 put-operand-kinds.ps (is 2 put-operand-kinds.ps μ-put-operand t) put-operand.Pre
+
+abbrev put-operand-below : ℕ → In 2 put-operand-kinds.ps
+put-operand-below t = and 2 put-operand-kinds.ps (falls 2 put-operand-kinds.ps _<_ μ-put-operand t) put-operand.Pre
+
+abbrev put-tree-at : ℕ → In 2 put-tree-kinds.ps
+put-tree-at t = and 2 put-tree-kinds.ps (is 2 put-tree-kinds.ps μ-put-tree t) put-tree.Pre
+
+abbrev put-tree-below : ℕ → In 2 put-tree-kinds.ps
+put-tree-below t = and 2 put-tree-kinds.ps (falls 2 put-tree-kinds.ps _<_ μ-put-tree t) put-tree.Pre
+
+-- what the calls of each ask and ensure
+abbrev put-binary-calls : ℕ → put-binary-lts.Claims
+put-binary-calls t = (binary-level-reads.Asked, binary-level-reads.Learnt, put-operand-below t, put-operand.Post, put-sign-reads.Asked, put-sign-reads.Learnt)
+
+abbrev put-choice-calls : ℕ → put-choice-lts.Claims
+put-choice-calls t = (put-operand-below t, put-operand.Post, put-text-reads.Asked, put-text-reads.Learnt)
+
+abbrev put-negation-calls : ℕ → put-negation-lts.Claims
+put-negation-calls t = (put-text-reads.Asked, put-text-reads.Learnt, put-operand-below t, put-operand.Post)
+
+abbrev put-operand-calls : ℕ → put-operand-lts.Claims
+put-operand-calls t = (put-text-reads.Asked, put-text-reads.Learnt, node-at-reads.Asked, node-at-reads.Learnt, level-reads.Asked, level-reads.Learnt, put-tree-below t, put-tree.Post)
+
+abbrev put-tree-calls : ℕ → put-tree-lts.Claims
+put-tree-calls t = (node-at-reads.Asked, node-at-reads.Learnt, put-constant-reads.Asked, put-constant-reads.Learnt, put-variable-reads.Asked, put-variable-reads.Learnt, put-binary-below t, put-binary.Post, put-choice-below t, put-choice.Post, put-negation-below t, put-negation.Post, put-text-reads.Asked, put-text-reads.Learnt)
+
+module _ (t : ℕ) where
+  put-binary-put-operand-requires : put-binary-lts.Need-put-operand-requires (put-binary-calls t) (put-binary-at t) put-binary.Post
+  unfolding textOf
+  put-binary-put-operand-requires c κs =
+      let x = c .before .before .before .before .args in
+      let k = c .before .binary-level in
+      let o = binaryOf (x .o) in
+      let A = operandTree (nodeAt (now (x .nodes))) (x .n) (x .a) in
+      let C = operandTree (nodeAt (now (x .nodes))) (x .n) (x .b) in
+      let n = near-left (textIn (binaryLevel o) A ++ sign o) (textIn (binaryLevel o - 1) C) (c .before .before .before .before .pre .1) in
+      (omega (arith, c .before .before .before .before .pre .0), near-as (near-left (textIn (binaryLevel o) A) (sign o) n) (ap (λ j. textIn j A) (sym (k .ensures))))
+
+  put-binary-put-sign-requires : put-binary-lts.Need-put-sign-requires (put-binary-calls t) (put-binary-at t) put-binary.Post
+  unfolding textOf
+  put-binary-put-sign-requires c κs =
+      let x = c .before .before .before .before .before .before .before .before .args in
+      let k = c .before .before .before .before .before .binary-level in
+      let o = binaryOf (x .o) in
+      let A = operandTree (nodeAt (now (x .nodes))) (x .n) (x .a) in
+      let C = operandTree (nodeAt (now (x .nodes))) (x .n) (x .b) in
+      let n = near-left (textIn (binaryLevel o) A ++ sign o) (textIn (binaryLevel o - 1) C) (c .before .before .before .before .before .before .before .before .pre .1) in
+      let w = wrote-as (c .before .before .before .put-operand .ensures) (ap (λ j. textIn j A) (k .ensures)) in
+      near-then (sign o) n w
+
+  put-binary-sub-put-operand : put-binary-lts.Need-sub-put-operand (put-binary-calls t) (put-binary-at t) put-binary.Post
+  put-binary-sub-put-operand c =
+      let k = c .before .before .before .before .before .before .before .before .binary-level in
+      omega (arith, k .ensures, level-positive (binaryOf (c .before .before .before .before .before .before .before .before .before .before .before .args .o)))
+
+  put-binary-put-operand-requires-2 : put-binary-lts.Need-put-operand-requires-2 (put-binary-calls t) (put-binary-at t) put-binary.Post
+  unfolding textOf
+  put-binary-put-operand-requires-2 c κs =
+      let x = c .before .before .before .before .before .before .before .before .before .before .before .before .args in
+      let k = c .before .before .before .before .before .before .before .before .before .binary-level in
+      let o = binaryOf (x .o) in
+      let A = operandTree (nodeAt (now (x .nodes))) (x .n) (x .a) in
+      let C = operandTree (nodeAt (now (x .nodes))) (x .n) (x .b) in
+      let n = near-left (textIn (binaryLevel o) A ++ sign o) (textIn (binaryLevel o - 1) C) (c .before .before .before .before .before .before .before .before .before .before .before .before .pre .1) in
+      let w = wrote-as (c .before .before .before .before .before .before .before .put-operand .ensures) (ap (λ j. textIn j A) (k .ensures)) in
+      (omega (arith, c .before .before .before .before .before .before .before .before .before .before .before .before .pre .0), near-as (near-then (textIn (binaryLevel o - 1) C) (c .before .before .before .before .before .before .before .before .before .before .before .before .pre .1) (wrote-then w (c .before .before .before .put-sign .ensures))) (ap (λ j. textIn (j - 1) C) (sym (k .ensures))))
+
+  put-binary-returns : put-binary-lts.Need-returns (put-binary-calls t) (put-binary-at t) put-binary.Post
+  unfolding textOf
+  put-binary-returns c =
+      let x = c .before .before .before .before .before .before .before .before .before .before .before .before .before .before .before .args in
+      let k = c .before .before .before .before .before .before .before .before .before .before .before .before .binary-level in
+      let o = binaryOf (x .o) in
+      let A = operandTree (nodeAt (now (x .nodes))) (x .n) (x .a) in
+      let C = operandTree (nodeAt (now (x .nodes))) (x .n) (x .b) in
+      let w = wrote-as (c .before .before .before .before .before .before .before .before .before .before .put-operand .ensures) (ap (λ j. textIn j A) (k .ensures)) in
+      wrote-then (wrote-then w (c .before .before .before .before .before .before .put-sign .ensures)) (wrote-as (c .before .before .put-operand2 .ensures) (ap (λ j. textIn (j - 1) C) (k .ensures)))
+
+  put-choice-put-operand-requires : put-choice-lts.Need-put-operand-requires (put-choice-calls t) (put-choice-at t) put-choice.Post
+  unfolding textOf
+  put-choice-put-operand-requires c κs =
+      let x = c .before .before .before .args in
+      let asked = textIn 6 (operandTree (nodeAt (now (x .nodes))) (x .n) (x .t)) in
+      let A = operandTree (nodeAt (now (x .nodes))) (x .n) (x .a) in
+      let C = operandTree (nodeAt (now (x .nodes))) (x .n) (x .b) in
+      let n = near-left (asked ++ (63 ∷ textOf A)) (58 ∷ textOf C) (c .before .before .before .pre .1) in
+      (omega (arith, c .before .before .before .pre .0), near-left asked (63 ∷ textOf A) n)
+
+  put-choice-put-text-requires : put-choice-lts.Need-put-text-requires (put-choice-calls t) (put-choice-at t) put-choice.Post
+  unfolding textOf
+  put-choice-put-text-requires c κs =
+      let x = c .before .before .before .before .before .before .before .before .args in
+      let asked = textIn 6 (operandTree (nodeAt (now (x .nodes))) (x .n) (x .t)) in
+      let A = operandTree (nodeAt (now (x .nodes))) (x .n) (x .a) in
+      let C = operandTree (nodeAt (now (x .nodes))) (x .n) (x .b) in
+      let n = near-left (asked ++ (63 ∷ textOf A)) (58 ∷ textOf C) (c .before .before .before .before .before .before .before .before .pre .1) in
+      omega (arith, near-then (63 ∷ textOf A) n (c .before .before .before .before .put-operand .ensures) .near)
+
+  put-choice-put-operand-requires-2 : put-choice-lts.Need-put-operand-requires-2 (put-choice-calls t) (put-choice-at t) put-choice.Post
+  unfolding textOf
+  put-choice-put-operand-requires-2 c κs =
+      let x = c .before .before .before .before .before .before .before .before .before .before .before .before .args in
+      let asked = textIn 6 (operandTree (nodeAt (now (x .nodes))) (x .n) (x .t)) in
+      let A = operandTree (nodeAt (now (x .nodes))) (x .n) (x .a) in
+      let C = operandTree (nodeAt (now (x .nodes))) (x .n) (x .b) in
+      let n = near-left (asked ++ (63 ∷ textOf A)) (58 ∷ textOf C) (c .before .before .before .before .before .before .before .before .before .before .before .before .pre .1) in
+      (omega (arith, c .before .before .before .before .before .before .before .before .before .before .before .before .pre .0), near-as (near-then (textOf A) (near-then (63 ∷ textOf A) n (c .before .before .before .before .before .before .before .before .put-operand .ensures)) (c .before .before .before .put-text .ensures)) (sym (anywhere A)))
+
+  put-choice-put-text-requires-2 : put-choice-lts.Need-put-text-requires-2 (put-choice-calls t) (put-choice-at t) put-choice.Post
+  unfolding textOf
+  put-choice-put-text-requires-2 c κs =
+      let x = c .before .before .before .before .before .before .before .before .before .before .before .before .before .before .before .before .before .args in
+      let asked = textIn 6 (operandTree (nodeAt (now (x .nodes))) (x .n) (x .t)) in
+      let A = operandTree (nodeAt (now (x .nodes))) (x .n) (x .a) in
+      let C = operandTree (nodeAt (now (x .nodes))) (x .n) (x .b) in
+      let w = wrote-then (c .before .before .before .before .before .before .before .before .before .before .before .before .before .put-operand .ensures) (wrote-then (c .before .before .before .before .before .before .before .before .put-text .ensures) (wrote-as (c .before .before .before .before .put-operand2 .ensures) (anywhere A))) in
+      omega (arith, near-then (58 ∷ textOf C) (c .before .before .before .before .before .before .before .before .before .before .before .before .before .before .before .before .before .pre .1) w .near)
+
+  put-choice-put-operand-requires-3 : put-choice-lts.Need-put-operand-requires-3 (put-choice-calls t) (put-choice-at t) put-choice.Post
+  unfolding textOf
+  put-choice-put-operand-requires-3 c κs =
+      let x = c .before .before .before .before .before .before .before .before .before .before .before .before .before .before .before .before .before .before .before .before .before .args in
+      let asked = textIn 6 (operandTree (nodeAt (now (x .nodes))) (x .n) (x .t)) in
+      let A = operandTree (nodeAt (now (x .nodes))) (x .n) (x .a) in
+      let C = operandTree (nodeAt (now (x .nodes))) (x .n) (x .b) in
+      let w = wrote-then (c .before .before .before .before .before .before .before .before .before .before .before .before .before .before .before .before .before .put-operand .ensures) (wrote-then (c .before .before .before .before .before .before .before .before .before .before .before .before .put-text .ensures) (wrote-as (c .before .before .before .before .before .before .before .before .put-operand2 .ensures) (anywhere A))) in
+      (omega (arith, c .before .before .before .before .before .before .before .before .before .before .before .before .before .before .before .before .before .before .before .before .before .pre .0), near-as (near-then (textOf C) (near-then (58 ∷ textOf C) (c .before .before .before .before .before .before .before .before .before .before .before .before .before .before .before .before .before .before .before .before .before .pre .1) w) (c .before .before .before .put-text2 .ensures)) (sym (anywhere C)))
+
+  put-choice-returns : put-choice-lts.Need-returns (put-choice-calls t) (put-choice-at t) put-choice.Post
+  unfolding textOf
+  put-choice-returns c =
+      let x = c .before .before .before .before .before .before .before .before .before .before .before .before .before .before .before .before .before .before .before .before .before .before .before .before .args in
+      let asked = textIn 6 (operandTree (nodeAt (now (x .nodes))) (x .n) (x .t)) in
+      let A = operandTree (nodeAt (now (x .nodes))) (x .n) (x .a) in
+      let C = operandTree (nodeAt (now (x .nodes))) (x .n) (x .b) in
+      let w = wrote-then (c .before .before .before .before .before .before .before .before .before .before .before .before .before .before .before .before .before .before .before .before .put-operand .ensures) (wrote-then (c .before .before .before .before .before .before .before .before .before .before .before .before .before .before .before .put-text .ensures) (wrote-as (c .before .before .before .before .before .before .before .before .before .before .before .put-operand2 .ensures) (anywhere A))) in
+      wrote-then w (wrote-then (c .before .before .before .before .before .before .put-text2 .ensures) (wrote-as (c .before .before .put-operand3 .ensures) (anywhere C)))
+
+  put-negation-put-operand-requires : put-negation-lts.Need-put-operand-requires (put-negation-calls t) (put-negation-at t) put-negation.Post
+  unfolding textOf
+  put-negation-put-operand-requires c κs =
+      let x = c .before .before .before .before .before .before .before .before .args in
+      (omega (arith, c .before .before .before .before .before .before .before .before .pre .0), near-then (textIn 1 (operandTree (nodeAt (now (x .nodes))) (x .n) (x .a))) (c .before .before .before .before .before .before .before .before .pre .1) (c .before .before .before .put-text .ensures))
+
+  put-negation-returns : put-negation-lts.Need-returns (put-negation-calls t) (put-negation-at t) put-negation.Post
+  unfolding textOf
+  put-negation-returns c = wrote-then (c .before .before .before .before .before .before .put-text .ensures) (c .before .before .put-operand .ensures)
+
+  put-operand-returns : put-operand-lts.Need-returns (put-operand-calls t) (put-operand-at t) put-operand.Post
+  put-operand-returns c =
+      let x = c .before .before .before .before .before .before .before .before .args in
+      wrote-as (c .before .before .put-text .ensures) (zero-text (x .k) ∙ ap (textIn (x .k)) (no-operand (nodeAt (now (x .nodes))) (x .n) (x .a) (c .before .before .before .before .before .if1 .taken)))
+
+  put-operand-put-tree-requires : put-operand-lts.Need-put-tree-requires (put-operand-calls t) (put-operand-at t) put-operand.Post
+  put-operand-put-tree-requires c κs =
+      let x = c .before .before .before .before .before .before .before .args in
+      let s = now (x .nodes) in
+      let l : c .before .before .level .result ≡ level (treeOf (nodeAt s) (x .a)) = level-read s (x .a) (c .before .before .before .node-at .result) (c .before .before .before .node-at .ensures) (c .before .before .level .ensures) in
+      let e = bare-operand (nodeAt s) (x .n) (x .k) (x .a) (c .before .before .before .before .if1 .left) (omega (arith, l, c .before .if2 .taken)) in
+      (omega (arith, c .before .before .before .before .before .before .before .pre .0, c .before .before .before .before .if1 .left), near-as (c .before .before .before .before .before .before .before .pre .1) (sym e))
+
+  put-operand-returns-2 : put-operand-lts.Need-returns-2 (put-operand-calls t) (put-operand-at t) put-operand.Post
+  put-operand-returns-2 c =
+      let x = c .before .before .before .before .before .before .before .before .before .before .args in
+      let s = now (x .nodes) in
+      let l : c .before .before .before .before .before .level .result ≡ level (treeOf (nodeAt s) (x .a)) = level-read s (x .a) (c .before .before .before .before .before .before .node-at .result) (c .before .before .before .before .before .before .node-at .ensures) (c .before .before .before .before .before .level .ensures) in
+      let e = bare-operand (nodeAt s) (x .n) (x .k) (x .a) (c .before .before .before .before .before .before .before .if1 .left) (omega (arith, l, c .before .before .before .before .if2 .taken)) in
+      wrote-as (c .before .before .put-tree .ensures) e
+
+  put-operand-put-tree-requires-2 : put-operand-lts.Need-put-tree-requires-2 (put-operand-calls t) (put-operand-at t) put-operand.Post
+  put-operand-put-tree-requires-2 c κs =
+      let x = c .before .before .before .before .before .before .before .before .before .before .before .before .args in
+      let s = now (x .nodes) in
+      let l : c .before .before .before .before .before .before .before .level .result ≡ level (treeOf (nodeAt s) (x .a)) = level-read s (x .a) (c .before .before .before .before .before .before .before .before .node-at .result) (c .before .before .before .before .before .before .before .before .node-at .ensures) (c .before .before .before .before .before .before .before .level .ensures) in
+      let e = enclosed-operand (nodeAt s) (x .n) (x .k) (x .a) (c .before .before .before .before .before .before .before .before .before .if1 .left) (omega (arith, l, c .before .before .before .before .before .before .if2 .left)) in
+      (omega (arith, c .before .before .before .before .before .before .before .before .before .before .before .before .pre .0, c .before .before .before .before .before .before .before .before .before .if1 .left), near-left (textOf (treeOf (nodeAt s) (x .a))) (41 ∷ []) (near-then (textOf (treeOf (nodeAt s) (x .a)) ++ (41 ∷ [])) (near-as (c .before .before .before .before .before .before .before .before .before .before .before .before .pre .1) (sym e)) (c .before .before .before .put-text2 .ensures)))
+
+  put-operand-put-text-requires-3 : put-operand-lts.Need-put-text-requires-3 (put-operand-calls t) (put-operand-at t) put-operand.Post
+  put-operand-put-text-requires-3 c κs =
+      let x = c .before .before .before .before .before .before .before .before .before .before .before .before .before .before .before .before .before .args in
+      let s = now (x .nodes) in
+      let l : c .before .before .before .before .before .before .before .before .before .before .before .before .level .result ≡ level (treeOf (nodeAt s) (x .a)) = level-read s (x .a) (c .before .before .before .before .before .before .before .before .before .before .before .before .before .node-at .result) (c .before .before .before .before .before .before .before .before .before .before .before .before .before .node-at .ensures) (c .before .before .before .before .before .before .before .before .before .before .before .before .level .ensures) in
+      let e = enclosed-operand (nodeAt s) (x .n) (x .k) (x .a) (c .before .before .before .before .before .before .before .before .before .before .before .before .before .before .if1 .left) (omega (arith, l, c .before .before .before .before .before .before .before .before .before .before .before .if2 .left)) in
+      omega (arith, near-then (41 ∷ []) (near-as (c .before .before .before .before .before .before .before .before .before .before .before .before .before .before .before .before .before .pre .1) (sym e)) (wrote-then (c .before .before .before .before .before .before .before .before .put-text2 .ensures) (c .before .before .before .before .put-tree2 .ensures)) .near)
+
+  put-operand-returns-3 : put-operand-lts.Need-returns-3 (put-operand-calls t) (put-operand-at t) put-operand.Post
+  put-operand-returns-3 c =
+      let x = c .before .before .before .before .before .before .before .before .before .before .before .before .before .before .before .before .before .before .before .before .args in
+      let s = now (x .nodes) in
+      let l : c .before .before .before .before .before .before .before .before .before .before .before .before .before .before .before .level .result ≡ level (treeOf (nodeAt s) (x .a)) = level-read s (x .a) (c .before .before .before .before .before .before .before .before .before .before .before .before .before .before .before .before .node-at .result) (c .before .before .before .before .before .before .before .before .before .before .before .before .before .before .before .before .node-at .ensures) (c .before .before .before .before .before .before .before .before .before .before .before .before .before .before .before .level .ensures) in
+      let e = enclosed-operand (nodeAt s) (x .n) (x .k) (x .a) (c .before .before .before .before .before .before .before .before .before .before .before .before .before .before .before .before .before .if1 .left) (omega (arith, l, c .before .before .before .before .before .before .before .before .before .before .before .before .before .before .if2 .left)) in
+      wrote-as (wrote-then (wrote-then (c .before .before .before .before .before .before .before .before .before .before .before .put-text2 .ensures) (c .before .before .before .before .before .before .before .put-tree2 .ensures)) (c .before .before .put-text3 .ensures)) e
+
+  put-tree-put-constant-requires : put-tree-lts.Need-put-constant-requires (put-tree-calls t) (put-tree-at t) put-tree.Post
+  put-tree-put-constant-requires c κs =
+      let x = c .before .before .before .before .before .before .before .args in
+      let fits : SFits w32 (c .before .before .node .given .0 .0) = record { sfits = c .before .known-told .given .0 .1 } in
+      near-as (c .before .before .before .before .before .before .before .pre .1) (sym (ap textOf (tree-read (now (x .nodes)) (x .n) (c .before .before .before .before .node-at .ensures) (c .before .before .node .given .1))) ∙ ap (λ y. textOf (constant y)) (sym (toZ-ofZ fits)))
+
+  put-tree-put-variable-requires : put-tree-lts.Need-put-variable-requires (put-tree-calls t) (put-tree-at t) put-tree.Post
+  put-tree-put-variable-requires c κs =
+      let x = c .before .before .before .before .before .before .before .args in
+      near-as (c .before .before .before .before .before .before .before .pre .1) (sym (ap textOf (tree-read (now (x .nodes)) (x .n) (c .before .before .before .before .node-at .ensures) (c .before .before .node2 .given .1))))
+
+  put-tree-put-binary-requires : put-tree-lts.Need-put-binary-requires (put-tree-calls t) (put-tree-at t) put-tree.Post
+  put-tree-put-binary-requires c κs =
+      let x = c .before .before .before .before .before .before .before .args in
+      (omega (arith, c .before .before .before .before .before .before .before .pre .0), near-as (c .before .before .before .before .before .before .before .pre .1) (sym (ap textOf (tree-read (now (x .nodes)) (x .n) (c .before .before .before .before .node-at .ensures) (c .before .before .node3 .given .1)))))
+
+  put-tree-put-choice-requires : put-tree-lts.Need-put-choice-requires (put-tree-calls t) (put-tree-at t) put-tree.Post
+  put-tree-put-choice-requires c κs =
+      let x = c .before .before .before .before .before .before .before .args in
+      (omega (arith, c .before .before .before .before .before .before .before .pre .0), near-as (c .before .before .before .before .before .before .before .pre .1) (sym (ap textOf (tree-read (now (x .nodes)) (x .n) (c .before .before .before .before .node-at .ensures) (c .before .before .node4 .given .1)))))
+
+  put-tree-put-binary-requires-2 : put-tree-lts.Need-put-binary-requires-2 (put-tree-calls t) (put-tree-at t) put-tree.Post
+  put-tree-put-binary-requires-2 c κs =
+      let x = c .before .before .before .before .before .before .before .args in
+      (omega (arith, c .before .before .before .before .before .before .before .pre .0), near-as (c .before .before .before .before .before .before .before .pre .1) (sym (ap textOf (tree-read (now (x .nodes)) (x .n) (c .before .before .before .before .node-at .ensures) (c .before .before .node5 .given .1)))))
+
+  put-tree-put-negation-requires : put-tree-lts.Need-put-negation-requires (put-tree-calls t) (put-tree-at t) put-tree.Post
+  put-tree-put-negation-requires c κs =
+      let x = c .before .before .before .before .before .before .before .args in
+      (omega (arith, c .before .before .before .before .before .before .before .pre .0), near-as (c .before .before .before .before .before .before .before .pre .1) (sym (ap textOf (tree-read (now (x .nodes)) (x .n) (c .before .before .before .before .node-at .ensures) (c .before .before .node6 .given .1)))))
+
+  put-tree-put-binary-requires-3 : put-tree-lts.Need-put-binary-requires-3 (put-tree-calls t) (put-tree-at t) put-tree.Post
+  put-tree-put-binary-requires-3 c κs =
+      let x = c .before .before .before .before .before .before .before .args in
+      (omega (arith, c .before .before .before .before .before .before .before .pre .0), near-as (c .before .before .before .before .before .before .before .pre .1) (sym (ap textOf (tree-read (now (x .nodes)) (x .n) (c .before .before .before .before .node-at .ensures) (c .before .before .node7 .given .1)))))
+
+  put-tree-put-binary-requires-4 : put-tree-lts.Need-put-binary-requires-4 (put-tree-calls t) (put-tree-at t) put-tree.Post
+  put-tree-put-binary-requires-4 c κs =
+      let x = c .before .before .before .before .before .before .before .args in
+      (omega (arith, c .before .before .before .before .before .before .before .pre .0), near-as (c .before .before .before .before .before .before .before .pre .1) (sym (ap textOf (tree-read (now (x .nodes)) (x .n) (c .before .before .before .before .node-at .ensures) (c .before .before .node8 .given .1)))))
+
+  put-tree-returns : put-tree-lts.Need-returns (put-tree-calls t) (put-tree-at t) put-tree.Post
+  put-tree-returns c =
+      let x = c .before .before .before .before .before .before .before .before .before .before .args in
+      let fits : SFits w32 (c .before .before .before .before .before .node .given .0 .0) = record { sfits = c .before .before .before .before .known-told .given .0 .1 } in
+      wrote-as (c .before .before .put-constant .ensures) (ap (λ y. textOf (constant y)) (toZ-ofZ fits) ∙ ap textOf (tree-read (now (x .nodes)) (x .n) (c .before .before .before .before .before .before .before .node-at .ensures) (c .before .before .before .before .before .node .given .1)))
+
+  put-tree-returns-2 : put-tree-lts.Need-returns-2 (put-tree-calls t) (put-tree-at t) put-tree.Post
+  put-tree-returns-2 c =
+      let x = c .before .before .before .before .before .before .before .before .before .before .args in
+      wrote-as (c .before .before .put-variable .ensures) (ap textOf (tree-read (now (x .nodes)) (x .n) (c .before .before .before .before .before .before .before .node-at .ensures) (c .before .before .before .before .before .node2 .given .1)))
+
+  put-tree-returns-3 : put-tree-lts.Need-returns-3 (put-tree-calls t) (put-tree-at t) put-tree.Post
+  put-tree-returns-3 c =
+      let x = c .before .before .before .before .before .before .before .before .before .before .args in
+      wrote-as (c .before .before .put-binary .ensures) (ap textOf (tree-read (now (x .nodes)) (x .n) (c .before .before .before .before .before .before .before .node-at .ensures) (c .before .before .before .before .before .node3 .given .1)))
+
+  put-tree-returns-4 : put-tree-lts.Need-returns-4 (put-tree-calls t) (put-tree-at t) put-tree.Post
+  put-tree-returns-4 c =
+      let x = c .before .before .before .before .before .before .before .before .before .before .args in
+      wrote-as (c .before .before .put-choice .ensures) (ap textOf (tree-read (now (x .nodes)) (x .n) (c .before .before .before .before .before .before .before .node-at .ensures) (c .before .before .before .before .before .node4 .given .1)))
+
+  put-tree-returns-5 : put-tree-lts.Need-returns-5 (put-tree-calls t) (put-tree-at t) put-tree.Post
+  put-tree-returns-5 c =
+      let x = c .before .before .before .before .before .before .before .before .before .before .args in
+      wrote-as (c .before .before .put-binary2 .ensures) (ap textOf (tree-read (now (x .nodes)) (x .n) (c .before .before .before .before .before .before .before .node-at .ensures) (c .before .before .before .before .before .node5 .given .1)))
+
+  put-tree-returns-6 : put-tree-lts.Need-returns-6 (put-tree-calls t) (put-tree-at t) put-tree.Post
+  put-tree-returns-6 c =
+      let x = c .before .before .before .before .before .before .before .before .before .before .args in
+      wrote-as (c .before .before .put-negation .ensures) (ap textOf (tree-read (now (x .nodes)) (x .n) (c .before .before .before .before .before .before .before .node-at .ensures) (c .before .before .before .before .before .node6 .given .1)))
+
+  put-tree-returns-7 : put-tree-lts.Need-returns-7 (put-tree-calls t) (put-tree-at t) put-tree.Post
+  put-tree-returns-7 c =
+      let x = c .before .before .before .before .before .before .before .before .before .before .args in
+      wrote-as (c .before .before .put-binary3 .ensures) (ap textOf (tree-read (now (x .nodes)) (x .n) (c .before .before .before .before .before .before .before .node-at .ensures) (c .before .before .before .before .before .node7 .given .1)))
+
+  put-tree-returns-8 : put-tree-lts.Need-returns-8 (put-tree-calls t) (put-tree-at t) put-tree.Post
+  put-tree-returns-8 c =
+      let x = c .before .before .before .before .before .before .before .before .before .before .args in
+      wrote-as (c .before .before .put-binary4 .ensures) (ap textOf (tree-read (now (x .nodes)) (x .n) (c .before .before .before .before .before .before .before .node-at .ensures) (c .before .before .before .before .before .node8 .given .1)))
+
+  put-tree-returns-9 : put-tree-lts.Need-returns-9 (put-tree-calls t) (put-tree-at t) put-tree.Post
+  put-tree-returns-9 c =
+      let x = c .before .before .before .before .before .before .before .before .before .before .args in
+      wrote-as (c .before .before .put-text .ensures) (zero-line ∙ ap textOf (tree-read (now (x .nodes)) (x .n) (c .before .before .before .before .before .before .before .node-at .ensures) (c .before .before .before .before .before .enum-told .given .1)))
+
+pub +put-binary+put-choice+put-negation+put-operand+put-tree-spec : {M : Type 1} → statement M
++put-binary+put-choice+put-negation+put-operand+put-tree-spec =
+    close
+    μ-put-binary
+    μ-put-choice
+    μ-put-negation
+    μ-put-operand
+    μ-put-tree
+    (λ t. put-binary-lts.spec (put-binary-calls t) (put-binary-at t) put-binary.Post
+    (λ c κs. search needs)
+    (put-binary-put-operand-requires t)
+    (put-binary-put-sign-requires t)
+    (put-binary-sub-put-operand t)
+    (put-binary-put-operand-requires-2 t)
+    (λ c. search needs)
+    (put-binary-returns t))
+    (λ t. put-choice-lts.spec (put-choice-calls t) (put-choice-at t) put-choice.Post
+    (put-choice-put-operand-requires t)
+    (λ c. search needs)
+    (put-choice-put-text-requires t)
+    (put-choice-put-operand-requires-2 t)
+    (λ c. search needs)
+    (put-choice-put-text-requires-2 t)
+    (put-choice-put-operand-requires-3 t)
+    (λ c. search needs)
+    (put-choice-returns t))
+    (λ t. put-negation-lts.spec (put-negation-calls t) (put-negation-at t) put-negation.Post
+    (λ c. search needs)
+    (λ c κs. search needs)
+    (put-negation-put-operand-requires t)
+    (λ c. search needs)
+    (put-negation-returns t))
+    (λ t. put-operand-lts.spec (put-operand-calls t) (put-operand-at t) put-operand.Post
+    (λ c. search needs)
+    (λ c κs. search needs)
+    (λ c. search needs)
+    (put-operand-returns t)
+    (λ c κs. search needs)
+    (λ c κs. search needs)
+    (put-operand-put-tree-requires t)
+    (λ c. search needs)
+    (put-operand-returns-2 t)
+    (λ c. search needs)
+    (λ c κs. search needs)
+    (put-operand-put-tree-requires-2 t)
+    (λ c. search needs)
+    (put-operand-put-text-requires-3 t)
+    (λ c. search needs)
+    (put-operand-returns-3 t))
+    λ t. put-tree-lts.spec (put-tree-calls t) (put-tree-at t) put-tree.Post
+    (λ c κs. search needs)
+    (λ c. search needs)
+    (put-tree-put-constant-requires t)
+    (λ c. search needs)
+    (put-tree-put-variable-requires t)
+    (λ c. search needs)
+    (put-tree-put-binary-requires t)
+    (λ c. search needs)
+    (put-tree-put-choice-requires t)
+    (λ c. search needs)
+    (put-tree-put-binary-requires-2 t)
+    (λ c. search needs)
+    (put-tree-put-negation-requires t)
+    (λ c. search needs)
+    (put-tree-put-binary-requires-3 t)
+    (λ c. search needs)
+    (put-tree-put-binary-requires-4 t)
+    (λ c. search needs)
+    (λ c. search needs)
+    (λ c κs. search needs)
+    (λ c. search needs)
+    (put-tree-returns t)
+    (λ c. search needs)
+    (put-tree-returns-2 t)
+    (λ c. search needs)
+    (put-tree-returns-3 t)
+    (λ c. search needs)
+    (put-tree-returns-4 t)
+    (λ c. search needs)
+    (put-tree-returns-5 t)
+    (λ c. search needs)
+    (put-tree-returns-6 t)
+    (λ c. search needs)
+    (put-tree-returns-7 t)
+    (λ c. search needs)
+    (put-tree-returns-8 t)
+    (λ c. search needs)
+    (put-tree-returns-9 t)
