@@ -1,4 +1,6 @@
--- What the proofs of several functions use.
+-- What the proofs of several functions use, and how short a text is, which crates above cite.
 mod Texts
 mod Rules
 mod Listed
+mod Lines
+pub mod Short

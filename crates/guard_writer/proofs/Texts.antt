@@ -1,18 +1,17 @@
 -- Texts and their parts: how near each part ends, texts that are the same, and texts by the levels of their places. Assumes nothing.
-use mathlib.Core.Path.{_≡_, refl, sym, ap, _∙_, subst}
-use mathlib.Core.Bool.{true, false, cond}
+use mathlib.Core.Path.{_≡_, sym, ap, _∙_, subst}
+use mathlib.Core.Bool.{cond}
 use mathlib.Core.List.{List, [], _∷_, _++_}
-use Prim.Native.Nat.{ℕ, _+_, _≤_, _<_, _^_}
+use Prim.Native.Nat.{ℕ, _+_, _≤_, _<_}
 use native.Mathlib.Omega.{arith}
 use borrow.Author.Tests.{le-leb, lt-leb}
-use lib.Dec.{leb}
 use lib.IntN.{pos}
 use lib.ListN.{length, length-append}
 use Rattle.records.specs.Wrote.{Wrote}
 use Rattle.lines.proofs.Digits.{decimal-one}
 use Rattle.arithmetic.specs.Operators.{sum, difference, product, quotient, remainder}
 use Rattle.guards.specs.Trees.{Tree, Binary, constant, variable, negation, binary, choice, arithmetic, comparison, both, either, binaryLevel, level}
-use Rattle.guards.specs.Texts.{textOf, textIn, placed}
+use Rattle.guards.specs.Texts.{textOf, textIn}
 use Rattle.guard_writer.specs.Operands.{Near}
 
 pub near-left : {at : ℕ} (xs ys : List ℕ) → Near at (xs ++ ys) → Near at xs
@@ -36,31 +35,21 @@ zero-line = sym (decimal-one 0 (omega arith))
 
 -- ---- levels
 
-pub level-positive : (o : Binary) → 1 ≤ binaryLevel o
-level-positive (arithmetic sum) = omega arith
-level-positive (arithmetic difference) = omega arith
-level-positive (arithmetic product) = omega arith
-level-positive (arithmetic quotient) = omega arith
-level-positive (arithmetic remainder) = omega arith
-level-positive (comparison o) = omega arith
-level-positive both = omega arith
-level-positive either = omega arith
-
-binary-most : (o : Binary) → binaryLevel o ≤ 7
-binary-most (arithmetic sum) = omega arith
-binary-most (arithmetic difference) = omega arith
-binary-most (arithmetic product) = omega arith
-binary-most (arithmetic quotient) = omega arith
-binary-most (arithmetic remainder) = omega arith
-binary-most (comparison o) = omega arith
-binary-most both = omega arith
-binary-most either = omega arith
+pub levels : (o : Binary) → (1 ≤ binaryLevel o) × (binaryLevel o ≤ 7)
+levels (arithmetic sum) = (omega arith, omega arith)
+levels (arithmetic difference) = (omega arith, omega arith)
+levels (arithmetic product) = (omega arith, omega arith)
+levels (arithmetic quotient) = (omega arith, omega arith)
+levels (arithmetic remainder) = (omega arith, omega arith)
+levels (comparison o) = (omega arith, omega arith)
+levels both = (omega arith, omega arith)
+levels either = (omega arith, omega arith)
 
 level-most : (t : Tree) → level t ≤ 7
 level-most (constant z) = omega arith
 level-most (variable v) = omega arith
 level-most (negation t) = omega arith
-level-most (binary o a b) = binary-most o
+level-most (binary o a b) = levels o .1
 level-most (choice t a b) = omega arith
 
 pub bare : (k : ℕ) (t : Tree) → level t ≤ k → textOf t ≡ textIn k t

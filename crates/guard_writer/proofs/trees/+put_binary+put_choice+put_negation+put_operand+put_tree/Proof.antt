@@ -17,7 +17,7 @@ use Rattle.guards.specs.Trees.{constant, binaryLevel, level}
 use Rattle.guards.specs.Texts.{sign, textOf, textIn}
 use Rattle.guards.specs.Lists.{treeOf}
 use Rattle.guard_writer.specs.Operands.{binaryOf, operandTree}
-use Rattle.guard_writer.proofs.Texts.{near-left, near-then, near-as, wrote-as, level-positive, anywhere, zero-text, zero-line}
+use Rattle.guard_writer.proofs.Texts.{near-left, near-then, near-as, wrote-as, levels, anywhere, zero-text, zero-line}
 use Rattle.guard_writer.proofs.Rules.{tree-read, level-read, no-operand, bare-operand, enclosed-operand}
 use Rattle.guard_writer.proofs.trees.put_binary.Reads as put-binary
 use Rattle.guard_writer.proofs.trees.put_binary.Kinds as put-binary-kinds
@@ -133,7 +133,7 @@ module _ (t : ℕ) where
   put-binary-sub-put-operand : put-binary-lts.Need-sub-put-operand (put-binary-calls t) (put-binary-at t) put-binary.Post
   put-binary-sub-put-operand c =
       let k = c .before .before .before .before .before .before .before .before .binary-level in
-      omega (arith, k .ensures, level-positive (binaryOf (c .before .before .before .before .before .before .before .before .before .before .before .args .o)))
+      omega (arith, k .ensures, levels (binaryOf (c .before .before .before .before .before .before .before .before .before .before .before .args .o)) .0)
 
   put-binary-put-operand-requires-2 : put-binary-lts.Need-put-operand-requires-2 (put-binary-calls t) (put-binary-at t) put-binary.Post
   unfolding textOf

@@ -1,5 +1,5 @@
 -- `trees::put_constant` meets its contract: from half on, a number's magnitude is what its bits lack of 2 to the 32nd. Assumes nothing.
-use mathlib.Core.Path.{_≡_, refl, ap, _∙_}
+use mathlib.Core.Path.{_≡_, ap, _∙_}
 use mathlib.Core.List.{_∷_}
 use Prim.Native.Nat.{ℕ, suc, _+_, _-_, _≤_, _<_, _^_}
 use native.Mathlib.Omega.{arith}
@@ -11,7 +11,6 @@ use mir.Val.{SFits}
 use Rattle.records.specs.Bytes.{unsigned}
 use Rattle.records.proofs.Wrote.{wrote-then}
 use Rattle.model.specs.Replay.{decimal, signedDecimal, minus}
-use Rattle.guards.specs.Trees.{constant}
 use Rattle.guards.specs.Texts.{textOf}
 use Rattle.guard_writer.proofs.Texts.{wrote-as}
 use Rattle.guard_writer.proofs.trees.put_constant.Statement.{statement}
