@@ -1,22 +1,22 @@
--- `list::list` is safe, and gives each record its number: the counts are those of the records behind. Assumes nothing.
+-- `file_lines::print_records` is safe, and gives each record its number: the counts are those of the records behind. Assumes nothing.
 use Prim.Native.Nat.{_*_, _-_, _≤_, _<_}
 use native.Mathlib.Omega.{arith}
 use borrow.Author.Needs.{needs}
 use Rattle.model.specs.Limits.{tableRecords}
 use Rattle.records.specs.Bytes.{byte}
-use Rattle.list.proofs.Counting.{Counted, counted-none, counted-more, number-le}
-use Rattle.list.proofs.list.Statement.{statement}
-use Rattle.list.proofs.list.Tie as tie
+use Rattle.file_lines.proofs.Counting.{Counted, counted-none, counted-more, number-le}
+use Rattle.file_lines.proofs.print_records.Statement.{statement}
+use Rattle.file_lines.proofs.print_records.Tie as tie
 
 abbrev Inv-loop : tie.InvT-loop
-Inv-loop s counts₀ n₀ counts n = (n ≤ tableRecords) × Counted s n counts
+Inv-loop wanted s nodes counts₀ n₀ counts n = (n ≤ tableRecords) × Counted s n counts
 
 abbrev μ-loop : tie.MeasureT-loop
-μ-loop s counts₀ n₀ counts n = tableRecords - n
+μ-loop wanted s nodes counts₀ n₀ counts n = tableRecords - n
 
 -- a byte is below 256
-low : (c : tie.After-shared-slice-known2 Inv-loop μ-loop) → byte (c .before .before .before .before .before .args .s .now) (16 * c .before .before .before .loop .n) < 256
-low c = omega (arith, c .shared-slice-known2 .given (16 * c .before .before .before .loop .n))
+low : (c : tie.After-shared-slice-known3 Inv-loop μ-loop) → byte (c .before .before .before .before .before .before .args .s .now) (16 * c .before .before .before .loop .n) < 256
+low c = omega (arith, c .shared-slice-known3 .given (16 * c .before .before .before .loop .n))
 
 loop-holds : tie.Need-loop-holds Inv-loop μ-loop
 loop-holds c = (omega arith, counted-none _)
@@ -33,7 +33,7 @@ array-read-print-record c = low c
 print-record-requires : tie.Need-print-record-requires Inv-loop μ-loop
 print-record-requires c κs =
     let l = c .before .before .before .loop in
-    (omega arith, l .inv .1 .number (byte (c .before .before .before .before .before .args .s .now) (16 * l .n)) (low c))
+    (c .before .before .before .before .before .before .pre, omega arith, l .inv .1 .number (byte (c .before .before .before .before .before .before .args .s .now) (16 * l .n)) (low c))
 
 mul-counts : tie.Need-mul-counts Inv-loop μ-loop
 mul-counts c = omega (arith, low (c .before .before))
@@ -44,7 +44,7 @@ array-read-counts c = low (c .before .before)
 add-counts : tie.Need-add-counts Inv-loop μ-loop
 add-counts c =
     let l = c .before .before .before .before .before .loop in
-    let s = c .before .before .before .before .before .before .before .args .s .now in
+    let s = c .before .before .before .before .before .before .before .before .args .s .now in
     omega (arith, l .inv .1 .number (byte s (16 * l .n)) (low (c .before .before)), number-le s (byte s (16 * l .n)) (l .n))
 
 array-write-counts : tie.Need-array-write-counts Inv-loop μ-loop
@@ -53,10 +53,10 @@ array-write-counts c = low (c .before .before)
 loop-again : tie.Need-loop-again Inv-loop μ-loop
 loop-again c =
     let l = c .before .before .before .before .before .loop in
-    (omega arith, counted-more (c .before .before .before .before .before .before .before .args .s .now) (l .n) (l .counts) (omega arith) (low (c .before .before)) (l .inv .1))
+    (omega arith, counted-more (c .before .before .before .before .before .before .before .before .args .s .now) (l .n) (l .counts) (omega arith) (low (c .before .before)) (l .inv .1))
 
-pub list-spec : {M : Type 1} → statement M
-list-spec =
+pub print-records-spec : {M : Type 1} → statement M
+print-records-spec =
     tie.close
     (tie.spec
     Inv-loop
