@@ -78,7 +78,7 @@ fn main() {
     let count = os::arg_count();
     if (count == 3) & asks_file() {
         show_named();
-    } else if (count == 2) & !asks_file() {
+    } else if count == 2 {
         read_argument();
     } else {
         io::write_all(
