@@ -1,5 +1,6 @@
 /* What a control unit does with Monuvaleck: loads a chart set, checks it, plays cycles, meets refusals, sees raised events, starts anew at the end of a run,
- * translates the set into its twin, plays both side by side, and leads the twin's path back to the transitions that it came from.
+ * translates the set into its twin, plays both side by side, and leads the twin's path back to the transitions that it came from. Last it reads guards typed as a
+ * line into nodes, and writes them back.
  *
  *   cc -std=c11 -Iinclude examples/control_unit.c target/staticlib/libmonuvaleck.a -o target/control_unit
  *   target/control_unit crates/replay/data/set.bin
@@ -62,6 +63,9 @@ static const char *meaning(int32_t answer)
     case MONUVALECK_MANY_OPEN: return "two or more edges open";
     case MONUVALECK_BROKEN_PATH: return "the path is none of the twin";
     case MONUVALECK_SHORT_ROWS: return "more rows than lent";
+    case MONUVALECK_BROKEN_LINE: return "a line outside the grammar, or a constant outside 32 bits";
+    case MONUVALECK_WRONG_SORT: return "an operand of the wrong sort, or a number as the whole line";
+    case MONUVALECK_SHORT_SPACE: return "too little space for nodes or text";
     default: return "no refusal";
     }
 }
@@ -241,6 +245,22 @@ static void lead_back(size_t length, size_t steps)
     }
 }
 
+/* A guard typed as a line: its nodes, records of a set, and the line that is written of them. */
+static void show_guard(const char *typed)
+{
+    static uint8_t nodes[16 * MONUVALECK_LONGEST_LINE]; /* a line has no more nodes than bytes */
+    static uint8_t text[MONUVALECK_LONGEST_LINE];       /* and is written back no longer than it was */
+    printf("guard '%s'", typed);
+    int32_t count = guard_read((const uint8_t *)typed, strlen(typed), nodes, sizeof nodes);
+    if (refused("", count)) {
+        return;
+    }
+    int32_t length = guard_write(nodes, 16 * (size_t)count, text, sizeof text);
+    if (!refused("", length)) {
+        printf(": %d nodes, written back as %.*s\n", (int)count, (int)length, (const char *)text);
+    }
+}
+
 int main(int argc, char **argv)
 {
     size_t length = argc == 2 ? load(argv[1]) : 0;
@@ -273,5 +293,9 @@ int main(int argc, char **argv)
     refused("twin into one byte less", charts_translate(set, length, twin, (size_t)twin_length - 1));
     size_t steps = side_by_side(length, (size_t)twin_length);
     lead_back(length, steps);
+    show_guard("v0 < 0");
+    show_guard("(v0 < 10) && !((v1 - 2) == 0)");
+    show_guard("v0 =< 0");
+    show_guard("v0 - 2");
     return steps == 0;
 }

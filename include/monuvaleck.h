@@ -1,4 +1,4 @@
-/* Monuvaleck: chart sets of sewer crawlers and their automata twins.
+/* Monuvaleck: chart sets of sewer crawlers, their automata twins, and guards typed as a line.
  *
  * Link with libmonuvaleck.a (x86-64 Linux; `rt staticlib monuvaleck` writes target/staticlib/libmonuvaleck.a). It needs memcpy and memset
  * of the C library and nothing else: no heap, no files, no signals, no floating point.
@@ -8,7 +8,7 @@
  * Files are checked first, then runs and events, then comes the turn. Of the reasons that apply in one place the lowest number is answered;
  * in a turn it is the fault that is met first.
  *
- * ANY INPUT. Every function takes any bytes, runs, events, masks, paths and lengths, and ends. Nothing need be checked before. What a pointer must be:
+ * ANY INPUT. Every function takes any bytes, runs, events, masks, paths, lines and lengths, and ends. Nothing need be checked before. What a pointer must be:
  * - It points at as many elements as its length says (lengths count elements, so rows_len counts words, not rows), or at one run.
  * - It is aligned for its type: uint8_t at any address, uint16_t at even ones, uint32_t and the runs at multiples of 4.
  * - Where a length is 0 nothing is read or written there, and the pointer may be null. A run is never null.
@@ -18,7 +18,7 @@
  * THREADS. No function keeps anything: what it answers and writes depends on its arguments alone. Calls at the same time need no lock as long as none
  * writes what another reads or writes. A run may be copied, stored and loaded as bytes; its fields are in the byte order of the machine.
  *
- * STACK. Leave 256 KiB. tests/c measures the deepest stack of each function, which guards and actions of 1,024 nested nodes take.
+ * STACK. Leave 256 KiB. tests/c measures the deepest stack of each function, which guards and actions of 1,024 nested nodes take, and lines of 256 parentheses.
  *
  * TIME. Turns are taken in file order of the charts, at the positions 1 to n of a cycle for n charts; at position n + 1 time passes. A cycle is 100 ms.
  * Time empties the events, adds 1 to the ages and to the cycle count, and lets clocks grow; then the position is 1 again.
@@ -48,7 +48,7 @@ extern "C" {
 
 /* Why a call was refused, or what faulted in it. Functions answer minus these. */
 enum monuvaleck_refusal {
-    /* the chart set: every charts_ function, and path_back */
+    /* the chart set: every charts_ function, and path_back; of a list of nodes also guard_write, by 3, 5, 6 and 8 */
     MONUVALECK_ODD_LENGTH = 1,       /* its length is no multiple of 16 */
     MONUVALECK_UNORDERED_KINDS = 2,  /* a record's kind is unknown, or lower than that of the record before */
     MONUVALECK_WRONG_AMOUNTS = 3,    /* no chart, or too many of a kind */
@@ -82,17 +82,25 @@ enum monuvaleck_refusal {
 
     /* path_back */
     MONUVALECK_BROKEN_PATH = 20, /* the path names no edge, breaks turn order, goes on after 1,000,000 cycles, or an edge does not leave where its automaton stands */
-    MONUVALECK_SHORT_ROWS = 21   /* more rows than lent */
+    MONUVALECK_SHORT_ROWS = 21,  /* more rows than lent */
+
+    /* guard_read; guard_write by 24 */
+    MONUVALECK_BROKEN_LINE = 22, /* the line has no byte or more than 256, is outside the grammar, or has a constant outside 32 bits */
+    MONUVALECK_WRONG_SORT = 23,  /* an operand is of the wrong sort, or the whole line is a number */
+    MONUVALECK_SHORT_SPACE = 24  /* too little space for the nodes or for the text */
 };
 
 /* What a turn answers where nothing was taken. */
 #define MONUVALECK_IDLE 65534 /* the chart idled; a twin answers the number of its idle edge instead */
 #define MONUVALECK_TIME 65535 /* position n + 1: time passed */
 
-/* Limits: lengths in bytes that no accepted set, no accepted table and no translation is above; cycles of a run. */
+/* Limits: lengths in bytes that no accepted set, no accepted table and no translation is above; cycles of a run; bytes of a line that is read, which has no more
+ * nodes than bytes; nodes of a list that is written. */
 #define MONUVALECK_LONGEST_SET 31872
 #define MONUVALECK_LONGEST_TWIN 232576
 #define MONUVALECK_MOST_CYCLES 1000000
+#define MONUVALECK_LONGEST_LINE 256
+#define MONUVALECK_MOST_NODES 1024
 
 /* A run of a chart set. Places past the set's own charts and variables are 0. */
 typedef struct {
@@ -149,6 +157,28 @@ int32_t charts_translate(const uint8_t *set, size_t set_len, uint8_t *out, size_
  * transition gives a row of three words: cycle, chart, transition. The answer is the number of rows; the words beyond them are kept. As many rows as
  * the path has steps are always enough. Refused by 1 to 9, 20 and 21. */
 int32_t path_back(const uint8_t *set, size_t set_len, const uint16_t *path, size_t path_len, uint32_t *rows, size_t rows_len);
+
+/* Guards typed as a line, such as v0 < 10 && !(v1 == 0): 1 to 256 bytes of ASCII, without a zero at the end.
+ *   operands          v0 to v63; constants -2147483648 to 2147483647; a line in parentheses. No leading zeros.
+ *   operators         by level, the tightest first: !   * / %   + -   < <= ==   &&   ||   ?:
+ *   grouping          equal levels to the left; a choice, TRUTH ? NUMBER : NUMBER, to the right, and bare between ? and :
+ *   minus             a constant's where no operand stands before it, directly before its digits; else the operator: v0-3, v0--3
+ *   spaces            anywhere, the byte 32 alone, but not inside a name, an operator, or a constant with its minus
+ * docs/FORMAT.md has it in full. Operators have the sorts that nodes have in a set; the whole line must be a truth.
+ *
+ * guard_read writes the line's nodes as records of kind 5, 16 bytes each and whole: unused bytes are zero. Nodes are numbered from 0, operands first, left to
+ * right, so the last is the root. The answer is their number, at most 256. Room for nodes is nodes_len / 16, rounded down; what lies beyond the nodes is kept. To put
+ * them into a set behind k other nodes, add k to their operands that are nodes (all but a variable's number).
+ * Refused by 22, 23, 24, asked in this order, each of the whole line. */
+int32_t guard_read(const uint8_t *text, size_t text_len, uint8_t *nodes, size_t nodes_len);
+
+/* guard_write writes the line of the tree whose root is the last node: no spaces, and parentheses only where leaving them out would change the tree. The list is the
+ * nodes_len / 16 whole records, numbered from 0; of each the operator, the operands that it has and the constant are looked at, and neither kind nor unused bytes.
+ * The answer is the number of bytes, without a zero at the end; what lies beyond them is kept. A line of at most 256 bytes is read back as the same tree; a longer one is
+ * written where there is room, and read by nobody. 21 bytes for each node are always enough.
+ * Refused by 3 (more than 1,024 nodes), 5, 6 (a variable above 63, too), 8 (no node; an operand not lower or of the wrong sort; a root that is no truth or is used; another
+ * node not used exactly once as an operand) and 24, asked in this order, each of the whole list. */
+int32_t guard_write(const uint8_t *nodes, size_t nodes_len, uint8_t *text, size_t text_len);
 
 #ifdef __cplusplus
 }

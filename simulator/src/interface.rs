@@ -1,5 +1,5 @@
 //! The calls of the C interface with its return values: the answer, or minus the refusal's number;
-//! then nothing lent has changed.
+//! then nothing lent has changed. Those of guards typed as a line stand in `guards`.
 
 use crate::automata::{self, AutomataTable};
 use crate::charts::{self, ChartSet};
@@ -9,14 +9,14 @@ use crate::runs::Machine;
 use crate::runs::{Answer, AutomataRun, ChartsRun};
 use crate::translation;
 
-fn returned<T>(result: Result<T, Refusal>, answer: impl FnOnce(T) -> i32) -> i32 {
+pub(crate) fn returned<T>(result: Result<T, Refusal>, answer: impl FnOnce(T) -> i32) -> i32 {
     match result {
         Ok(value) => answer(value),
         Err(number) => -i32::try_from(number).expect("a refusal's number is small"),
     }
 }
 
-fn count(count: usize) -> i32 {
+pub(crate) fn count(count: usize) -> i32 {
     i32::try_from(count).expect("fewer than 2,147,483,648")
 }
 

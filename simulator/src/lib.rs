@@ -1,8 +1,9 @@
 //! Reference simulator of crawler chart sets and their automata twins.
 //!
-//! Written from the scope paper alone, so that the proved code can be compared with it. Simple
+//! Written from the papers alone, so that the proved code can be compared with it. Simple
 //! rules stand in one function each: ticks and the timing rules in `timing`, arithmetic in
-//! `expressions`, deeds in `deeds`, limits and kinds in `records`, operators in `operators`.
+//! `expressions`, deeds in `deeds`, limits and kinds in `records`, operators in `operators`. Guards
+//! typed as a line (document 02) are read and written in `guards`.
 //!
 //! Free functions of `charts` and `automata` take any bytes and check them each time;
 //! `charts::ChartSet` and `automata::AutomataTable` are the prepared forms for many calls.
@@ -16,6 +17,7 @@ pub mod deeds;
 pub mod expressions;
 pub mod files;
 pub mod generate;
+pub mod guards;
 pub mod interface;
 pub mod listing;
 pub mod node_rules;

@@ -1,18 +1,26 @@
 //! The listing of a file: a line for each record in file order, from the record formats of the scope paper. A thing has the number
-//! of its record within its kind.
+//! of its record within its kind. A guard is told by its node and, in parentheses, as the line that the writer of guards makes of it.
 
+use crate::expressions::Node;
+use crate::guards::Tree;
 use crate::operators::*;
 use crate::records::*;
 
 /// The lines of an accepted set or table.
 pub fn listing(file: &[u8]) -> String {
     let mut lines = String::new();
+    let nodes = nodes_of(file);
     for kind in whole_records(file).chunk_by(|a, b| a[0] == b[0]) {
         for (number, record) in kind.iter().enumerate() {
-            lines += &format!("{} {number}: {}\n", word(record[0]), fields(record));
+            lines += &format!("{} {number}: {}\n", word(record[0]), fields(record, &nodes));
         }
     }
     lines
+}
+
+fn nodes_of(file: &[u8]) -> Vec<Node> {
+    let of_nodes = |record: &&Record| matches!(record[0], NODE | TWIN_NODE);
+    whole_records(file).iter().filter(of_nodes).map(Node::read).collect()
 }
 
 fn word(kind: u8) -> &'static str {
@@ -34,7 +42,7 @@ fn word(kind: u8) -> &'static str {
     }
 }
 
-fn fields(record: &Record) -> String {
+fn fields(record: &Record, nodes: &[Node]) -> String {
     let two = |at: usize| read_u16(record, at);
     match record[0] {
         CHART => format!("initial state {}", two(2)),
@@ -45,7 +53,7 @@ fn fields(record: &Record) -> String {
             two(4),
             record[1],
             trigger(record),
-            guard(two(12))
+            guard(two(12), nodes)
         ),
         VARIABLE | TWIN_VARIABLE => {
             let value = |at: usize| read_i16(record, at);
@@ -61,7 +69,7 @@ fn fields(record: &Record) -> String {
         }
         LITERAL => {
             let sign = if record[1] == MUST_NOT { "must not" } else { "must hold" };
-            format!("edge {} {sign}: {}, {}", two(2), cause(record), guard(two(8)))
+            format!("edge {} {sign}: {}, {}", two(2), cause(record), guard(two(8), nodes))
         }
         CLOCK => format!("{} {} ticks", timing(record[1]), two(2)),
         UPDATE => format!("edge {}: {}", two(2), deed(record[1], record[4], two(6))),
@@ -95,12 +103,12 @@ fn cause(literal: &Record) -> String {
     }
 }
 
-fn guard(node: u16) -> String {
+/// Each node of an accepted file is an operand at most once, so those below a guard are a tree.
+fn guard(node: u16, nodes: &[Node]) -> String {
     if node == NONE {
-        String::from("no guard")
-    } else {
-        format!("guard node {node}")
+        return String::from("no guard");
     }
+    format!("guard node {node} ({})", Tree::of(nodes, usize::from(node)).text())
 }
 
 fn place(code: u8) -> &'static str {

@@ -23,3 +23,8 @@ pub const NO_EDGE_OPEN: Refusal = 18;
 pub const SEVERAL_EDGES_OPEN: Refusal = 19;
 pub const PATH: Refusal = 20;
 pub const ROWS: Refusal = 21;
+
+// Document 02, guards typed as a line: outside the grammar, a wrong sort, too little space.
+pub const LINE: Refusal = 22;
+pub const LINE_SORT: Refusal = 23;
+pub const LINE_ROOM: Refusal = 24;

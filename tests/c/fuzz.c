@@ -1,6 +1,7 @@
 /* Seeded fuzzing: fuzz FOLDER SEED COUNT [heap]. The folder holds sample files. Sets, tables, runs, masks, paths and buffers, valid, damaged and random, stand directly after
  * or before pages that cannot be touched (or on the heap, for a checker of memory). After a refusal all that was lent is unchanged; after an answer only what
- * may change has changed. No reference is asked: a cycle equals its turns, a play its cycles, twin and charts move alike, a path leads back to what was taken. */
+ * may change has changed. No reference is asked: a cycle equals its turns, a play its cycles, twin and charts move alike, a path leads back to what was taken,
+ * a guard's line is read back as its nodes, and a list of nodes is refused as a set is that has it as a guard. */
 #include "lent.h"
 #include "monuvaleck.h"
 #include "records.h"
@@ -14,7 +15,7 @@ enum { IN_FILE, IN_RUN, IN_LIST, IN_OUT };
 enum { LARGE_SETS = 5, LARGE_TABLES = 1, MOST_MASKS = 24, MOST_STEPS = 120, MOST_NODES = 1024, FILL = 0xA5 };
 enum { ENOUGH = 10000 }; /* iterations in which every number is met */
 
-enum { NUMBERS = 22 };
+enum { NUMBERS = 25 };
 
 static unsigned long iteration;
 static unsigned long met[NUMBERS]; /* the answers met: number 0 for all that are no refusal */
@@ -605,6 +606,328 @@ static void padded_alike(void)
          "a play of a longer table");
 }
 
+/* ---- guards typed as a line */
+
+static file line, nodes, text, shuffled, holder;
+
+static int32_t some_constant(void)
+{
+    static const int32_t telling[] = {0, 1, -1, 10, -10, 99, -100, INT32_MAX, INT32_MIN};
+    return chance(1, 3) ? (int32_t)(uint32_t)next() : telling[below(sizeof telling / sizeof telling[0])];
+}
+
+/* The nodes of a tree, numbered as the reader numbers them, of at most 845 nodes at depth 6; the number of its root. */
+static unsigned grow(file *f, bool truth, unsigned depth)
+{
+    static const uint8_t truths[] = {NOT, AND, OR}, comparisons[] = {EQUAL, LESS, AT_MOST}, numbers[] = {SUM, DIFFERENCE, PRODUCT, QUOTIENT, REMAINDER, CHOICE};
+    unsigned code = truth ? comparisons[below(3)] : chance(1, 2) ? CONSTANT : VALUE, operands[3] = {0};
+    if (depth > 0 && chance(4, 5)) {
+        code = !truth ? numbers[below(6)] : chance(2, 3) ? truths[below(3)] : code;
+    }
+    for (unsigned i = 0; i < operands_of(code); i++) {
+        operands[i] = grow(f, code >= NOT || (code == CHOICE && i == 0), depth > 0 ? depth - 1 : 0);
+    }
+    if (code == CONSTANT) {
+        add_constant(f, NODE, some_constant());
+    } else {
+        add_node(f, NODE, code, code == VALUE ? (unsigned)below(64) : operands[0], operands[1], operands[2]);
+    }
+    return (unsigned)(f->len / RECORD - 1);
+}
+
+/* Whether all operands of a node have their places. */
+static bool ready(const uint8_t *record, const uint16_t *places)
+{
+    bool all = true;
+    for (unsigned i = 0; i < operands_of(record[1]); i++) {
+        all = all && places[two_at(record, 2 + 2 * i)] != NONE;
+    }
+    return all;
+}
+
+/* The same tree in any order in which operands stand first. */
+static void shuffle(const file *from, file *to)
+{
+    static uint16_t places[MOST_NODES];
+    size_t count = from->len / RECORD;
+    memset(places, 0xFF, sizeof places);
+    for (to->len = 0; to->len < from->len; to->len += RECORD) {
+        size_t n = below(count);
+        while (places[n] != NONE || !ready(from->bytes + RECORD * n, places)) {
+            n = (n + 1) % count;
+        }
+        uint8_t *record = to->bytes + to->len;
+        memcpy(record, from->bytes + RECORD * n, RECORD);
+        for (unsigned i = 0; i < operands_of(record[1]); i++) {
+            set_two(record, 2 + 2 * i, places[two_at(record, 2 + 2 * i)]);
+        }
+        places[n] = (uint16_t)(to->len / RECORD);
+    }
+}
+
+/* The kind and every byte that the operator does not use as a set has them, or any others. */
+static void tidy(file *f, bool soiled)
+{
+    for (size_t at = 0; at + RECORD <= f->len; at += RECORD) {
+        uint8_t *record = f->bytes + at, any[RECORD] = {0};
+        unsigned used = record[1] == VALUE ? 1 : operands_of(record[1]);
+        if (soiled) {
+            fill_random(any, sizeof any);
+        }
+        record[0] = soiled ? any[0] : NODE;
+        memcpy(record + 2 + 2 * used, any + 2 + 2 * used, 6 - 2 * used);
+        memcpy(record + (record[1] == CONSTANT ? 12 : 8), any + 8, record[1] == CONSTANT ? 4 : 8);
+    }
+}
+
+/* What a set is refused by that has the list, its last node the guard of a transition. */
+static int32_t check_as_guard(file *list)
+{
+    size_t len = list->len / RECORD * RECORD;
+    if (len == 0) {
+        return -8;
+    }
+    holder.len = 0;
+    add_chart(&holder, 0);
+    add_state(&holder, 0);
+    add_state(&holder, 0);
+    add_transition(&holder, 1, 0, 1, NO_TRIGGER, 0, NONE);
+    add_transition(&holder, 1, 1, 1, NO_TRIGGER, 0, (unsigned)(len / RECORD - 1));
+    for (unsigned i = 0; i < 64; i++) {
+        add_variable(&holder, VARIABLE, 0, 0, 0);
+    }
+    must(holder.len + len <= sizeof holder.bytes, "room for a list");
+    memcpy(holder.bytes + holder.len, list->bytes, len);
+    holder.len += len;
+    return charts_check(holder.bytes, holder.len);
+}
+
+typedef int32_t (*guard_call)(const uint8_t *, size_t, uint8_t *, size_t);
+
+/* Read or written into so many bytes, which are room for so many of the answer's: as into many, or 24. */
+static void guard_into(guard_call call, const file *from, const file *expected, int32_t answer, size_t room)
+{
+    lend(IN_FILE, from->bytes, from->len, chance(1, 2));
+    lend(IN_OUT, filler, room, chance(1, 2));
+    int32_t given = noted(call(areas[IN_FILE].bytes, areas[IN_FILE].len, areas[IN_OUT].bytes, room));
+    must(given == (answer > 0 && room < expected->len ? -24 : answer), "a guard's answer hangs on the room alone");
+    must(kept(IN_FILE) && kept_from(IN_OUT, given < 0 ? 0 : expected->len), "a guard keeps what is beyond it");
+    must(given < 0 || memcmp(areas[IN_OUT].bytes, expected->bytes, expected->len) == 0, "a guard hangs on its buffer");
+}
+
+static void guard_into_all(guard_call call, const file *from, const file *expected, int32_t answer)
+{
+    size_t len = answer > 0 ? expected->len : below(100);
+    guard_into(call, from, expected, answer, len);
+    guard_into(call, from, expected, answer, len + 1 + below(40));
+    guard_into(call, from, expected, answer, below(len + 1));
+    guard_into(call, from, expected, answer, len > 0 ? len - 1 : 0);
+    guard_into(call, from, expected, answer, 0);
+}
+
+static int32_t read_nodes(const file *from, file *to)
+{
+    int32_t answer = guard_read(from->bytes, from->len, to->bytes, sizeof to->bytes);
+    must(answer > 0 ? answer <= MONUVALECK_LONGEST_LINE : answer == -22 || answer == -23, "what a line is answered");
+    to->len = answer > 0 ? RECORD * (size_t)answer : 0;
+    return answer;
+}
+
+static int32_t write_text(const file *from, file *to)
+{
+    int32_t answer = guard_write(from->bytes, from->len, to->bytes, sizeof to->bytes);
+    must(answer > 0 ? answer <= 21 * MOST_NODES : answer == -3 || answer == -5 || answer == -6 || answer == -8, "what a list is answered");
+    to->len = answer > 0 ? (size_t)answer : 0;
+    return answer;
+}
+
+static void copy(file *to, const file *from)
+{
+    memcpy(to->bytes, from->bytes, from->len);
+    to->len = from->len;
+}
+
+static bool same(const file *a, const file *b)
+{
+    return a->len == b->len && memcmp(a->bytes, b->bytes, a->len) == 0;
+}
+
+static file read_again, written_again;
+
+/* Any bytes as a line. What is read is a guard that a set may have; written, it is no longer than it was, and is read as the same nodes. */
+static void line_read(const file *l)
+{
+    int32_t answer = read_nodes(l, &nodes);
+    guard_into_all(guard_read, l, &nodes, answer);
+    if (answer > 0) {
+        must((size_t)answer <= l->len && check_as_guard(&nodes) == 0, "nodes that a set may have");
+        must(write_text(&nodes, &text) > 0 && text.len <= l->len, "a line that is read is written");
+        must(read_nodes(&text, &read_again) == answer && same(&read_again, &nodes), "a line written again is read alike");
+    }
+}
+
+/* Any bytes as a list. It is refused as in a set; what is written is read back as the same tree. */
+static void list_written(const file *l)
+{
+    int32_t answer = write_text(l, &text);
+    guard_into_all(guard_write, l, &text, answer);
+    copy(&shuffled, l);
+    tidy(&shuffled, false);
+    int32_t check = check_as_guard(&shuffled);
+    must(check == (answer > 0 ? 0 : answer), "a list is refused as a set's guard");
+    if (answer > MONUVALECK_LONGEST_LINE) {
+        must(read_nodes(&text, &read_again) == -22, "a long line is not read");
+    } else if (answer > 0) {
+        must(read_nodes(&text, &read_again) == (int32_t)(l->len / RECORD), "a written line is read back");
+        must(write_text(&read_again, &written_again) == answer && same(&written_again, &text), "a line read back is written alike");
+    }
+}
+
+/* ---- lines that are the same, or are not */
+
+static bool ends_operand(uint8_t byte)
+{
+    return byte == ')' || (byte >= '0' && byte <= '9');
+}
+
+/* Whether a space before the place would stand inside a name, an operator or a constant with its minus. */
+static bool inside(const uint8_t *t, size_t at)
+{
+    uint8_t before = t[at - 1], byte = t[at];
+    if (byte >= '0' && byte <= '9') {
+        return before == 'v' || (before >= '0' && before <= '9') || (before == '-' && (at == 1 || !ends_operand(t[at - 2])));
+    }
+    return (byte == '=' && (before == '<' || before == '=')) || (byte == '&' && before == '&') || (byte == '|' && before == '|');
+}
+
+static void insert(file *f, size_t at, uint8_t byte)
+{
+    memmove(f->bytes + at + 1, f->bytes + at, f->len - at);
+    f->bytes[at] = byte;
+    f->len++;
+}
+
+static void leave_out(file *f, size_t at)
+{
+    memmove(f->bytes + at, f->bytes + at + 1, f->len - at - 1);
+    f->len--;
+}
+
+/* From the back, so that the places stay those of the text without spaces. */
+static void spaces(const file *l, const file *read)
+{
+    copy(&line, l);
+    for (size_t at = l->len + 1; at-- > 0;) {
+        if ((at == 0 || at == l->len || !inside(l->bytes, at)) && line.len < MONUVALECK_LONGEST_LINE && chance(1, 3)) {
+            insert(&line, at, ' ');
+        }
+    }
+    must(read_nodes(&line, &read_again) > 0 && same(&read_again, read), "spaces change nothing");
+    size_t at = 1 + below(l->len - 1);
+    if (inside(l->bytes, at) && l->len < MONUVALECK_LONGEST_LINE) {
+        copy(&line, l);
+        insert(&line, at, ' ');
+        must(read_nodes(&line, &read_again) == -22, "a space inside");
+    }
+}
+
+static size_t closing(const file *l, size_t at)
+{
+    size_t open = 0;
+    do {
+        open += l->bytes[at] == '(';
+        open -= l->bytes[at++] == ')';
+    } while (open > 0);
+    return at - 1;
+}
+
+/* No pair of a written line can be left out; one more changes nothing. */
+static void parentheses(const file *l, const file *read)
+{
+    for (size_t at = 0; at < l->len; at++) {
+        if (l->bytes[at] == '(') {
+            copy(&line, l);
+            leave_out(&line, closing(l, at));
+            leave_out(&line, at);
+            must(read_nodes(&line, &read_again) < 0 || !same(&read_again, read), "parentheses that could be left out");
+        }
+    }
+    if (l->len + 2 <= MONUVALECK_LONGEST_LINE) {
+        copy(&line, l);
+        insert(&line, 0, '(');
+        insert(&line, line.len, ')');
+        must(read_nodes(&line, &read_again) > 0 && same(&read_again, read), "a line in parentheses");
+    }
+}
+
+/* One of the bytes that lines have. */
+static uint8_t line_byte(uint64_t number)
+{
+    static const char known[] = "v0123456789!*/%+-<=&|?:() ";
+    return (uint8_t)known[number % (sizeof known - 1)];
+}
+
+static void damage_line(file *l)
+{
+    for (size_t n = 1 + below(3); n > 0 && l->len > 0; n--) {
+        size_t at = below(l->len);
+        uint8_t byte = chance(1, 20) ? (uint8_t)next() : line_byte(next());
+        switch (below(3)) {
+        case 0: l->bytes[at] = byte; break;
+        case 1: insert(l, at, byte); break;
+        default: leave_out(l, at);
+        }
+    }
+}
+
+/* A tree, its list in two orders, its line, and what becomes of them by damage. */
+static void grown_guard(void)
+{
+    static file grown, its_line;
+    grown.len = its_line.len = 0;
+    grow(&grown, true, (unsigned)below(7));
+    must(grown.len <= RECORD * MOST_NODES, "a tree of few nodes");
+    list_written(&grown);
+    copy(&its_line, &text);
+    shuffle(&grown, &shuffled);
+    tidy(&shuffled, true);
+    must(write_text(&shuffled, &text) == (int32_t)its_line.len && same(&text, &its_line), "another order, other unused bytes, the same line");
+    if (its_line.len <= MONUVALECK_LONGEST_LINE) {
+        line_read(&its_line);
+        must(same(&nodes, &grown), "a line is read as its own nodes");
+        spaces(&its_line, &grown);
+        parentheses(&its_line, &grown);
+        damage_line(&its_line);
+        line_read(&its_line);
+    }
+    chance(1, 2) ? damage_bytes(&grown) : damage_records(&grown);
+    if (chance(1, 8)) {
+        damage_length(&grown);
+    }
+    list_written(&grown);
+}
+
+static void any_guard(void)
+{
+    static file any;
+    any.len = chance(1, 2) ? below(12) : below(300);
+    fill_random(any.bytes, any.len);
+    if (chance(1, 2)) {
+        list_written(&any);
+    }
+    bool known = chance(3, 4);
+    for (size_t i = 0; known && i < any.len; i++) {
+        any.bytes[i] = line_byte(any.bytes[i]);
+    }
+    line_read(&any);
+    if (chance(1, 100)) {
+        any.len = 0;
+        add_constant(&any, NODE, 7);
+        oversize(&any);
+        list_written(&any);
+    }
+}
+
 /* ---- all of it */
 
 static void one_set(bool whole)
@@ -653,6 +976,7 @@ int main(int argc, char **argv)
         } else {
             one_table(whole);
         }
+        chance(3, 4) ? grown_guard() : any_guard();
     }
     printf("refusals met:");
     for (unsigned number = 1; number < NUMBERS; number++) {
@@ -662,6 +986,6 @@ int main(int argc, char **argv)
     for (unsigned number = 0; number < NUMBERS; number++) {
         must(count < ENOUGH || met[number] > 0, "every number is met");
     }
-    printf("ok: %lu sets and tables, seed %s, %s\n", count, argv[2], on_heap ? "on the heap" : "between guard pages");
+    printf("ok: %lu sets and tables, as many guards, seed %s, %s\n", count, argv[2], on_heap ? "on the heap" : "between guard pages");
     return 0;
 }

@@ -39,6 +39,8 @@ size_t count_of(const uint8_t *bytes, size_t len, uint8_t kind)
     return (first_of(bytes, len, (uint8_t)(kind + 1)) - first_of(bytes, len, kind)) / RECORD;
 }
 
+enum { MOST_OPEN = 64 }; /* operands of a guard that wait for their operators */
+
 /* A new record of a kind, all zero but for that. */
 static uint8_t *add(file *f, uint8_t kind)
 {
@@ -99,6 +101,54 @@ void add_node(file *f, uint8_t kind, unsigned operator_code, unsigned a, unsigne
     set_two(record, 2, a);
     set_two(record, 4, b);
     set_two(record, 6, c);
+}
+
+unsigned operands_of(unsigned operator_code)
+{
+    switch (operator_code) {
+    case SUM: case DIFFERENCE: case PRODUCT: case QUOTIENT: case REMAINDER: case EQUAL: case LESS: case AT_MOST: case AND: case OR: return 2;
+    case NOT: return 1;
+    case CHOICE: return 3;
+    default: return 0;
+    }
+}
+
+/* The operator that a word is; 0 where it is a variable or a constant. */
+static unsigned operator_of(const char *word, size_t len)
+{
+    static const struct {
+        const char *word;
+        unsigned operator_code;
+    } operators[] = {{"*", PRODUCT}, {"/", QUOTIENT}, {"%", REMAINDER}, {"+", SUM}, {"-", DIFFERENCE}, {"<", LESS}, {"<=", AT_MOST},
+                     {"==", EQUAL}, {"&&", AND}, {"||", OR}, {"!", NOT}, {"?", CHOICE}};
+    for (size_t i = 0; i < sizeof operators / sizeof operators[0]; i++) {
+        if (strlen(operators[i].word) == len && memcmp(operators[i].word, word, len) == 0) {
+            return operators[i].operator_code;
+        }
+    }
+    return 0;
+}
+
+void add_guard(file *f, const char *words)
+{
+    unsigned open[MOST_OPEN], depth = 0, nodes = 0;
+    for (const char *word = words; *word != 0;) {
+        size_t len = strcspn(word, " ");
+        unsigned operator_code = operator_of(word, len), count = operands_of(operator_code);
+        if (depth < count || depth - count >= MOST_OPEN) {
+            abort();
+        }
+        depth -= count;
+        if (operator_code != 0) {
+            add_node(f, NODE, operator_code, open[depth], count > 1 ? open[depth + 1] : 0, count > 2 ? open[depth + 2] : 0);
+        } else if (*word == 'v') {
+            add_node(f, NODE, VALUE, (unsigned)strtoul(word + 1, NULL, 10), 0, 0);
+        } else {
+            add_constant(f, NODE, (int32_t)strtol(word, NULL, 10));
+        }
+        open[depth++] = nodes++;
+        word += len + strspn(word + len, " ");
+    }
 }
 
 void add_action(file *f, unsigned place, unsigned owner, unsigned deed, unsigned thing, unsigned node)

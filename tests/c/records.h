@@ -39,6 +39,10 @@ void add_transition(file *f, unsigned priority, unsigned source, unsigned target
 void add_variable(file *f, uint8_t kind, int lowest, int highest, int start);
 void add_constant(file *f, uint8_t kind, int32_t value);
 void add_node(file *f, uint8_t kind, unsigned operator_code, unsigned a, unsigned b, unsigned c);
+/* the nodes of a guard, numbered from 0, from words in the order in which guard_read numbers them: operands, then their operator, as in "v0 3 - 0 <"; a choice is "?" */
+void add_guard(file *f, const char *words);
+/* how many operands an operator has; 0 of one that is unknown */
+unsigned operands_of(unsigned operator_code);
 /* the thing is the variable or the event */
 void add_action(file *f, unsigned place, unsigned owner, unsigned deed, unsigned thing, unsigned node);
 

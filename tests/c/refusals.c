@@ -9,7 +9,7 @@
 #include <string.h>
 
 enum { IN_FILE, IN_RUN, IN_LIST, IN_OUT };
-enum { MOST_NUMBER = 21, MANY_STEPS = 2 * MONUVALECK_MOST_CYCLES + 1 };
+enum { MOST_NUMBER = 24, MANY_STEPS = 2 * MONUVALECK_MOST_CYCLES + 1 };
 
 /* What a call is given; each call lends copies of it. */
 static struct {
@@ -45,10 +45,12 @@ static int32_t start_automata(void) { return automata_start(LENT_FILE, LENT_RUN)
 static int32_t turn_automata(void) { return automata_turn(LENT_FILE, LENT_RUN, given.events); }
 static int32_t cycle_automata(void) { return automata_cycle(LENT_FILE, LENT_RUN, given.events); }
 static int32_t play_automata(void) { return automata_play(LENT_FILE, LENT_RUN, LENT_LIST, given.masks_len); }
+static int32_t read_guard(void) { return guard_read(LENT_FILE, LENT_OUT, given.out_len); }
+static int32_t write_guard(void) { return guard_write(LENT_FILE, LENT_OUT, given.out_len); }
 
-enum { CHECK_C, START_C, TURN_C, CYCLE_C, PLAY_C, TRANSLATE, BACK, CHECK_A, START_A, TURN_A, CYCLE_A, PLAY_A, CALLS };
+enum { CHECK_C, START_C, TURN_C, CYCLE_C, PLAY_C, TRANSLATE, BACK, CHECK_A, START_A, TURN_A, CYCLE_A, PLAY_A, READ, WRITE, CALLS };
 
-/* Each function with the numbers that it can answer, as bits. */
+/* Each function with the numbers that it can answer, as bits. Lines and lists of nodes are lent as files are, and what is made of them as a translation is. */
 #define FROM_TO(a, b) ((2u << (b)) - (1u << (a)))
 static const struct {
     const char *name;
@@ -67,6 +69,8 @@ static const struct {
     {"automata_turn", turn_automata, FROM_TO(11, 19)},
     {"automata_cycle", cycle_automata, FROM_TO(11, 19)},
     {"automata_play", play_automata, FROM_TO(11, 19)},
+    {"guard_read", read_guard, FROM_TO(22, 24)},
+    {"guard_write", write_guard, FROM_TO(3, 3) | FROM_TO(5, 6) | FROM_TO(8, 8) | FROM_TO(24, 24)},
 };
 
 static unsigned met[CALLS][MOST_NUMBER + 1], wrong[CALLS][MOST_NUMBER + 1];
@@ -578,6 +582,7 @@ static void buffers(void)
 }
 
 static uint16_t steps[MANY_STEPS];
+static uint32_t rows[12]; /* apart from the filler, which stays as it is */
 
 static void path_refused(const uint16_t *path, size_t len, size_t rows_len, unsigned number, const char *what)
 {
@@ -602,7 +607,7 @@ static void paths(void)
     path_refused(elsewhere, 1, 30, 20, "an edge of another location");
     path_refused(idle_elsewhere, 4, 30, 20, "an idle edge of another location");
     path_refused(late, 3, 0, 20, "a broken path, and no rows");
-    must(path_back(work.bytes, work.len, good, 8, (uint32_t *)(void *)filler, 12) == 4, "a path of four rows");
+    must(path_back(work.bytes, work.len, good, 8, rows, 12) == 4, "a path of four rows");
     for (size_t rows_len = 0; rows_len < 12; rows_len++) {
         path_refused(good, 8, rows_len, 21, "short rows");
     }
@@ -620,9 +625,374 @@ static void longest_path(void)
         steps[i] = i % 2 == 1 ? 65535 : 2;
     }
     steps[0] = 0;
-    must(path_back(work.bytes, work.len, steps, MANY_STEPS - 1, (uint32_t *)(void *)filler, 3) == 1, "a path of 1,000,000 cycles");
+    must(path_back(work.bytes, work.len, steps, MANY_STEPS - 1, rows, 3) == 1, "a path of 1,000,000 cycles");
     path_refused(steps, MANY_STEPS, 3, 20, "a step after 1,000,000 cycles");
     path_refused(steps, MANY_STEPS - 1, 2, 21, "a long path, and short rows");
+}
+
+/* ---- guards typed as a line */
+
+static file line, list;
+
+/* Lines that are read; their nodes, as the words of add_guard; how these are written, null for as they were read. */
+static const struct {
+    const char *line, *words, *written;
+} guards[] = {
+    {"v0<0", "v0 0 <", NULL},
+    {"v0 < 0", "v0 0 <", "v0<0"},
+    {"  v62<=v63   ", "v62 v63 <=", "v62<=v63"},
+    {"((v9)) == ( (10) )", "v9 10 ==", "v9==10"},
+    {"(v0<0)", "v0 0 <", "v0<0"},
+    /* constants, and whose a minus is */
+    {"-2147483648<2147483647", "-2147483648 2147483647 <", NULL},
+    {"-0==v0", "0 v0 ==", "0==v0"},
+    {"( -3)<-1", "-3 -1 <", "-3<-1"},
+    {"v0-3<0", "v0 3 - 0 <", NULL},
+    {"v0 -3<0", "v0 3 - 0 <", "v0-3<0"},
+    {"(v0)-3<0", "v0 3 - 0 <", "v0-3<0"},
+    {"v0--3<0", "v0 -3 - 0 <", NULL},
+    {"v0- -3<0", "v0 -3 - 0 <", "v0--3<0"},
+    {"v0--2147483648<0", "v0 -2147483648 - 0 <", NULL},
+    {"-1-1--1<v0*-2", "-1 1 - -1 - v0 -2 * <", NULL},
+    /* levels, and how equal ones group */
+    {"1-2-3<4", "1 2 - 3 - 4 <", NULL},
+    {"1-(2-3)<4", "1 2 3 - - 4 <", NULL},
+    {"1+(2+3)<4", "1 2 3 + + 4 <", NULL},
+    {"(1+2)+3<4", "1 2 + 3 + 4 <", "1+2+3<4"},
+    {"1+2*3<4", "1 2 3 * + 4 <", NULL},
+    {"(1+2)*3<4", "1 2 + 3 * 4 <", NULL},
+    {"8/4%3*2<=4", "8 4 / 3 % 2 * 4 <=", NULL},
+    {"8/(4%(3*2))==4", "8 4 3 2 * % / 4 ==", NULL},
+    {"4<(1-2)", "4 1 2 - <", "4<1-2"},
+    {"!(v0<3)", "v0 3 < !", NULL},
+    {"! !( v0<3 )", "v0 3 < ! !", "!!(v0<3)"},
+    {"!(!(v0<3)||v1<4)", "v0 3 < ! v1 4 < || !", NULL},
+    {"v0<1&&v1<2&&v2<3", "v0 1 < v1 2 < && v2 3 < &&", NULL},
+    {"v0<1&&(v1<2&&v2<3)", "v0 1 < v1 2 < v2 3 < && &&", NULL},
+    {"v0<1||v1<2&&v2<3", "v0 1 < v1 2 < v2 3 < && ||", NULL},
+    {"(v0<1||v1<2)&&v2<3", "v0 1 < v1 2 < || v2 3 < &&", NULL},
+    {"v0<1||(v1<2||v2<3)", "v0 1 < v1 2 < v2 3 < || ||", NULL},
+    {"(v0<1)||(v1<2)", "v0 1 < v1 2 < ||", "v0<1||v1<2"},
+    /* choices: to the right, bare between ? and :, in parentheses under every operator */
+    {"(v0<1?2:3)<4", "v0 1 < 2 3 ? 4 <", NULL},
+    {"4<(v0<1 ? -2 : -3)", "4 v0 1 < -2 -3 ? <", "4<(v0<1?-2:-3)"},
+    {"(v0<1?2:v1<2?3:4)==0", "v0 1 < 2 v1 2 < 3 4 ? ? 0 ==", NULL},
+    {"(v0<1?v1<2?3:4:5)==0", "v0 1 < v1 2 < 3 4 ? 5 ? 0 ==", NULL},
+    {"(v0<1?(v1<2?3:4):(v1<2?3:4))==0", "v0 1 < v1 2 < 3 4 ? v1 2 < 3 4 ? ? 0 ==", "(v0<1?v1<2?3:4:v1<2?3:4)==0"},
+    {"((v0<1||v1<2)?2+3:(4-5))*6<7", "v0 1 < v1 2 < || 2 3 + 4 5 - ? 6 * 7 <", "(v0<1||v1<2?2+3:4-5)*6<7"},
+    {"-1-(!(v0<1)?2:3)<0", "-1 v0 1 < ! 2 3 ? - 0 <", NULL},
+};
+
+/* Lines that are refused, whatever the buffer. */
+static const struct {
+    unsigned number;
+    const char *line;
+} no_guards[] = {
+    /* numbers: leading zeros, ranges, also past what a register holds; a minus that is nobody's */
+    {22, "00<1"}, {22, "01<2"}, {22, "-00<1"}, {22, "-01<1"}, {22, "v00<1"}, {22, "v01<1"}, {22, "v64<0"}, {22, "v100<0"}, {22, "v<0"}, {22, "v-1<0"}, {22, "V0<0"},
+    {22, "2147483648<0"}, {22, "-2147483649<0"}, {22, "v0-2147483648<0"}, {22, "4294967296<0"}, {22, "18446744073709551616<0"}, {22, "v4294967296<0"},
+    {22, "v18446744073709551616<0"}, {22, "v0<99999999999999999999999999"}, {22, "-"}, {22, "- 3<0"}, {22, "-v0<0"}, {22, "-(3)<0"}, {22, "--3<0"}, {22, "v0---3<0"},
+    {22, "v0-- 3<0"}, {22, "+3<0"}, {22, "v0<+3"},
+    /* spaces inside, and operators that are none */
+    {22, " "}, {22, "    "}, {22, "v 0<0"}, {22, "v0 0<1"}, {22, "1 2<3"}, {22, "v0< =0"}, {22, "v0= =0"}, {22, "v0<1& &v1<2"}, {22, "v0<1| |v1<2"},
+    {22, "v0=0"}, {22, "v0===0"}, {22, "v0=<0"}, {22, "v0!=0"}, {22, "v0>0"}, {22, "v0>=0"}, {22, "v0<<0"}, {22, "v0**2<0"}, {22, "v0<1&v1<2"}, {22, "v0<1&&&v1<2"},
+    {22, "v0<1|v1<2"}, {22, "v0<1|||v1<2"}, {22, "v0<0;"}, {22, "v0.0<1"}, {22, "\tv0<0"}, {22, "v0<0\n"}, {22, "v0\r<0"}, {22, "v0<0\x7f"}, {22, "v0\xc2\xa0<0"},
+    /* what is missing, or too much */
+    {22, "v0<"}, {22, "<0"}, {22, "v0<1&&"}, {22, "!"}, {22, "v0!"}, {22, "v0<0!"}, {22, "v0<0 v1<0"}, {22, "("}, {22, ")"}, {22, "()"}, {22, "()<0"}, {22, "(v0<0"}, {22, "v0<0)"},
+    {22, "((v0<0)"}, {22, "(v0<0))"}, {22, "v0(<0)"}, {22, "v0(1)<0"}, {22, "?1:2"}, {22, "v0<0?"}, {22, "v0<0?1"}, {22, "(v0<0?1)<2"}, {22, "(v0<0:1)<2"}, {22, "(v0<0?:1)<2"},
+    {22, "(v0<0?1:)<2"}, {22, "(v0<0?1:2:3)<4"}, {22, "(v0<0?1?2:3)<4"},
+    /* 22 before 23 */
+    {22, "v0<1<2)"}, {22, "!v0+64-v64"}, {22, "v0&&00"},
+    /* sorts: a number as the whole line, numbers for truths, truths for numbers */
+    {23, "v0"}, {23, "3"}, {23, "-3"}, {23, " (v0) "}, {23, "v0+1"}, {23, "v0<1?2:3"}, {23, "!v0"}, {23, "!-3"}, {23, "!v0<3"}, {23, "!(v0)"}, {23, "!(v0<1?2:3)"}, {23, "v0<1<2"},
+    {23, "v0==1==1"}, {23, "v0<1==v1<2"}, {23, "(v0<1)==(v1<2)"}, {23, "v0&&v1"}, {23, "v0<1&&v1"}, {23, "v0&&v1<1"}, {23, "v0<1||1"}, {23, "v0||v1<2"}, {23, "(v0<1)+1<2"},
+    {23, "1*(v0<1)<2"}, {23, "1-!(v0<1)<2"}, {23, "(v0?1:2)<3"}, {23, "(v0<1?v1<2:3)<4"}, {23, "(v0<1?3:v1<2)<4"}, {23, "v0<1?v1<2:v2<3"}, {23, "v0<1?2:3<4"}, {23, "1<v0<1?2:3"},
+};
+
+static void set_bytes(file *f, const char *text, size_t len)
+{
+    memcpy(f->bytes, text, len);
+    f->len = len;
+}
+
+static void set_words(file *f, const char *words)
+{
+    f->len = 0;
+    add_guard(f, words);
+}
+
+/* The call answers the number, writes the bytes and changes nothing else. */
+static void gives(unsigned call, int32_t number, const uint8_t *bytes, size_t len, const char *what)
+{
+    for (unsigned low = 0; low < 2; low++) {
+        lend_given(call, low != 0);
+        int32_t answer = calls[call].call();
+        bool fine = answer == number && memcmp(areas[IN_OUT].bytes, bytes, len) == 0 && kept_from(IN_OUT, len) && kept(IN_FILE);
+        if (!fine) {
+            printf("%s: %s: answer %d, not %d\n", calls[call].name, what, (int)answer, (int)number);
+        }
+        must(fine, "a guard's answer, or what was written");
+    }
+}
+
+/* Into every length that is too short, and into some that are not. */
+static void fills(unsigned call, const file *from, int32_t number, const uint8_t *bytes, size_t len, const char *what)
+{
+    given.f = from;
+    for (given.out_len = 0; given.out_len < len; given.out_len++) {
+        refuses(call, 24, what);
+    }
+    for (; given.out_len < len + 40; given.out_len++) {
+        gives(call, number, bytes, len, what);
+    }
+}
+
+/* Lent lengths about those of no node, one and two; and more than any line needs. */
+static void refuses_in_all(unsigned call, const file *from, unsigned number, const char *what)
+{
+    static const size_t lens[] = {0, 1, 15, 16, 17, 32, 8192};
+    given.f = from;
+    for (size_t i = 0; i < sizeof lens / sizeof lens[0]; i++) {
+        given.out_len = lens[i];
+        refuses(call, number, what);
+    }
+}
+
+static void read_lines(void)
+{
+    for (size_t i = 0; i < sizeof guards / sizeof guards[0]; i++) {
+        set_bytes(&line, guards[i].line, strlen(guards[i].line));
+        set_words(&list, guards[i].words);
+        fills(READ, &line, (int32_t)(list.len / RECORD), list.bytes, list.len, guards[i].line);
+    }
+    puts("ok: lines read into their nodes and more");
+    for (size_t i = 0; i < sizeof no_guards / sizeof no_guards[0]; i++) {
+        set_bytes(&line, no_guards[i].line, strlen(no_guards[i].line));
+        refuses_in_all(READ, &line, no_guards[i].number, no_guards[i].line);
+    }
+    line.len = 0;
+    refuses_in_all(READ, &line, 22, "no bytes");
+}
+
+/* Bytes that no line has, at every place of one. */
+static void foreign_bytes(void)
+{
+    static const char known[] = "v0123456789!*/%+-<=&|?:() ", whole[] = "v0<10";
+    for (unsigned byte = 0; byte < 256; byte++) {
+        if (byte != 0 && byte < 128 && strchr(known, (int)byte) != NULL) {
+            continue;
+        }
+        for (size_t at = 0; at <= strlen(whole); at++) {
+            set_bytes(&line, whole, at);
+            line.bytes[line.len++] = (uint8_t)byte;
+            memcpy(line.bytes + line.len, whole + at, strlen(whole) - at);
+            line.len += strlen(whole) - at;
+            refuses_in_all(READ, &line, 22, "a byte that no line has");
+        }
+    }
+}
+
+/* A line of so many bytes, with its spaces before, behind, or between. */
+static void spaced_line(size_t len, unsigned where)
+{
+    static const char whole[] = {'v', '0', '<', '0'};
+    static const size_t fronts[] = {0, sizeof whole, 2};
+    size_t front = fronts[where], rest = sizeof whole - front;
+    memset(line.bytes, ' ', len);
+    memcpy(line.bytes, whole, front);
+    memcpy(line.bytes + len - rest, whole + front, rest);
+    line.len = len;
+}
+
+/* 256 bytes are a line and 257 are none, spaces and all. */
+static void longest_lines(void)
+{
+    set_words(&list, "v0 0 <");
+    for (unsigned where = 0; where < 3; where++) {
+        spaced_line(MONUVALECK_LONGEST_LINE, where);
+        fills(READ, &line, 3, list.bytes, list.len, "a line of 256 bytes");
+        spaced_line(MONUVALECK_LONGEST_LINE + 1, where);
+        refuses_in_all(READ, &line, 22, "a line of 257 bytes");
+    }
+    /* 126 pairs of parentheses, which leave no node; 250 negations, which are one each */
+    memset(line.bytes, '(', 126);
+    memcpy(line.bytes + 126, "v0<0", 4);
+    memset(line.bytes + 130, ')', 126);
+    line.len = 256;
+    fills(READ, &line, 3, list.bytes, list.len, "126 pairs of parentheses");
+    memset(line.bytes, '!', 250);
+    memcpy(line.bytes + 250, "(v0<0)", 6);
+    for (unsigned i = 0; i < 250; i++) {
+        add_node(&list, NODE, NOT, 2 + i, 0, 0);
+    }
+    fills(READ, &line, 253, list.bytes, list.len, "250 negations");
+    memset(line.bytes, '(', 256);
+    refuses_in_all(READ, &line, 22, "256 parentheses");
+    memset(line.bytes, '!', 256);
+    refuses_in_all(READ, &line, 22, "256 negations of nothing");
+    puts("ok: lines of 256 bytes");
+}
+
+/* Whatever the kind and the bytes that an operator does not use. */
+static void soil(file *f)
+{
+    for (uint8_t *r = f->bytes; r < f->bytes + f->len; r += RECORD) {
+        unsigned used = r[1] == VALUE ? 1 : operands_of(r[1]);
+        r[0] = 0xEE;
+        memset(r + 2 + 2 * used, 0xFF, 6 - 2 * used);
+        memset(r + 8 + (r[1] == CONSTANT ? 4 : 0), 0xEE, r[1] == CONSTANT ? 4 : 8);
+    }
+}
+
+/* A list that is written: as it is, soiled, and with less than a record behind it. */
+static void is_written(const char *text, const char *what)
+{
+    size_t len = list.len;
+    fills(WRITE, &list, (int32_t)strlen(text), (const uint8_t *)text, strlen(text), what);
+    soil(&list);
+    memset(list.bytes + len, 0x5A, RECORD - 1);
+    given.out_len = strlen(text);
+    for (; list.len < len + RECORD; list.len += 5) {
+        gives(WRITE, (int32_t)strlen(text), (const uint8_t *)text, strlen(text), what);
+    }
+}
+
+static void written_lists(void)
+{
+    for (size_t i = 0; i < sizeof guards / sizeof guards[0]; i++) {
+        set_words(&list, guards[i].words);
+        is_written(guards[i].written == NULL ? guards[i].line : guards[i].written, guards[i].words);
+    }
+    /* operands in another order than the reader's: v1 < v0 - 3 */
+    list.len = 0;
+    add_constant(&list, NODE, 3);
+    add_node(&list, NODE, VALUE, 0, 0, 0);
+    add_node(&list, NODE, DIFFERENCE, 1, 0, 0);
+    add_node(&list, NODE, VALUE, 1, 0, 0);
+    add_node(&list, NODE, LESS, 3, 2, 0);
+    is_written("v1<v0-3", "another order");
+    puts("ok: lists written into their length and more");
+}
+
+/* Lists with one change. */
+static const struct {
+    const char *words;
+    change change;
+} list_changes[] = {
+    {"v0 0 <", {"operator 0", 0, 1, 1, 0, 5}},
+    {"v0 0 <", {"operator 9", 1, 1, 1, 9, 5}},
+    {"v0 0 <", {"operator 15", 2, 1, 1, 15, 5}},
+    {"v0 0 <", {"operator 22", 2, 1, 1, 22, 5}},
+    {"v0 0 <", {"operator 255", 0, 1, 1, 255, 5}},
+    {"v0 0 <", {"variable 64", 0, 2, 2, 64, 6}},
+    {"v0 0 <", {"variable 65,535", 0, 2, 2, 65535, 6}},
+    {"v0 0 <", {"a first operand that is not there", 2, 2, 2, 3, 6}},
+    {"v0 0 <", {"a second operand that is not there", 2, 4, 2, 3, 6}},
+    {"v0 0 < !", {"the operand of a negation that is not there", 3, 2, 2, 65535, 6}},
+    {"v0 0 < 1 2 ? 3 <", {"a third operand that is not there", 5, 6, 2, 8, 6}},
+    {"v0 0 <", {"the node itself as first operand", 2, 2, 2, 2, 8}},
+    {"v0 0 <", {"the node itself as second operand", 2, 4, 2, 2, 8}},
+    {"v0 0 < !", {"the negation of itself", 3, 2, 2, 3, 8}},
+    {"v0 0 < 1 2 ? 3 <", {"a later third operand", 5, 6, 2, 6, 8}},
+    {"v0 0 < v1 1 < &&", {"a ring with the root", 5, 2, 2, 6, 8}},
+    {"v0 0 <", {"an operand twice", 2, 4, 2, 0, 8}},
+    {"v0 0 < v1 1 < &&", {"a truth twice", 6, 4, 2, 2, 8}},
+    {"v0 0 < !", {"the negation of a number", 3, 2, 2, 1, 8}},
+    {"v0 0 < v1 1 < &&", {"the sum of truths", 6, 1, 1, SUM, 8}},
+    {"v0 0 < v1 1 < &&", {"truths compared", 6, 1, 1, EQUAL, 8}},
+    {"v0 0 <", {"both of two numbers", 2, 1, 1, AND, 8}},
+    {"v0 0 <", {"a root that is a number", 2, 1, 1, DIFFERENCE, 8}},
+    {"v0 0 < 1 2 ? 3 <", {"a choice between a truth and a number", 5, 4, 2, 2, 8}},
+    {"v0 0 < 1 2 ? 3 <", {"a choice by a number", 5, 2, 2, 0, 8}},
+};
+
+static void broken_lists(void)
+{
+    static const char *const no_trees[] = {"3", "v0", "v0 3 +", "v0 0 < 1 2 ?", "v0 0 < v1 1 <", "7 v0 0 <"};
+    for (size_t i = 0; i < sizeof list_changes / sizeof list_changes[0]; i++) {
+        set_words(&list, list_changes[i].words);
+        apply(&list, &list_changes[i].change);
+        refuses_in_all(WRITE, &list, list_changes[i].change.number, list_changes[i].change.what);
+    }
+    for (size_t i = 0; i < sizeof no_trees / sizeof no_trees[0]; i++) {
+        set_words(&list, no_trees[i]);
+        refuses_in_all(WRITE, &list, 8, no_trees[i]);
+    }
+    /* rings of so many negations beside a whole guard: each is used once, and only the order is broken */
+    for (unsigned ring = 1; ring < 4; ring++) {
+        list.len = 0;
+        for (unsigned i = 0; i < ring; i++) {
+            add_node(&list, NODE, NOT, (i + 1) % ring, 0, 0);
+        }
+        add_node(&list, NODE, VALUE, 0, 0, 0);
+        add_constant(&list, NODE, 0);
+        add_node(&list, NODE, LESS, ring, ring + 1, 0);
+        refuses_in_all(WRITE, &list, 8, "a ring");
+    }
+    set_words(&list, "v0 0 <");
+    memmove(list.bytes + RECORD, list.bytes, 2 * RECORD);
+    list.len = 0;
+    add_node(&list, NODE, LESS, 1, 2, 0);
+    list.len = 3 * RECORD;
+    refuses_in_all(WRITE, &list, 8, "a list right in all but its order");
+    for (list.len = 0; list.len < RECORD; list.len++) {
+        refuses_in_all(WRITE, &list, 8, "no whole record");
+    }
+}
+
+/* All choices of what is broken: the lowest number is answered, and 24 comes last. */
+static void lists_broken_at_once(void)
+{
+    static const change changes[] = {{"", 7, 2, 2, 5, 8}, {"", 0, 2, 2, 64, 6}, {"", 3, 1, 1, 9, 5}};
+    for (unsigned broken = 1; broken < 16; broken++) {
+        unsigned lowest = 0;
+        set_words(&list, "v0 1 < v1 2 < && !");
+        for (unsigned i = 0; i < 3; i++) {
+            if (broken >> i & 1) {
+                apply(&list, &changes[i]);
+                lowest = changes[i].number;
+            }
+        }
+        if (broken >> 3) {
+            while (list.len <= RECORD * MONUVALECK_MOST_NODES) {
+                add_node(&list, NODE, NOT, (unsigned)(list.len / RECORD - 1), 0, 0);
+            }
+            lowest = 3;
+        }
+        refuses_in_all(WRITE, &list, lowest, "a list broken in several ways");
+    }
+}
+
+/* 1,024 nodes are a list and 1,025 are none. Longer lines than are read are written. */
+static void longest_lists(void)
+{
+    static char text[2048];
+    set_words(&list, "v0 0 <");
+    while (list.len < RECORD * MONUVALECK_MOST_NODES) {
+        text[list.len / RECORD - 3] = '!';
+        add_node(&list, NODE, NOT, (unsigned)(list.len / RECORD - 1), 0, 0);
+    }
+    memcpy(text + MONUVALECK_MOST_NODES - 3, "(v0<0)", 6);
+    is_written(text, "1,024 nodes");
+    set_bytes(&line, text, strlen(text));
+    refuses_in_all(READ, &line, 22, "a line of 1,024 nodes");
+    list.len = RECORD * MONUVALECK_MOST_NODES;
+    add_node(&list, NODE, NOT, MONUVALECK_MOST_NODES - 1, 0, 0);
+    refuses_in_all(WRITE, &list, 3, "1,025 nodes");
+    list.len += 5;
+    refuses_in_all(WRITE, &list, 3, "1,025 nodes and a part");
+    puts("ok: a list of 1,024 nodes");
+}
+
+static void all_guards(void)
+{
+    read_lines();
+    foreign_bytes();
+    longest_lines();
+    written_lists();
+    broken_lists();
+    lists_broken_at_once();
+    longest_lists();
 }
 
 /* ---- what is no refusal, at the same edges */
@@ -648,6 +1018,10 @@ static void vast_lengths(void)
     memcpy(zeros, work.bytes, work.len);
     memset(zeros + work.len, 0, table.len);
     fine = fine && charts_check(zeros, over + work.len) == -2 && charts_check(zeros, over + work.len + 1) == -1;
+    set_bytes(&line, "v0<0", 4);
+    memcpy(zeros, line.bytes, line.len);
+    fine = fine && guard_read(zeros, over + line.len, filler, sizeof filler) == -22 && guard_read(line.bytes, line.len, zeros, over) == 3 &&
+           guard_write(zeros, over + 3 * RECORD, filler, sizeof filler) == -3 && guard_write(zeros, 3 * RECORD, zeros + 3 * RECORD, over) == 4;
     must(fine, "lengths above 32 bits");
     puts("ok: lengths above 32 bits");
 }
@@ -667,6 +1041,10 @@ static void no_lengths(void)
                 automata_play(NULL, 0, &twin_run, NULL, 0) == -11 && charts_translate(NULL, 0, NULL, 0) == -3 && path_back(NULL, 0, NULL, 0, NULL, 0) == -3 &&
                 charts_play(work.bytes, work.len, &run, NULL, 0) == 0 && automata_play(table.bytes, table.len, &twin_run, NULL, 0) == 0 &&
                 charts_translate(work.bytes, work.len, NULL, 0) == -10 && path_back(work.bytes, work.len, NULL, 0, NULL, 0) == 0;
+    set_bytes(&line, "v0<0", 4);
+    set_words(&list, "v0 0 <");
+    fine = fine && guard_read(NULL, 0, NULL, 0) == -22 && guard_read(line.bytes, line.len, NULL, 0) == -24 && guard_write(NULL, 0, NULL, 0) == -8 &&
+           guard_write(list.bytes, list.len, NULL, 0) == -24;
     for (size_t i = 0; i < sizeof run; i++) {
         fine = fine && ((const uint8_t *)&run)[i] == 255;
     }
@@ -754,6 +1132,7 @@ int main(int argc, char **argv)
     buffers();
     paths();
     longest_path();
+    all_guards();
     no_lengths();
     vast_lengths();
     stopped_play();

@@ -15,10 +15,10 @@
 #include <unistd.h>
 
 enum { STACK = 1 << 20, LIMIT = 256 * 1024, PAINT = 0x5A, FINEST = 16, MOST_NODES = 1024, MANY_STEPS = 2 * MONUVALECK_MOST_CYCLES };
-enum { CHECK_C, START_C, TURN_C, CYCLE_C, PLAY_C, TRANSLATE, BACK, CHECK_A, START_A, TURN_A, CYCLE_A, PLAY_A, NOTHING, CALLS };
+enum { CHECK_C, START_C, TURN_C, CYCLE_C, PLAY_C, TRANSLATE, BACK, CHECK_A, START_A, TURN_A, CYCLE_A, PLAY_A, READ, WRITE, NOTHING, CALLS };
 
 static const char *const names[CALLS] = {"charts_check", "charts_start", "charts_turn", "charts_cycle", "charts_play", "charts_translate", "path_back",
-                                         "automata_check", "automata_start", "automata_turn", "automata_cycle", "automata_play", "nothing"};
+                                         "automata_check", "automata_start", "automata_turn", "automata_cycle", "automata_play", "guard_read", "guard_write", "nothing"};
 static const uint32_t masks[4] = {UINT32_MAX, 0, UINT32_MAX, 1};
 
 /* ---- one call on the painted stack */
@@ -58,6 +58,8 @@ static int32_t called(void)
     case TURN_A: return automata_turn(given.bytes, given.len, &given.automata, given.events);
     case CYCLE_A: return automata_cycle(given.bytes, given.len, &given.automata, given.events);
     case PLAY_A: return automata_play(given.bytes, given.len, &given.automata, masks, 4);
+    case READ: return guard_read(given.bytes, given.len, out, sizeof out);
+    case WRITE: return guard_write(given.bytes, given.len, out, sizeof out);
     default: return 0;
     }
 }
@@ -151,6 +153,61 @@ static void measure_set(const uint8_t *bytes, size_t len, const uint16_t *path, 
     measure(BACK);
     if (measure(TRANSLATE) > 0) {
         measure_table(out, (size_t)given.answer);
+    }
+}
+
+/* ---- lines of guards */
+
+/* A line of 256 bytes or a few less: its front, so often a part, its middle, so often another part, its end. */
+static const struct {
+    const char *front, *before, *middle, *behind, *end;
+    int32_t answer;
+} lines[] = {
+    {"", "(", "", "", "", -22},
+    {"", "!", "", "", "", -22},
+    {"", "-", "", "", "", -22},
+    {"", "v0<0?", "", "", "", -22},
+    {"", "1+(", "", "", "", -22},
+    {"", "!(", "", "", "", -22},
+    {"", "(", "v0<0", ")", "", 3},
+    {"", "!", "(v0<0)", "", "", 253},
+    {"", "!(", "v0<0", ")", "", 87},
+    {"", "1+(", "1", ")", "<0", 129},
+    {"", "1+", "1<0", "", "", 255},
+    {"1", "+1", "<0", "", "", 255},
+    {"(", "0<1?2:", "2", "", ")<0", 208},
+    {"(", "0<1?", "2", ":2", ")<0", 208},
+    {"", "(", "1", "<2?3:4)", "<5", 158},
+    {"", "0<1&&(", "0<1", ")", "", 147},
+    {"", "0<1||", "0<1", "", "", 203},
+    {"", "0<1||0<1&&", "0<1", "", "", 203},
+};
+
+static size_t joined(uint8_t *to, size_t at, const char *part)
+{
+    memcpy(to + at, part, strlen(part));
+    return at + strlen(part);
+}
+
+static void measure_lines(void)
+{
+    for (size_t i = 0; i < sizeof lines / sizeof lines[0]; i++) {
+        static uint8_t line[MONUVALECK_LONGEST_LINE];
+        size_t fixed = strlen(lines[i].front) + strlen(lines[i].middle) + strlen(lines[i].end);
+        size_t times = (sizeof line - fixed) / (strlen(lines[i].before) + strlen(lines[i].behind)), len = joined(line, 0, lines[i].front);
+        for (size_t n = 0; n < times; n++) {
+            len = joined(line, len, lines[i].before);
+        }
+        len = joined(line, len, lines[i].middle);
+        for (size_t n = 0; n < times; n++) {
+            len = joined(line, len, lines[i].behind);
+        }
+        given.bytes = line;
+        given.len = joined(line, len, lines[i].end);
+        if (measure(READ) != lines[i].answer) {
+            printf("FAILED: a nested line: answer %d, not %d: %.*s\n", (int)given.answer, (int)lines[i].answer, (int)given.len, (const char *)line);
+            exit(1);
+        }
     }
 }
 
@@ -295,6 +352,17 @@ static void make_steps(void)
     steps[0] = 0;
 }
 
+/* The guard's nodes, the last of the file, as a list. */
+static void measure_list(void)
+{
+    given.bytes = work.bytes + first_of(work.bytes, work.len, NODE);
+    given.len = RECORD * nodes;
+    if (measure(WRITE) < (int32_t)nodes) {
+        printf("FAILED: a nested list: answer %d\n", (int)given.answer);
+        exit(1);
+    }
+}
+
 static void measure_nested(void)
 {
     for (unsigned shape = 0; shape < SHAPES; shape++) {
@@ -311,6 +379,9 @@ static void measure_nested(void)
             }
             bool first = shape == 0 && assigned == 0;
             measure_set(work.bytes, work.len, steps, first ? MANY_STEPS : 2);
+            if (!assigned) {
+                measure_list();
+            }
         }
     }
 }
@@ -342,6 +413,7 @@ int main(int argc, char **argv)
     make_stack();
     make_steps();
     measure_nested();
+    measure_lines();
     for (size_t i = 0; i < sets.count; i++) {
         measure_set(sets.bytes[i], sets.lens[i], steps, 1);
     }

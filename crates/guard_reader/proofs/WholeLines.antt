@@ -70,6 +70,7 @@ module _ (text : List ℕ) where
             truthful = r .has .truthful;
             written = r .has .written;
             few = omega arith;
+            short = few;
           }
 
 -- ---- what is lent
@@ -99,13 +100,13 @@ module _ {text before own : List ℕ} {p : Part} (h : HasLine text before own p)
   length-nodes : length (recordsOf (nodesFrom 0 (h .tree))) ≡ 16 * p .size
   length-nodes = recordsOf-length (nodesFrom 0 (h .tree)) ∙ ap (λ k. 16 * k) (nodesFrom-length 0 (h .tree) ∙ sym (h .counted))
 
-  pub own-nodes : 4096 ≤ length before → take (16 * p .size) own ≡ recordsOf (nodesFrom 0 (h .tree))
+  pub own-nodes : 16 * length text ≤ length before → take (16 * p .size) own ≡ recordsOf (nodesFrom 0 (h .tree))
   own-nodes l =
       let n : length (recordsOf (nodesFrom 0 (h .tree))) ≡ 16 * p .size = length-nodes in
-      let f : p .size ≤ 256 = h .few in
+      let f : p .size ≤ length text = h .few in
       ap (take (16 * p .size)) (h .written ∙ sets-eq (recordsOf (nodesFrom 0 (h .tree))) before 0 (omega arith)) ∙ take-at (recordsOf (nodesFrom 0 (h .tree))) _ (16 * p .size) n
 
-  pub guard-nodes : 4096 ≤ length before → (p .fits && p .truth) ≡ true → p .size ≤ length lent / 16 → record { answer = val (p .size); lent = take (16 * p .size) own ++ drop (16 * p .size) lent } ≡ readGuard text lent
+  pub guard-nodes : 16 * length text ≤ length before → (p .fits && p .truth) ≡ true → p .size ≤ length lent / 16 → record { answer = val (p .size); lent = take (16 * p .size) own ++ drop (16 * p .size) lent } ≡ readGuard text lent
   guard-nodes b e l =
       let c : p .size ≡ nodeCount (h .tree) = h .counted in
       (λ i. record { answer = val (c i); lent = own-nodes b i ++ drop (sym length-nodes i) lent })

@@ -1,7 +1,8 @@
 -- Of the code: the tree of a whole line, and its answer read as the outcome of document 02. Assumes nothing: these are definitions.
 use mathlib.Core.Path.{_≡_}
 use mathlib.Core.List.{List}
-use Prim.Native.Nat.{ℕ, _*_, _≤_}
+use Prim.Native.Nat.{ℕ, _≤_}
+use lib.ListN.{length}
 use lib.Seq.{sets}
 use Rattle.records.specs.Refusal.{Out, val, fault}
 use Rattle.records.specs.RefusalOf.{refusalOf}
@@ -21,7 +22,8 @@ pub record HasLine (text before after : List ℕ) (p : Part) : Type 0 where
   pub fitting : p .fits ≡ fits tree
   pub truthful : p .truth ≡ isTruth tree
   pub written : after ≡ sets before 0 (recordsOf (nodesFrom 0 tree))
-  pub few : p .size ≤ 256
+  pub few : p .size ≤ length text
+  pub short : length text ≤ 256
 
 abbrev pub IsLine : List ℕ → List ℕ → List ℕ → Parsed → Type 0
 IsLine text before after (parsed.Tree p) = HasLine text before after p

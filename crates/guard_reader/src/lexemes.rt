@@ -94,94 +94,45 @@ pub fn number_at(text: &[u8], at: usize, most: u32) -> Numeral
     digits(text, at, most)
 }
 
+fn operator(code: u8, level: u8, next: usize) -> Sign
+    ensures { λ r. ⌜ (r .code ≡ code) × (r .level ≡ level) × (r .next ≡ next) ⌝ }
+{
+    Sign { code, level, next }
+}
+
 // One byte, or two where the first alone is no operator, or another one.
 fn sign_by(a: u8, b: u8, at: usize) -> Sign
     requires { ⌜ at ≤ 256 ⌝ }
     ensures { λ r. ⌜ SignIs (operatorBy a b) at r ⌝ }
 {
+    let none = operator(0, 255, at);
     match a {
-        42 => Sign {
-            code: 5,
-            level: 2,
-            next: at + 1,
-        },
-        47 => Sign {
-            code: 6,
-            level: 2,
-            next: at + 1,
-        },
-        37 => Sign {
-            code: 7,
-            level: 2,
-            next: at + 1,
-        },
-        43 => Sign {
-            code: 3,
-            level: 3,
-            next: at + 1,
-        },
-        45 => Sign {
-            code: 4,
-            level: 3,
-            next: at + 1,
-        },
+        42 => operator(5, 2, at + 1),
+        47 => operator(6, 2, at + 1),
+        37 => operator(7, 2, at + 1),
+        43 => operator(3, 3, at + 1),
+        45 => operator(4, 3, at + 1),
         60 => if b == 61 {
-            Sign {
-                code: 18,
-                level: 4,
-                next: at + 2,
-            }
+            operator(18, 4, at + 2)
         } else {
-            Sign {
-                code: 17,
-                level: 4,
-                next: at + 1,
-            }
+            operator(17, 4, at + 1)
         },
         61 => if b == 61 {
-            Sign {
-                code: 16,
-                level: 4,
-                next: at + 2,
-            }
+            operator(16, 4, at + 2)
         } else {
-            Sign {
-                code: 0,
-                level: 255,
-                next: at,
-            }
+            none
         },
         38 => if b == 38 {
-            Sign {
-                code: 20,
-                level: 5,
-                next: at + 2,
-            }
+            operator(20, 5, at + 2)
         } else {
-            Sign {
-                code: 0,
-                level: 255,
-                next: at,
-            }
+            none
         },
         124 => if b == 124 {
-            Sign {
-                code: 21,
-                level: 6,
-                next: at + 2,
-            }
+            operator(21, 6, at + 2)
         } else {
-            Sign {
-                code: 0,
-                level: 255,
-                next: at,
-            }
+            none
         },
-        _ => Sign {
-            code: 0,
-            level: 255,
-            next: at,
-        },
+        _ => none,
     }
 }
 

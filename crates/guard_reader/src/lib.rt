@@ -1,7 +1,7 @@
 // The reader of guards typed as a line: by the rules of the grammar, from left to right, each node written as soon as its operands are.
 ghost use mathlib.Core.Path.{_≡_};
 ghost use mathlib.Core.List.{_++_};
-ghost use Prim.Native.Nat.{_≤_};
+ghost use Prim.Native.Nat.{_*_, _≤_};
 ghost use lib.ListN.{length, take, drop};
 ghost use Rattle.guards.specs.Calls.{readGuard};
 ghost use Rattle.guard_reader.specs.Answer.{IsLine, guardOf};
@@ -15,10 +15,14 @@ use records::refusals::Refusal;
 use rules::Parsed;
 use rules::choice;
 
-// "a line has 1 to 256 ASCII bytes", and no more nodes than bytes.
+// "a line has 1 to 256 ASCII bytes", and no more nodes than bytes, of 16 bytes each.
 const LONGEST_LINE: usize = 256;
 
 const LINE_NODES: usize = 4096;
+
+const SHORT_LINE: usize = 32;
+
+const SHORT_LINE_NODES: usize = 512;
 
 // The number of nodes of a line, or why there are none.
 pub enum Guard {
@@ -55,11 +59,11 @@ fn copy(from: &[u8], to: &mut [u8], n: usize)
 }
 
 // The nodes go into a place of their own first, so that what is lent keeps its contents where the line is refused.
-pub fn read_guard(text: &[u8], nodes: &mut [u8]) -> Guard
+fn read_by(text: &[u8], own: &mut [u8], nodes: &mut [u8]) -> Guard
+    requires { ⌜ (length (now text) ≤ 256 → 16 * length (now text) ≤ length (now own)) ⌝ }
     ensures { λ r. ⌜ guardOf r (now (nodes .exit)) ≡ readGuard (now (text .entry)) (now (nodes .entry)) ⌝ }
 {
-    let mut own = [0u8; LINE_NODES];
-    let Parsed::Tree(t) = line(text, &mut own) else {
+    let Parsed::Tree(t) = line(text, own) else {
         return Guard::Refused(Refusal::BrokenLine);
     };
     if !(t.fits & t.truth) {
@@ -69,6 +73,18 @@ pub fn read_guard(text: &[u8], nodes: &mut [u8]) -> Guard
     if nodes.len() / 16 < size {
         return Guard::Refused(Refusal::ShortSpace);
     }
-    copy(&own, nodes, 16 * size);
+    copy(own, nodes, 16 * size);
     Guard::Nodes(t.size)
+}
+
+// A line has no more nodes than bytes: for a short one little is cleared.
+pub fn read_guard(text: &[u8], nodes: &mut [u8]) -> Guard
+    ensures { λ r. ⌜ guardOf r (now (nodes .exit)) ≡ readGuard (now (text .entry)) (now (nodes .entry)) ⌝ }
+{
+    if text.len() <= SHORT_LINE {
+        let mut own = [0u8; SHORT_LINE_NODES];
+        return read_by(text, &mut own, nodes);
+    }
+    let mut own = [0u8; LINE_NODES];
+    read_by(text, &mut own, nodes)
 }

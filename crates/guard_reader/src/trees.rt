@@ -4,8 +4,9 @@ ghost use mathlib.Core.List.{_∷_};
 ghost use Prim.Native.Nat.{_+_, _*_, _≤_, _<_, _^_};
 ghost use Rattle.guards.specs.Trees.{pairFits};
 ghost use lib.IntN.{pos, negℤ};
+ghost use lib.ListN.{length};
 ghost use lib.Seq.{sets};
-ghost use Rattle.records.specs.Bytes.{unsigned};
+ghost use Rattle.records.specs.Bytes.{bytes2, bytes4, unsigned};
 ghost use Rattle.guard_reader.specs.Parts.{nodeBits, LeafIs, NegationIs, JoinIs, ChoiceIs};
 use records::put_byte;
 use records::put_u16;
@@ -20,11 +21,45 @@ pub struct Part {
     pub truth: bool,
 }
 
-// The record of node n; a constant is given by its bits.
+// Two bytes and four that have room: the test is the caller's.
+fn put_two(s: &mut [u8], at: usize, v: u16)
+    requires { ⌜ at + 1 < length (now s) ⌝ }
+    ensures { λ _. ⌜ now (s .exit) ≡ sets (now (s .entry)) at (bytes2 v) ⌝ }
+{
+    s[at] = (v % 256) as u8;
+    s[at + 1] = (v / 256 % 256) as u8;
+}
+
+fn put_four(s: &mut [u8], at: usize, v: u32)
+    requires { ⌜ at + 3 < length (now s) ⌝ }
+    ensures { λ _. ⌜ now (s .exit) ≡ sets (now (s .entry)) at (bytes4 v) ⌝ }
+{
+    put_two(s, at, (v % 65536) as u16);
+    put_two(s, at + 2, (v / 65536) as u16);
+}
+
+// The record of node n, which has room; a constant is given by its bits.
+fn put_whole(nodes: &mut [u8], at: usize, code: u8, a: u16, b: u16, c: u16, bits: u32)
+    requires { ⌜ (at + 15 < length (now nodes)) × (at < 2 ^ 32) ⌝ }
+    ensures { λ _. ⌜ now (nodes .exit) ≡ sets (now (nodes .entry)) at (5 ∷ nodeBits code a b c bits) ⌝ }
+{
+    nodes[at] = 5;
+    nodes[at + 1] = code;
+    put_two(nodes, at + 2, a);
+    put_two(nodes, at + 4, b);
+    put_two(nodes, at + 6, c);
+    put_four(nodes, at + 8, bits);
+    put_four(nodes, at + 12, 0);
+}
+
+// The record of node n. Bytes past the end are not written.
 fn put_node(nodes: &mut [u8], n: u16, code: u8, a: u16, b: u16, c: u16, bits: u32)
     ensures { λ _. ⌜ now (nodes .exit) ≡ sets (now (nodes .entry)) (16 * n) (5 ∷ nodeBits code a b c bits) ⌝ }
 {
     let at = 16 * (n as usize);
+    if at + 15 < nodes.len() {
+        return put_whole(nodes, at, code, a, b, c, bits);
+    }
     put_byte(nodes, at, 5);
     put_byte(nodes, at + 1, code);
     put_u16(nodes, at + 2, a);

@@ -2,5 +2,5 @@
 mod Texts
 mod Rules
 mod Listed
-mod Lines
+pub mod Lines
 pub mod Short

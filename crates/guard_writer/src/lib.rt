@@ -17,7 +17,7 @@ pub enum Written {
     Refused(Refusal),
 }
 
-// The length is known before anything is written: what is counted goes past the end of a buffer that has none.
+// The length is known before anything is written: it is counted over a buffer of one byte.
 pub fn write_guard(nodes: &[u8], text: &mut [u8]) -> Written
     ensures { λ r. ⌜ writtenOf r (now (text .exit)) ≡ writeGuard (now (nodes .entry)) (now (text .entry)) ⌝ }
 {

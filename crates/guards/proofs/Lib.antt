@@ -10,3 +10,15 @@ pub mod AcceptedSizes
 pub mod ReadSteps
 pub mod ReadTrees
 pub mod ReadCalls
+pub mod Values
+pub mod Numerals
+pub mod Steps
+pub mod Derived
+pub mod Readings
+pub mod Complete
+pub mod Fronts
+pub mod Correct
+pub mod Lines
+pub mod WrittenLines
+pub mod Parentheses
+pub mod WrittenCalls

@@ -1,13 +1,17 @@
--- The claims. Demands 1 to 3 and the path led back, each stated in full in the terms of the definitions that the exported functions' contracts cite, and proved by citing the work. Who believes the definitions
--- (specs/ of records, expressions, model, and `Playing` of machines) and this file needs no other proof. Assumes nothing.
+-- The claims. Demands 1 to 3, the path led back, and the theorems of each request, each stated in full in the terms of the definitions that the exported functions' contracts cite, and proved by citing the work. Who believes the definitions
+-- (specs/ of records, expressions, model, guards, and `Playing` of machines) and this file needs no other proof. Assumes nothing.
 use mathlib.Core.Path.{_≡_, ap}
 use mathlib.Core.Option.{some, none}
-use mathlib.Core.List.{List, _∷_}
-use Prim.Native.Nat.{ℕ, _<_}
+use mathlib.Core.Bool.{true, not, _&&_}
+use mathlib.Core.List.{List, _∷_, _++_}
+use Prim.Native.Nat.{ℕ, _-_, _/_, _≤_, _<_}
+use Prim.Native.Char.{code}
 use lib.Dec.{T, ltb}
 use lib.ListN.{length, take}
 use Rattle.prelude.specs.Lists.{all}
-use Rattle.records.specs.Refusal.{Refusal, val, fault, _>>=_, unless-refused}
+use Rattle.records.specs.Refusal.{Refusal, wrong-sort, short-space, val, fault, _>>=_, _>>_, fault-if, unless-refused}
+use Rattle.records.proofs.RoundTrips.{of-bytes}
+use Rattle.expressions.specs.Nodes.{nodeAt}
 use Rattle.model.specs.Outcome.{settled}
 use Rattle.model.specs.Runs.{Run, Call, start, turn, cycle}
 use Rattle.model.specs.ChartSet.{readCharts}
@@ -28,6 +32,16 @@ use Rattle.model.proofs.TakenPathTwin.{twinPath-pathBack}
 use Rattle.model.proofs.TurnsCycle.{after-turn, charts-cycle-by-turns, table-cycle-by-turns}
 use Rattle.machines.specs.Playing.{playing, playCall}
 use Rattle.machines.proofs.PlayingCalls.{callsLeave, CallsDone, StopsAt, played-as-calls, refused-as-call}
+use Rattle.guards.specs.Trees.{Tree, isTruth, fits, nodeCount, nodesFrom, recordsOf}
+use Rattle.guards.specs.Grammar.{lineTree}
+use Rattle.guards.specs.Rules.{Line, opens}
+use Rattle.guards.specs.Texts.{textOf}
+use Rattle.guards.specs.Lists.{listRefusal, treeOf}
+use Rattle.guards.specs.Calls.{readGuard, writtenLine, writeGuard, written as writtenNodes}
+use Rattle.guards.proofs.ReadCalls.{readGuard-answer, nodesRead, writeGuard-reread}
+use Rattle.guards.proofs.WrittenCalls.{writeGuard-answer, lineWritten, readGuard-rewritten}
+use Rattle.guards.proofs.Parentheses.{textOf-needed, textOf-fewest}
+use Rattle.guards.proofs.Lines.{lineTree-correct, lineTree-complete, Line-unique}
 use Rattle.monuvaleck.proofs.Settled.{settled-kept}
 
 -- ---- demand 1: "A bad set, table, state or path gets the refusal number the paper fixes, and nothing lent has changed."
@@ -104,3 +118,41 @@ twin-and-charts-move-alike = demand-3
 path-led-back : (s : List ℕ) → T (all (λ b. ltb b 256) s) → chartsRefusal s ≡ none → (calls : List Call) (lent : List ℕ) →
     pathBack s (takenPath (twinBytes s) calls (start (automata (readAutomata (twinBytes s))))) lent ≡ settled lent (rowsWritten (takenRows s calls (start (charts (readCharts s)))) lent)
 path-led-back = twinPath-pathBack
+
+-- ---- guards typed as a line (specs/ of guards say the grammar, the text that is written, and the two calls)
+
+-- whatever refuses, what is lent keeps its contents
+read-kept : (text nodes : List ℕ) (w : Refusal) → readGuard text nodes .answer ≡ fault w → readGuard text nodes .lent ≡ nodes
+read-kept text nodes = settled-kept nodes (lineTree text >>= λ t. fault-if (not (fits t && isTruth t)) wrong-sort >> (fault-if (ltb (length nodes / 16) (nodeCount t)) short-space >> val (writtenNodes (nodeCount t) (recordsOf (nodesFrom 0 t)) nodes)))
+
+write-kept : (nodes text : List ℕ) (w : Refusal) → writeGuard nodes text .answer ≡ fault w → writeGuard nodes text .lent ≡ text
+write-kept nodes text = settled-kept text (unless-refused (listRefusal (nodeAt nodes) (length nodes / 16)) (fault-if (ltb (length text) (length (writtenLine nodes))) short-space >> val (writtenNodes (length (writtenLine nodes)) (writtenLine nodes) text)))
+
+-- "every written line that fits in 256 bytes is read back as its tree", numbered as the reader does, into whatever has room
+line-read-back : (nodes lent : List ℕ) (n : ℕ) → T (all (λ b. ltb b 256) nodes) → writeGuard nodes lent .answer ≡ val n → n ≤ 256 → (out : List ℕ) →
+    let size = length nodes / 16 in
+    readGuard (lineWritten nodes lent n) out ≡ settled out (fault-if (ltb (length out / 16) size) short-space >> val (writtenNodes size (recordsOf (nodesFrom 0 (treeOf (nodeAt nodes) (size - 1)))) out))
+line-read-back nodes lent n bytes e few = readGuard-rewritten nodes lent n (writeGuard-answer nodes lent n e) (of-bytes nodes bytes) few
+
+-- what the reader gives is a truth, and the writer takes it: of its refusals 24 alone is left
+nodes-taken : (text lent : List ℕ) (n : ℕ) → readGuard text lent .answer ≡ val n →
+    (t : Tree) × (lineTree text ≡ val t) × (isTruth t ≡ true) × ((out : List ℕ) →
+    writeGuard (nodesRead text lent n) out ≡ settled out (fault-if (ltb (length out) (length (textOf t))) short-space >> val (writtenNodes (length (textOf t)) (textOf t) out)))
+nodes-taken text lent n e = let was = readGuard-answer text lent n e in (was .0, was .1 .line, was .1 .truth, writeGuard-reread text lent n (was .0) (was .1))
+
+-- "The writer puts parentheses only where leaving them out would change the tree": without any pair of them the line is read as another tree or not at all, and no line of the tree has fewer
+parentheses-needed : (t : Tree) (a b c : List ℕ) → textOf t ≡ a ++ (code "(" ∷ b) ++ (code ")" ∷ c) → lineTree (a ++ b ++ c) ≡ val t → ⊥
+parentheses-needed = textOf-needed
+
+parentheses-fewest : (t : Tree) (s : List ℕ) → lineTree s ≡ val t → opens (textOf t) ≤ opens s
+parentheses-fewest = textOf-fewest
+
+-- the grammar as rules: the reader gives only trees of the rules, and every one; no line has two
+reader-correct : (t : Tree) (s : List ℕ) → lineTree s ≡ val t → Line t s
+reader-correct = lineTree-correct
+
+reader-complete : (t : Tree) (s : List ℕ) → Line t s → lineTree s ≡ val t
+reader-complete = lineTree-complete
+
+grammar-unambiguous : (t u : Tree) (s : List ℕ) → Line t s → Line u s → t ≡ u
+grammar-unambiguous = Line-unique

@@ -1,5 +1,6 @@
 //! The lines of the tables: one kind of work on one input, for the proved and for the tuned side.
 
+use crate::guards;
 use crate::inputs::{self, Input};
 use crate::proved::Proved;
 use crate::work::{side, Side};
@@ -32,7 +33,7 @@ impl<T: Run + Hash + PartialEq + Debug> SameRun for T {}
 
 /// An answer as the C interface gives it.
 #[inline(always)]
-fn code<T>(result: Result<T, Refusal>, answer: impl FnOnce(T) -> i32) -> i32 {
+pub fn code<T>(result: Result<T, Refusal>, answer: impl FnOnce(T) -> i32) -> i32 {
     match result {
         Ok(value) => answer(value),
         Err(number) => -(number as i32),
@@ -41,11 +42,11 @@ fn code<T>(result: Result<T, Refusal>, answer: impl FnOnce(T) -> i32) -> i32 {
 
 /// Answers so far, as one number; no call may be refused or fault.
 #[derive(Clone, Copy, Default, Hash)]
-struct Answers(u64);
+pub struct Answers(u64);
 
 impl Answers {
     #[inline(always)]
-    fn add(&mut self, answer: i32) {
+    pub fn add(&mut self, answer: i32) {
         assert!(answer >= 0, "number {}", -answer);
         self.0 = self.0.rotate_left(7) ^ answer as u64;
     }
@@ -276,6 +277,7 @@ pub fn all(text: &str, part: usize) -> Vec<Line> {
     let guard = inputs::guard(part);
     lines.push(played::<Set>(guard, CHARTS.played, &guard.set));
     lines.push(worked_out(guard));
+    lines.extend(guards::lines(part));
     lines.retain(|line| format!("{}, {}", line.input, line.work).contains(text));
     lines
 }

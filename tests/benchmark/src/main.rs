@@ -6,6 +6,7 @@
 
 mod clock;
 mod count;
+mod guards;
 mod inputs;
 mod lines;
 mod proved;

@@ -2,7 +2,7 @@
 
 use std::process::{Command, Output};
 
-const LINES: usize = 35;
+const LINES: usize = 43;
 
 fn benchmark(arguments: &[&str]) -> Output {
     Command::new(env!("CARGO_BIN_EXE_benchmark")).args(arguments).output().expect("it runs")

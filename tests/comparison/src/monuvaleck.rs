@@ -37,6 +37,8 @@ mod exported {
             masks: *const u32,
             masks_len: usize,
         ) -> i32;
+        pub fn guard_read(text: *const u8, text_len: usize, nodes: *mut u8, nodes_len: usize) -> i32;
+        pub fn guard_write(nodes: *const u8, nodes_len: usize, text: *mut u8, text_len: usize) -> i32;
     }
 }
 
@@ -58,6 +60,16 @@ pub fn path_back(set: &[u8], path: &[u16], rows: &mut [u32]) -> i32 {
     unsafe {
         exported::path_back(set.as_ptr(), set.len(), path.as_ptr(), path.len(), rows.as_mut_ptr(), rows.len())
     }
+}
+
+/// The number of nodes.
+pub fn guard_read(text: &[u8], nodes: &mut [u8]) -> i32 {
+    unsafe { exported::guard_read(text.as_ptr(), text.len(), nodes.as_mut_ptr(), nodes.len()) }
+}
+
+/// The number of bytes.
+pub fn guard_write(nodes: &[u8], text: &mut [u8]) -> i32 {
+    unsafe { exported::guard_write(nodes.as_ptr(), nodes.len(), text.as_mut_ptr(), text.len()) }
 }
 
 /// The calls that step a lent run.

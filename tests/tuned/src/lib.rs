@@ -7,14 +7,18 @@
 //! - `charts`: refusals 5 to 9, the decoded set, a chart's turn.
 //! - `automata`: refusal 11, the decoded table, an automaton's turn.
 //! - `translation`: the twin of a decoded set. `path_back`: its path led back.
+//! - `guard_reader`: a guard's line read into nodes. `guard_writer`: its nodes written as a line. `operators`: how tight they bind.
 //!
 //! Refusals and faults are the numbers of the refusal table.
 
 pub mod automata;
 pub mod charts;
 pub mod files;
+pub mod guard_reader;
+pub mod guard_writer;
 pub mod machine;
 pub mod nodes;
+pub mod operators;
 pub mod path_back;
 pub mod runs;
 pub mod translation;

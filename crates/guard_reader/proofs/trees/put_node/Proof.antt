@@ -1,4 +1,4 @@
--- `trees::put_node` meets its contract: the record's fields one behind the other. Assumes nothing.
+-- `trees::put_node` meets its contract: the record's fields one behind the other, as far as there is room. Assumes nothing.
 use mathlib.Core.Path.{refl}
 use mathlib.Core.List.{[], _∷_}
 use Prim.Native.Nat.{_+_, _*_}
@@ -10,9 +10,9 @@ use borrow.Author.Needs.{needs}
 use Rattle.guard_reader.proofs.trees.put_node.Statement.{statement}
 use Rattle.guard_reader.proofs.trees.put_node.Tie as tie
 
-returns : tie.Need-returns
-returns c =
-    let x = c .before .before .before .before .before .before .before .before .before .before .before .before .before .before .before .before .before .before .before .before .before .before .before .before .before .before .before .before .before .args in
+returns-2 : tie.Need-returns-2
+returns-2 c =
+    let x = c .before .before .before .before .before .before .before .before .before .before .before .before .before .before .before .before .before .before .before .before .before .before .before .before .before .before .before .before .before .before .args in
     let k = 16 * x .n in
     let kind : Wrote (x .nodes .now) k (5 ∷ []) (c .before .before .before .before .before .before .before .before .before .before .before .before .before .before .before .before .before .before .before .before .before .before .before .before .before .before .put-byte .last .0) (k + 1) = record { behind = omega arith; written = c .before .before .before .before .before .before .before .before .before .before .before .before .before .before .before .before .before .before .before .before .before .before .before .before .before .before .put-byte .ensures } in
     let code : Wrote (c .before .before .before .before .before .before .before .before .before .before .before .before .before .before .before .before .before .before .before .before .before .before .before .before .before .before .put-byte .last .0) (k + 1) (x .code ∷ []) (c .before .before .before .before .before .before .before .before .before .before .before .before .before .before .before .before .before .before .before .before .before .before .put-byte2 .last .0) (k + 2) = record { behind = omega arith; written = c .before .before .before .before .before .before .before .before .before .before .before .before .before .before .before .before .before .before .before .before .before .before .put-byte2 .ensures } in
@@ -28,7 +28,9 @@ put-node-spec =
     tie.close
     (tie.spec
     (λ c. search needs)
+    (λ c. search needs)
     (λ c κs. search needs)
+    (λ c. search needs)
     (λ c. search needs)
     (λ c κs. search needs)
     (λ c. search needs)
@@ -42,4 +44,6 @@ put-node-spec =
     (λ c. search needs)
     (λ c κs. search needs)
     (λ c. search needs)
-    returns)
+    (λ c κs. search needs)
+    (λ c. search needs)
+    returns-2)
