@@ -1,1 +1,3 @@
 mod ListingExamples
+pub mod Written
+pub mod FileNodes

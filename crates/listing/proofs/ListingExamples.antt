@@ -7,18 +7,22 @@ use Rattle.records.proofs.Tables.{Agree}
 use Rattle.model.specs.Replay.{Replay}
 use Rattle.examples.proofs.ExampleSets.{zeroWatch}
 use Rattle.lines.specs.Ascii.{ascii}
-use Rattle.listing.specs.Listing.{lineText, listed}
+use Rattle.guards.specs.Texts.{textOf}
+use Rattle.guards.specs.Lists.{GuardLists}
+use Rattle.listing.specs.Listing.{lineText, nodesOf, listed, guardListed}
 
--- the line of the i-th of its kind, of a record's first bytes
+-- the line of the i-th of its kind, of a record's first bytes, with the set's nodes, which its twin has too
 line : ℕ → List ℕ → List ℕ
-line i bytes = lineText i (padded 16 0 bytes)
+line i bytes = lineText (nodesOf zeroWatch) i (padded 16 0 bytes)
 
 abbrev rows : List (List ℕ × List ℕ)
 rows =
     (listed zeroWatch 0, ascii "chart 0: initial state 0\n")
     ∷ (listed zeroWatch 3, ascii "state 2: chart 0\n")
-    ∷ (listed zeroWatch 5, ascii "transition 1: state 1 to state 2, priority 1, always, guard node 2\n")
+    ∷ (listed zeroWatch 5, ascii "transition 1: state 1 to state 2, priority 1, always, guard node 2 (v0<0)\n")
     ∷ (listed zeroWatch 6, ascii "transition 2: state 1 to state 1, priority 2, event 0, no guard\n")
+    ∷ (guardListed zeroWatch 5, ascii "transition 1: guard node 2: v0<0\n")
+    ∷ (guardListed zeroWatch 6, [])
     ∷ (listed zeroWatch 8, ascii "variable 0: -100 to 100, start 1\n")
     ∷ (listed zeroWatch 11, ascii "node 2: node 0 < node 1\n")
     ∷ (listed zeroWatch 14, ascii "node 5: node 3 - node 4\n")
@@ -30,7 +34,7 @@ rows =
     ∷ (line 0 (33 ∷ 0 ∷ 0 ∷ 0 ∷ []), ascii "automaton 0: initial location 0\n")
     ∷ (line 2 (34 ∷ 0 ∷ []), ascii "location 2: automaton 0\n")
     ∷ (line 4 (35 ∷ 0 ∷ 0 ∷ 0 ∷ 0 ∷ 0 ∷ 1 ∷ []), ascii "edge 4: automaton 0, location 0 to location 0, idle\n")
-    ∷ (line 2 (36 ∷ 2 ∷ 2 ∷ 0 ∷ 0 ∷ 0 ∷ 0 ∷ 0 ∷ 2 ∷ 0 ∷ []), ascii "literal 2: edge 2 must not: always, guard node 2\n")
+    ∷ (line 2 (36 ∷ 2 ∷ 2 ∷ 0 ∷ 0 ∷ 0 ∷ 0 ∷ 0 ∷ 2 ∷ 0 ∷ []), ascii "literal 2: edge 2 must not: always, guard node 2 (v0<0)\n")
     ∷ (line 3 (36 ∷ 1 ∷ 2 ∷ 0 ∷ 2 ∷ 0 ∷ 1 ∷ 1 ∷ 255 ∷ 255 ∷ []), ascii "literal 3: edge 2 must hold: clock 257, no guard\n")
     ∷ (line 0 (37 ∷ 3 ∷ 5 ∷ 0 ∷ []), ascii "clock 0: every 5 ticks\n")
     ∷ (line 1 (40 ∷ 1 ∷ 3 ∷ 0 ∷ 0 ∷ 0 ∷ 6 ∷ 0 ∷ []), ascii "update 1: edge 3: variable 0 := node 6\n")
@@ -38,5 +42,5 @@ rows =
     ∷ []
 
 listing-examples : Agree rows
-unfolding Replay line
-listing-examples = (refl, (refl, (refl, (refl, (refl, (refl, (refl, (refl, (refl, (refl, (refl, (refl, (refl, (refl, (refl, (refl, (refl, (refl, (refl, (refl, tt))))))))))))))))))))
+unfolding Replay textOf GuardLists line
+listing-examples = (refl, (refl, (refl, (refl, (refl, (refl, (refl, (refl, (refl, (refl, (refl, (refl, (refl, (refl, (refl, (refl, (refl, (refl, (refl, (refl, (refl, (refl, tt))))))))))))))))))))))

@@ -1,3 +1,4 @@
 pub mod Sets
 pub mod Tables
+pub mod Guards
 pub mod Listing

@@ -1,15 +1,22 @@
 // The lines of a listing: of each record of a set or table its words, written at the start of a lent buffer.
 ghost use mathlib.Core.Path.{_≡_};
+ghost use mathlib.Core.List.{[], _∷_, _++_};
 ghost use Prim.Native.Nat.{_*_, _/_, _≤_, _<_};
 ghost use lib.ListN.{length};
 ghost use Rattle.records.specs.Bytes.{byte};
 ghost use Rattle.records.specs.Wrote.{Begins};
-ghost use Rattle.listing_parts.specs.Parts.{WroteNear};
-ghost use Rattle.listing.specs.Listing.{recordText, lineText, numberOf, listed};
+ghost use Rattle.expressions.specs.Nodes.{readNode, nodeAt};
+ghost use Rattle.model.specs.Replay.{feed};
+ghost use Rattle.listing_parts.specs.Parts.{WroteNear, nodeText};
+ghost use Rattle.listing.specs.Guards.{Short};
+ghost use Rattle.listing.specs.Listing.{recordText, lineText, numberOf, listed, guardListed, HasNodes};
 
+pub mod guarded;
 pub mod sets;
 pub mod tables;
 
+use guarded::put_alone;
+use guarded::put_beside;
 use listing_parts::fields::put_node;
 use listing_parts::fields::put_variable;
 use listing_parts::texts::put_word;
@@ -47,20 +54,43 @@ fn put_fields(out: &mut [u8], i: u32, r: &[u8]) -> usize
     }
 }
 
-// The line of a record, the i-th of its kind, at the start; answers its length.
-fn put_line(out: &mut [u8], i: u32, r: &[u8]) -> usize
-    ensures { λ n. ⌜ Begins (now (out .entry)) (lineText i (now (r .entry))) (now (out .exit)) n × (n ≤ 276) ⌝ }
+// Room for a line: 256 bytes of its fields, 21 for each of the 1,024 nodes that a guard may have, its parentheses and the line's end.
+pub const LINE_ROOM: usize = 21764;
+
+// The line of a record, the i-th of its kind, at the start; answers its length. The nodes are the file's.
+fn put_line(out: &mut [u8], nodes: &[u8], i: u32, r: &[u8]) -> usize
+    requires { ⌜ Short (nodeAt (now nodes)) ⌝ }
+    ensures { λ n. ⌜ Begins (now (out .entry)) (lineText (nodeAt (now (nodes .entry))) i (now (r .entry))) (now (out .exit)) n × (n ≤ 21764) ⌝ }
 {
-    let end = put_fields(out, i, r);
+    let guard = put_fields(out, i, r);
+    let end = put_beside(out, guard, nodes, r);
+    put_word(out, end, b"\n")
+}
+
+// The line of a node by itself.
+pub fn node_into(out: &mut [u8], i: u32, r: &[u8]) -> usize
+    ensures { λ n. ⌜ Begins (now (out .entry)) (nodeText i (readNode (now (r .entry))) ++ (feed ∷ [])) (now (out .exit)) n × (n ≤ 276) ⌝ }
+{
+    let end = put_node(out, i, r);
     put_word(out, end, b"\n")
 }
 
 // The line of record n of a file, before which there are i of its kind.
-pub fn line_into(out: &mut [u8], s: &[u8], n: usize, i: u32) -> usize
-    requires { ⌜ (n < length (now s) / 16) × (i ≡ numberOf (now s) (byte (now s) (16 * n)) n) ⌝ }
-    ensures { λ r. ⌜ Begins (now (out .entry)) (listed (now (s .entry)) n) (now (out .exit)) r × (r ≤ 276) ⌝ }
+pub fn line_into(out: &mut [u8], s: &[u8], nodes: &[u8], n: usize, i: u32) -> usize
+    requires { ⌜ HasNodes (now s) (now nodes) × (n < length (now s) / 16) × (i ≡ numberOf (now s) (byte (now s) (16 * n)) n) ⌝ }
+    ensures { λ r. ⌜ Begins (now (out .entry)) (listed (now (s .entry)) n) (now (out .exit)) r × (r ≤ 21764) ⌝ }
 {
     let at = 16 * n;
     let end = at + 16;
-    put_line(out, i, &s[at..end])
+    put_line(out, nodes, i, &s[at..end])
+}
+
+// The line of its guard, where it has one.
+pub fn guard_into(out: &mut [u8], s: &[u8], nodes: &[u8], n: usize, i: u32) -> usize
+    requires { ⌜ HasNodes (now s) (now nodes) × (n < length (now s) / 16) × (i ≡ numberOf (now s) (byte (now s) (16 * n)) n) ⌝ }
+    ensures { λ r. ⌜ Begins (now (out .entry)) (guardListed (now (s .entry)) n) (now (out .exit)) r × (r ≤ 21764) ⌝ }
+{
+    let at = 16 * n;
+    let end = at + 16;
+    put_alone(out, nodes, i, &s[at..end])
 }

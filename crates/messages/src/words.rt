@@ -53,14 +53,32 @@ fn call_meaning(number: u8) {
     ;
 }
 
+// Of a guard's line.
+fn line_meaning(number: u8) {
+    match number {
+        22 => io::write_all(
+            STDERR_FILENO,
+            b": a line outside the grammar, or a constant outside 32 bits",
+        ),
+        23 => io::write_all(
+            STDERR_FILENO,
+            b": an operand of the wrong sort, or a number as the whole line",
+        ),
+        _ => io::write_all(STDERR_FILENO, b": too little space for nodes or text"),
+    }
+    ;
+}
+
 // The number and its meaning, without the line's end.
 pub fn say(word: &[u8], number: u8) {
     io::write_all(STDERR_FILENO, word);
     io::print_decimal(STDERR_FILENO, number as u64);
     if number < 10 {
         file_meaning(number);
-    } else {
+    } else if number < 22 {
         call_meaning(number);
+    } else {
+        line_meaning(number);
     }
 }
 

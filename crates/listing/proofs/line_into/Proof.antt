@@ -1,4 +1,4 @@
--- `listing::line_into` meets its contract: the part of the file is record n, and i its number. Assumes nothing.
+-- `listing::line_into` meets its contract: the part of the file is record n, i its number, and the nodes are the file's. Assumes nothing.
 use mathlib.Core.Path.{_≡_, subst}
 use Prim.Native.Nat.{_+_, _*_, _-_}
 use native.Mathlib.Omega.{arith}
@@ -11,11 +11,11 @@ use Rattle.listing.proofs.line_into.Tie as tie
 
 returns : tie.Need-returns
 returns c =
-    let a = c .before .before .before .before .before .before .before .args in
+    let a = c .before .before .before .before .before .before .before .before .args in
+    let known = c .before .before .before .before .before .before .before .before .pre in
     let line = c .before .before .put-line in
-    let i = c .before .before .before .before .before .before .before .pre .1 in
     let sixteen : 16 * a .n + 16 - 16 * a .n ≡ 16 = omega arith in
-    (subst (λ t. Begins (a .out .now) t (line .last .0) (line .result)) (λ x. lineText (i x) (take (sixteen x) (drop (16 * a .n) (a .s .now)))) (line .ensures .0), line .ensures .1)
+    (subst (λ t. Begins (a .out .now) t (line .last .0) (line .result)) (λ x. lineText (known .0 .same x) (known .2 x) (take (sixteen x) (drop (16 * a .n) (a .s .now)))) (line .ensures .0), line .ensures .1)
 
 pub line-into-spec : {M : Type 1} → statement M
 line-into-spec =
