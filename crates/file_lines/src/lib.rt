@@ -6,6 +6,7 @@ ghost use Prim.Native.Nat.{_*_, _/_, _≤_, _<_};
 ghost use lib.Dec.{leb};
 ghost use lib.ListN.{length};
 ghost use Rattle.records.specs.Bytes.{byte};
+ghost use Rattle.listing.specs.Guards.{lineRoom};
 ghost use Rattle.listing.specs.Listing.{numberOf, HasNodes};
 use file_kinds::is_table;
 use listing::LINE_ROOM;
@@ -27,7 +28,7 @@ pub enum Wanted {
 
 fn wanted_into(out: &mut [u8], wanted: Wanted, s: &[u8], nodes: &[u8], n: usize, i: u32) -> usize
     requires { ⌜ HasNodes (now s) (now nodes) × (n < length (now s) / 16) × (i ≡ numberOf (now s) (byte (now s) (16 * n)) n) ⌝ }
-    ensures { λ r. ⌜ r ≤ 21764 ⌝ }
+    ensures { λ r. ⌜ r ≤ lineRoom ⌝ }
 {
     match wanted {
         Wanted::Records => line_into(out, s, nodes, n, i),

@@ -3,7 +3,7 @@ use mathlib.Core.Path.{_≡_, refl, sym, ap, subst, _∙_}
 use mathlib.Core.Bool.{Bool, true, false, not, cond}
 use mathlib.Core.Option.{none}
 use mathlib.Core.List.{List, map}
-use Prim.Native.Nat.{ℕ, _*_, _≤_, _<_}
+use Prim.Native.Nat.{ℕ, _≤_, _<_}
 use native.Mathlib.Omega.{arith}
 use borrow.Author.Tests.{ltb-true, ltb-false}
 use lib.Dec.{T, leb, ltb, leb→le}
@@ -34,7 +34,7 @@ use Rattle.guards.specs.Texts.{textOf}
 use Rattle.guards.specs.Trees.{constant}
 use Rattle.guards.specs.Lists.{treeBy, treeAt, treeOf}
 use Rattle.guard_writer.proofs.Short.{short-text}
-use Rattle.listing.specs.Guards.{Short}
+use Rattle.listing.specs.Guards.{longestGuard, Short}
 use Rattle.listing.specs.Listing.{nodesOf, HasNodes}
 
 -- of no node the line is 0
@@ -45,7 +45,7 @@ unknown-short node g e = ap (λ x. length (textOf (treeBy (λ a. cond (ltb a g) 
 short-nodes : (xs : List Node) → length xs ≤ 1024 → ((k : ℕ) → k < length xs → operandUses (nodeOf xs) (length xs) k ≤ 1) → Short (nodeOf xs)
 short-nodes xs few used = record { short = λ g. go g (ltb g (length xs)) refl }
   where
-    go : (g : ℕ) (b : Bool) → ltb g (length xs) ≡ b → length (textOf (treeOf (nodeOf xs) g)) ≤ 21 * 1024
+    go : (g : ℕ) (b : Bool) → ltb g (length xs) ≡ b → length (textOf (treeOf (nodeOf xs) g)) ≤ longestGuard
     go g true e =
         let l : g < length xs = ltb-true g (length xs) e in
         omega (arith, short-text (nodeOf xs) (length xs) g l (λ k h. used k (omega arith)))

@@ -1,11 +1,12 @@
 -- Guards as people type them: beside their nodes in a listing, and each on a line of its own. Assumes nothing: these are definitions.
 use mathlib.Core.Option.{Option, some, none}
 use mathlib.Core.List.{List, [], _∷_, _++_}
-use Prim.Native.Nat.{ℕ, _*_, _≤_}
+use Prim.Native.Nat.{ℕ, _+_, _*_, _≤_}
 use lib.ListN.{length}
 use Rattle.prelude.specs.Lists.{caseOf}
 use Rattle.records.specs.Bytes.{kind}
 use Rattle.expressions.specs.Nodes.{Node}
+use Rattle.model.specs.Limits.{mostNodes}
 use Rattle.model.specs.ChartSet.{readTransition}
 use Rattle.model.specs.AutomataTable.{readLiteral}
 use Rattle.model.specs.Replay.{feed}
@@ -22,6 +23,13 @@ guardOf r = caseOf (kind r) ((3, readTransition r .guard) ∷ (36, readLiteral r
 abbrev pub guardedText : ℕ → List ℕ → List ℕ
 guardedText i r = caseOf (kind r) ((3, named "transition " i) ∷ []) (named "literal " i)
 
+-- a guard has 21 bytes to a node at most; a line has 256 of a record's fields besides, the parentheses around a guard and the line's end
+abbrev pub longestGuard : ℕ
+longestGuard = 21 * mostNodes
+
+abbrev pub lineRoom : ℕ
+lineRoom = 256 + longestGuard + 4
+
 -- in a file with these nodes
 module _ (node : ℕ → Node) where
   -- beside its node
@@ -34,6 +42,6 @@ module _ (node : ℕ → Node) where
   aloneText guarded none = []
   aloneText guarded (some g) = guarded ++ named ": guard node " g ++ ascii ": " ++ textOf (treeOf node g) ++ (feed ∷ [])
 
-  -- No tree's line is longer than 21 bytes to each of 1,024 nodes.
+  -- no guard is longer than that
   pub record Short : Type 0 where
-    pub short : (g : ℕ) → length (textOf (treeOf node g)) ≤ 21 * 1024
+    pub short : (g : ℕ) → length (textOf (treeOf node g)) ≤ longestGuard

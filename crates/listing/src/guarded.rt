@@ -1,12 +1,12 @@
 // Guards as people type them: the line of a guard beside its node, and alone.
 ghost use mathlib.Core.Path.{_≡_};
-ghost use Prim.Native.Nat.{_≤_, _<_, _^_};
+ghost use Prim.Native.Nat.{_+_, _≤_, _<_, _^_};
 ghost use mathlib.Core.Option.{some};
 ghost use Rattle.records.specs.Wrote.{Begins};
 ghost use Rattle.expressions.specs.Nodes.{nodeAt};
 ghost use Rattle.chart_records.specs.Parts.{guardFor};
 ghost use Rattle.listing_parts.specs.Parts.{WroteNear};
-ghost use Rattle.listing.specs.Guards.{guardOf, guardedText, besideText, aloneText, Short};
+ghost use Rattle.listing.specs.Guards.{guardOf, guardedText, longestGuard, lineRoom, besideText, aloneText, Short};
 ghost use Rattle.listing.specs.Listing.{guardText};
 use chart_records::fields::Guard;
 use chart_records::fields::guard_by;
@@ -29,7 +29,7 @@ fn guard_of(r: &[u8]) -> Guard
 // The guard of a record, in parentheses from a place on.
 pub fn put_beside(out: &mut [u8], at: usize, nodes: &[u8], r: &[u8]) -> usize
     requires { ⌜ (at < 2 ^ 18) × Short (nodeAt (now nodes)) ⌝ }
-    ensures { λ n. ⌜ WroteNear 21507 (now (out .entry)) at (besideText (nodeAt (now (nodes .entry))) (guardOf (now (r .entry)))) (now (out .exit)) n ⌝ }
+    ensures { λ n. ⌜ WroteNear (longestGuard + 3) (now (out .entry)) at (besideText (nodeAt (now (nodes .entry))) (guardOf (now (r .entry)))) (now (out .exit)) n ⌝ }
 {
     match guard_of(r) {
         Guard::Free => at,
@@ -53,7 +53,7 @@ fn put_guarded(out: &mut [u8], i: u32, r: &[u8]) -> usize
 
 fn put_guard_line(out: &mut [u8], nodes: &[u8], i: u32, r: &[u8], g: u16) -> usize
     requires { ⌜ Short (nodeAt (now nodes)) ⌝ }
-    ensures { λ n. ⌜ WroteNear 21764 (now (out .entry)) 0 (aloneText (nodeAt (now (nodes .entry))) (guardedText i (now (r .entry))) (some g)) (now (out .exit)) n ⌝ }
+    ensures { λ n. ⌜ WroteNear lineRoom (now (out .entry)) 0 (aloneText (nodeAt (now (nodes .entry))) (guardedText i (now (r .entry))) (some g)) (now (out .exit)) n ⌝ }
 {
     let node = put_guarded(out, i, r);
     let colon = put_named(out, node, b": guard node ", g as u32);
@@ -65,7 +65,7 @@ fn put_guard_line(out: &mut [u8], nodes: &[u8], i: u32, r: &[u8], g: u16) -> usi
 // The line of a record's guard at the start, where it has one; answers its length.
 pub fn put_alone(out: &mut [u8], nodes: &[u8], i: u32, r: &[u8]) -> usize
     requires { ⌜ Short (nodeAt (now nodes)) ⌝ }
-    ensures { λ n. ⌜ Begins (now (out .entry)) (guardText (nodeAt (now (nodes .entry))) i (now (r .entry))) (now (out .exit)) n × (n ≤ 21764) ⌝ }
+    ensures { λ n. ⌜ Begins (now (out .entry)) (guardText (nodeAt (now (nodes .entry))) i (now (r .entry))) (now (out .exit)) n × (n ≤ lineRoom) ⌝ }
 {
     match guard_of(r) {
         Guard::Free => 0,

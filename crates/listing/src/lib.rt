@@ -8,7 +8,7 @@ ghost use Rattle.records.specs.Wrote.{Begins};
 ghost use Rattle.expressions.specs.Nodes.{readNode, nodeAt};
 ghost use Rattle.model.specs.Replay.{feed};
 ghost use Rattle.listing_parts.specs.Parts.{WroteNear, nodeText};
-ghost use Rattle.listing.specs.Guards.{Short};
+ghost use Rattle.listing.specs.Guards.{lineRoom, Short};
 ghost use Rattle.listing.specs.Listing.{recordText, lineText, numberOf, listed, guardListed, HasNodes};
 
 pub mod guarded;
@@ -21,6 +21,7 @@ use listing_parts::fields::put_node;
 use listing_parts::fields::put_variable;
 use listing_parts::texts::put_word;
 use records::byte_at;
+use records::sizes::NODES;
 use sets::put_action;
 use sets::put_chart;
 use sets::put_state;
@@ -54,13 +55,13 @@ fn put_fields(out: &mut [u8], i: u32, r: &[u8]) -> usize
     }
 }
 
-// Room for a line: 256 bytes of its fields, 21 for each of the 1,024 nodes that a guard may have, its parentheses and the line's end.
-pub const LINE_ROOM: usize = 21764;
+// Room for any line: the fields of its record, a guard of all nodes, its parentheses and the line's end.
+pub const LINE_ROOM: usize = 256 + 21 * NODES + 4;
 
 // The line of a record, the i-th of its kind, at the start; answers its length. The nodes are the file's.
 fn put_line(out: &mut [u8], nodes: &[u8], i: u32, r: &[u8]) -> usize
     requires { ⌜ Short (nodeAt (now nodes)) ⌝ }
-    ensures { λ n. ⌜ Begins (now (out .entry)) (lineText (nodeAt (now (nodes .entry))) i (now (r .entry))) (now (out .exit)) n × (n ≤ 21764) ⌝ }
+    ensures { λ n. ⌜ Begins (now (out .entry)) (lineText (nodeAt (now (nodes .entry))) i (now (r .entry))) (now (out .exit)) n × (n ≤ lineRoom) ⌝ }
 {
     let guard = put_fields(out, i, r);
     let end = put_beside(out, guard, nodes, r);
@@ -78,7 +79,7 @@ pub fn node_into(out: &mut [u8], i: u32, r: &[u8]) -> usize
 // The line of record n of a file, before which there are i of its kind.
 pub fn line_into(out: &mut [u8], s: &[u8], nodes: &[u8], n: usize, i: u32) -> usize
     requires { ⌜ HasNodes (now s) (now nodes) × (n < length (now s) / 16) × (i ≡ numberOf (now s) (byte (now s) (16 * n)) n) ⌝ }
-    ensures { λ r. ⌜ Begins (now (out .entry)) (listed (now (s .entry)) n) (now (out .exit)) r × (r ≤ 21764) ⌝ }
+    ensures { λ r. ⌜ Begins (now (out .entry)) (listed (now (s .entry)) n) (now (out .exit)) r × (r ≤ lineRoom) ⌝ }
 {
     let at = 16 * n;
     let end = at + 16;
@@ -88,7 +89,7 @@ pub fn line_into(out: &mut [u8], s: &[u8], nodes: &[u8], n: usize, i: u32) -> us
 // The line of its guard, where it has one.
 pub fn guard_into(out: &mut [u8], s: &[u8], nodes: &[u8], n: usize, i: u32) -> usize
     requires { ⌜ HasNodes (now s) (now nodes) × (n < length (now s) / 16) × (i ≡ numberOf (now s) (byte (now s) (16 * n)) n) ⌝ }
-    ensures { λ r. ⌜ Begins (now (out .entry)) (guardListed (now (s .entry)) n) (now (out .exit)) r × (r ≤ 21764) ⌝ }
+    ensures { λ r. ⌜ Begins (now (out .entry)) (guardListed (now (s .entry)) n) (now (out .exit)) r × (r ≤ lineRoom) ⌝ }
 {
     let at = 16 * n;
     let end = at + 16;

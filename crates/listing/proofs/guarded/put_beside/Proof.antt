@@ -6,7 +6,7 @@ use Rattle.records.proofs.Wrote.{nothing-wrote}
 use Rattle.expressions.specs.Nodes.{nodeAt}
 use Rattle.chart_records.specs.Parts.{guardFor}
 use Rattle.listing_parts.proofs.Near.{near-then, near-as}
-use Rattle.listing.specs.Guards.{besideText}
+use Rattle.listing.specs.Guards.{longestGuard, besideText}
 use Rattle.listing.proofs.Written.{near-of}
 use Rattle.listing.proofs.guarded.put_beside.Statement.{statement}
 use Rattle.listing.proofs.guarded.put_beside.Tie as tie
@@ -27,7 +27,7 @@ returns-2 : tie.Need-returns-2
 returns-2 c =
     let node = nodeAt (c .before .before .before .before .before .before .before .before .before .before .before .before .before .before .before .before .before .before .before .before .before .args .nodes .now) in
     near-as
-    (near-then (near-then (near-of 2 (c .before .before .before .before .before .before .before .before .before .before .before .put-word .ensures .wrote) (omega arith)) (near-of 21504 (c .before .before .before .before .before .before .before .put-tree .ensures) (c .before .before .before .before .before .before .before .before .before .before .before .before .before .before .before .before .before .before .before .before .before .pre .1 .short (c .before .before .before .before .before .before .before .before .before .before .before .before .before .before .before .g .given .0 .0)))) (near-of 1 (c .before .before .put-word2 .ensures .wrote) (omega arith)))
+    (near-then (near-then (near-of 2 (c .before .before .before .before .before .before .before .before .before .before .before .put-word .ensures .wrote) (omega arith)) (near-of longestGuard (c .before .before .before .before .before .before .before .put-tree .ensures) (c .before .before .before .before .before .before .before .before .before .before .before .before .before .before .before .before .before .before .before .before .before .pre .1 .short (c .before .before .before .before .before .before .before .before .before .before .before .before .before .before .before .g .given .0 .0)))) (near-of 1 (c .before .before .put-word2 .ensures .wrote) (omega arith)))
     (ap (λ g. besideText node (guardFor g)) (sym (c .before .before .before .before .before .before .before .before .before .before .before .before .before .before .before .g .given .1)) ∙ ap (besideText node) (c .before .before .before .before .before .before .before .before .before .before .before .before .before .before .before .before .before .guard-of .ensures)) (omega arith)
 
 pub put-beside-spec : {M : Type 1} → statement M
