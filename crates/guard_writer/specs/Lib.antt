@@ -1,3 +1,4 @@
--- What the code says: its enums in the words of the definitions, and what is asked of places and operands.
+-- What the code says: operators by their codes, what is asked of places and operands, and its answers in the words of the definitions.
+pub mod Codes
 pub mod Operands
 pub mod Answers

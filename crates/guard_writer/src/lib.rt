@@ -4,6 +4,7 @@ ghost use Rattle.guards.specs.Calls.{writeGuard};
 ghost use Rattle.guard_writer.specs.Answers.{writtenOf};
 
 pub mod lists;
+pub mod operators;
 pub mod trees;
 
 use lists::Listed;

@@ -29,14 +29,14 @@ unfolding textOf
 returns c =
     let s = c .before .before .before .before .before .before .before in
     let bits = c .before .before .before .before .before .unsigned32 in
-    wrote-as (c .before .before .put-decimal .ensures) (lower (s .args .z) (s .fits .z) (bits .result) (bits .ensures ∙ ap (unsigned (2 ^ 31)) (toZ-ofZ (s .fits .z))) (c .before .before .before .before .if1 .taken))
+    wrote-as (c .before .before .put-number .ensures) (lower (s .args .z) (s .fits .z) (bits .result) (bits .ensures ∙ ap (unsigned (2 ^ 31)) (toZ-ofZ (s .fits .z))) (c .before .before .before .before .if1 .taken))
 
 returns-2 : tie.Need-returns-2
 unfolding textOf
 returns-2 c =
     let s = c .before .before .before .before .before .before .before .before .before .before .before .before in
     let bits = c .before .before .before .before .before .before .before .before .before .before .unsigned32 in
-    wrote-as (wrote-then (c .before .before .before .before .before .before .put-text .ensures) (c .before .before .put-decimal2 .ensures)) (upper (s .args .z) (s .fits .z) (bits .result) (bits .ensures ∙ ap (unsigned (2 ^ 31)) (toZ-ofZ (s .fits .z))) (c .before .before .before .before .before .before .before .before .before .if1 .left))
+    wrote-as (wrote-then (c .before .before .before .before .before .before .put-text .ensures) (c .before .before .put-number2 .ensures)) (upper (s .args .z) (s .fits .z) (bits .result) (bits .ensures ∙ ap (unsigned (2 ^ 31)) (toZ-ofZ (s .fits .z))) (c .before .before .before .before .before .before .before .before .before .if1 .left))
 
 pub put-constant-spec : {M : Type 1} → statement M
 put-constant-spec =
