@@ -10,6 +10,7 @@ use lib.IntN.{ℤ, pos}
 use Rattle.prelude.specs.Lists.{caseOf}
 use Rattle.records.specs.Bytes.{byte, two, four±}
 use Rattle.expressions.specs.Nodes.{Node, nodeBy, nodeAt}
+use Rattle.expressions.specs.Uses.{operandNumbers}
 use Rattle.expressions.specs.Coded.{HasFields, codedNode}
 use Rattle.expressions.specs.declared.nodes.Fields.{Fields}
 use Rattle.expressions.proofs.Codes.{Other, by-code}
@@ -94,6 +95,39 @@ module _ (tree : ℕ → Tree) (a b c : ℕ) (z : ℤ) where
         is-binary = λ p q. absurd (omega (arith, other-level k o));
       })
 
+-- the operands of a node by its level
+pub record Uses (a b c code : ℕ) (x : Node) : Type 0 where
+  pub one : codeLevel code ≡ 1 → operandNumbers x ≡ a ∷ []
+  pub two : 1 < codeLevel code → codeLevel code < 7 → operandNumbers x ≡ a ∷ b ∷ []
+  pub three : codeLevel code ≡ 7 → operandNumbers x ≡ a ∷ b ∷ c ∷ []
+
+module _ (a b c : ℕ) (z : ℤ) where
+  no-uses : (k : ℕ) (x : Node) → codeLevel k ≡ 0 → Uses a b c k x
+  no-uses k x e = record { one = λ d. absurd (omega arith); two = λ p q. absurd (omega arith); three = λ d. absurd (omega arith) }
+
+  uses-two : (k : ℕ) (x : Node) → 1 < codeLevel k → codeLevel k < 7 → operandNumbers x ≡ a ∷ b ∷ [] → Uses a b c k x
+  uses-two k x l h e = record { one = λ d. absurd (omega arith); two = λ p q. e; three = λ d. absurd (omega arith) }
+
+  uses-by : (code : ℕ) → Uses a b c code (nodeBy code a b c z)
+  unfolding caseOf
+  uses-by =
+      by-code (Uses a b c) a b c z
+      (no-uses 1 _ refl)
+      (no-uses 2 _ refl)
+      (uses-two 3 _ (omega arith) (omega arith) refl)
+      (uses-two 4 _ (omega arith) (omega arith) refl)
+      (uses-two 5 _ (omega arith) (omega arith) refl)
+      (uses-two 6 _ (omega arith) (omega arith) refl)
+      (uses-two 7 _ (omega arith) (omega arith) refl)
+      (record { one = λ d. absurd (omega arith); two = λ p q. absurd (omega arith); three = λ d. refl })
+      (uses-two 16 _ (omega arith) (omega arith) refl)
+      (uses-two 17 _ (omega arith) (omega arith) refl)
+      (uses-two 18 _ (omega arith) (omega arith) refl)
+      (record { one = λ d. refl; two = λ p q. absurd (omega arith); three = λ d. absurd (omega arith) })
+      (uses-two 20 _ (omega arith) (omega arith) refl)
+      (uses-two 21 _ (omega arith) (omega arith) refl)
+      (λ k o. no-uses k _ (other-level k o))
+
 -- node n, whose record has the fields f
 module _ (s : List ℕ) (n : ℕ) (f : Fields) (h : HasFields s n f) where
   tree-coded : treeBy (operandTree (nodeAt s) n) (codedNode f (four± s (16 * n + 8))) ≡ treeOf (nodeAt s) n
@@ -101,6 +135,9 @@ module _ (s : List ℕ) (n : ℕ) (f : Fields) (h : HasFields s n f) where
 
   pub node-by-level : ByLevel (operandTree (nodeAt s) n) (f .a) (f .b) (f .c) (four± s (16 * n + 8)) (f .code) (treeOf (nodeAt s) n)
   node-by-level = rw (← tree-coded) (by-level (operandTree (nodeAt s) n) (f .a) (f .b) (f .c) (four± s (16 * n + 8)) (f .code))
+
+  pub node-uses : Uses (f .a) (f .b) (f .c) (f .code) (nodeAt s n)
+  node-uses = rw (← coded-at s n f h) (uses-by (f .a) (f .b) (f .c) (four± s (16 * n + 8)) (f .code))
 
 -- by the bytes of its record
 abbrev pub fields : List ℕ → ℕ → Fields
