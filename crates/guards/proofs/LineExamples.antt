@@ -1,8 +1,13 @@
 -- Lines of document 02 and of its open points, worked out by the definitions. Assumes nothing.
 use mathlib.Core.Path.{_≡_, refl}
+use mathlib.Core.Bool.{true}
 use mathlib.Core.List.{[], _∷_}
+use Prim.Native.Nat.{ℕ}
+use Prim.Native.String.{String}
+use lib.Dec.{eqb}
 use lib.IntN.{pos, negsuc}
-use Rattle.records.specs.Refusal.{broken-line, wrong-sort, short-space, val, fault}
+use Rattle.prelude.specs.Lists.{all}
+use Rattle.records.specs.Refusal.{broken-line, wrong-sort, short-space, Out, val, fault, refusalNumber}
 use Rattle.arithmetic.specs.Operators.{sum, difference, less}
 use Rattle.model.specs.Replay.{digits}
 use Rattle.lines.specs.Ascii.{ascii}
@@ -76,6 +81,28 @@ compared-twice = refl
 no-room : readGuard (ascii "v0<1") [] .answer ≡ fault short-space
 unfolding GuardCalls
 no-room = refl
+
+-- the number that a line is refused by, where there is no room for its nodes
+abbrev number : Out ℕ → ℕ
+number (val n) = 0
+number (fault w) = refusalNumber w
+
+abbrev refusedBy : String → ℕ
+refusedBy line = number (readGuard (ascii line) [] .answer)
+
+outside-lines :
+    all (λ line. eqb (refusedBy line) 22) ("" ∷ " " ∷ "-v0<0" ∷ "- 3<0" ∷ "00<0" ∷ "01<0" ∷ "-00<0" ∷ "-01<0" ∷ "v01<0" ∷ "v64<0" ∷ "v 0<0" ∷ "2147483648<0" ∷ "v0-2147483648<0" ∷ "-2147483649<0" ∷ "v0=0" ∷ "v0=<0" ∷ "v0< =0" ∷ "v0&v1" ∷ "v0<0&&" ∷ "(v0<0" ∷ "v0<0)" ∷ "v0<0?1" ∷ "v0<0?1:2:3" ∷ "0<0<" ∷ "v0<1<2)" ∷ [])
+    ≡ true
+unfolding GuardCalls
+outside-lines = refl
+
+wrong-sorts : all (λ line. eqb (refusedBy line) 23) ("v0" ∷ "-3" ∷ "v0-3" ∷ "v0<1<2" ∷ "!v0<3" ∷ "!-3" ∷ "v0<0?1:2" ∷ "v0&&v1" ∷ "(v0<0)+1" ∷ "0<(v0<0)" ∷ "v0?1:2<0" ∷ "(v0<0?v1<0:1)<0" ∷ []) ≡ true
+unfolding GuardCalls
+wrong-sorts = refl
+
+lines-without-room : all (λ line. eqb (refusedBy line) 24) ("v0<0" ∷ " v0 < 0 " ∷ "v0--3<0" ∷ "v0- -3<0" ∷ "v0 -3<0" ∷ "-0<0" ∷ "!!(v0<0)" ∷ "(((v0<0)))" ∷ "v63==2147483647" ∷ "v0--2147483648<=0" ∷ "(0<0?1:0<0?2:3)<0" ∷ "(0<0?0<0?1:2:3)<0" ∷ "v0<0||v1<0&&v2==3" ∷ []) ≡ true
+unfolding GuardCalls
+lines-without-room = refl
 
 -- ---- numbering, and the writer's parentheses
 
