@@ -1,22 +1,19 @@
 -- Spaces and numbers of a text, byte by byte from a place on, and the bytes of an operator. Assumes nothing.
-use mathlib.Core.Path.{_≡_, refl, sym, ap, _∙_, subst}
+use mathlib.Core.Path.{_≡_, refl, sym, ap, _∙_}
 use mathlib.Core.Bool.{Bool, true, false, not, cond, _&&_}
-use mathlib.Core.Option.{Option, some, none}
 use mathlib.Core.List.{List, [], _∷_}
 use Prim.Native.Nat.{ℕ, zero, suc, _+_, _-_, _*_, _≤_, _<_}
 use native.Mathlib.Nat.{add-zero}
 use native.Mathlib.Numerals.{add-one}
 use native.Mathlib.Omega.{arith}
-use borrow.Author.Tests.{lt-ltb, le-ltb, eq-eqb, ne-eqb, leb-true}
-use lib.Dec.{leb, eqb}
+use borrow.Author.Tests.{lt-ltb, le-ltb, eq-eqb, ne-eqb}
+use lib.Dec.{eqb}
 use lib.ListN.{length, getD, drop}
 use lib.Seq.{drop-cons, getD-drop}
-use Rattle.prelude.specs.Lists.{caseOf}
-use Rattle.prelude.proofs.Counts.{and-true}
 use Rattle.records.specs.Bytes.{byte}
-use Rattle.records.specs.Refusal.{broken-line, Out, val, fault, _>>=_, _>>_, fault-if}
-use Rattle.guards.specs.Trees.{Binary}
+use Rattle.records.specs.Refusal.{broken-line, Out, _>>_, fault-if}
 use Rattle.guards.specs.Grammar.{Read, read, outside, unspaced, isDigit, digitsAfter, upTo, numeral, operatorBy, operatorAt}
+use Rattle.guards.proofs.Numerals.{digits-by, digitsAfter-grows}
 use Rattle.guard_reader.specs.Places.{ReadsNumber}
 use Rattle.guard_reader.specs.declared.lexemes.Numeral.{Numeral}
 use Rattle.guard_reader.specs.declared.lexemes.Numeral.the-variants.{Value, Outside}
@@ -64,16 +61,6 @@ module _ (s : List ℕ) (i : ℕ) where
 
 -- ---- digits
 
-digits-by : (n b : ℕ) (s : List ℕ) → digitsAfter n (b ∷ s) ≡ cond (isDigit b) (digitsAfter (10 * n + (b - 48)) s) (record { got = n; rest = b ∷ s })
-unfolding digitsAfter
-digits-by n b s = refl
-
-pub digit-least : (b : ℕ) → isDigit b ≡ true → 48 ≤ b
-digit-least b e = leb-true 48 b (and-true (leb 48 b) (leb b 57) e .0)
-
-pub digit-most : (b : ℕ) → isDigit b ≡ true → b ≤ 57
-digit-most b e = leb-true b 57 (and-true (leb 48 b) (leb b 57) e .1)
-
 pub no-digit-end : (s : List ℕ) (i : ℕ) → length s ≤ i → isDigit (byte s i) ≡ false
 no-digit-end [] zero h = refl
 no-digit-end [] (suc i) h = refl
@@ -102,18 +89,8 @@ module _ (s : List ℕ) (i n : ℕ) where
         ∙ ap (λ r. record { got = n; rest = r }) (sym (drop-cons s i 0 h))
 
 -- more digits make no smaller number, so one that is too large stays so
-grown : (n : ℕ) (t : Bool) (x y : Read ℕ) → n ≤ x .got → n ≤ y .got → n ≤ cond t x y .got
-grown n true x y h k = h
-grown n false x y h k = k
-
-pub digits-grow : (n : ℕ) (s : List ℕ) → n ≤ digitsAfter n s .got
-unfolding digitsAfter
-digits-grow n [] = omega arith
-digits-grow n (b ∷ s) =
-    grown n (isDigit b) (digitsAfter (10 * n + (b - 48)) s) (record { got = n; rest = b ∷ s }) (let g : 10 * n + (b - 48) ≤ digitsAfter (10 * n + (b - 48)) s .got = digits-grow (10 * n + (b - 48)) s in omega arith) (omega arith)
-
 pub too-large : (most n : ℕ) (s : List ℕ) → most < n → upTo most (digitsAfter n s) ≡ outside
-too-large most n s h = rw (lt-ltb most (digitsAfter n s .got) (let g : n ≤ digitsAfter n s .got = digits-grow n s in omega arith)) refl
+too-large most n s h = rw (lt-ltb most (digitsAfter n s .got) (let g : n ≤ digitsAfter n s .got = digitsAfter-grows n s in omega arith)) refl
 
 pub within : (most n : ℕ) (s r : List ℕ) → n ≤ most → digitsAfter n s ≡ record { got = n; rest = r } → upTo most (digitsAfter n s) ≡ read n r
 within most n s r h e = ap (upTo most) e ∙ rw (le-ltb most n h) refl

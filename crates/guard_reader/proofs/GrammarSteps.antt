@@ -3,15 +3,15 @@ use mathlib.Core.Path.{_≡_, refl, sym, ap, _∙_, subst}
 use mathlib.Core.Bool.{Bool, true, false, cond}
 use mathlib.Core.Option.{Option, some, none}
 use mathlib.Core.List.{List, [], _∷_}
-use Prim.Native.Nat.{ℕ, zero, suc, _+_, _-_, _*_, _≤_, _<_}
+use Prim.Native.Nat.{ℕ, zero, suc, _+_, _-_, _≤_, _<_}
 use native.Mathlib.Omega.{arith}
-use borrow.Author.Tests.{lt-leb, le-leb, eq-eqb, ne-eqb, eqb-true}
-use lib.Dec.{leb, eqb}
+use borrow.Author.Tests.{lt-leb, le-leb, ne-eqb, eqb-true}
+use lib.Dec.{eqb}
 use lib.ListN.{length, drop}
 use lib.Seq.{drop-drop}
 use Rattle.prelude.specs.Lists.{caseOf}
 use Rattle.records.specs.Bytes.{byte}
-use Rattle.records.specs.Refusal.{Out, val, fault, _>>=_}
+use Rattle.records.specs.Refusal.{Out, val, _>>=_}
 use Rattle.guards.specs.Trees.{Binary, Tree, negation, binary, choice, binaryLevel}
 use Rattle.guards.specs.Grammar.{Read, read, outside, unspaced, operatorBy, operatorAt, byOperator, past, readVariable, readNegative, readPositive, choiceAt, binaryAt, goOn, operandAt}
 use Rattle.guard_reader.specs.Places.{Skipped, marked, MarkAt, IsSign, SignIs}

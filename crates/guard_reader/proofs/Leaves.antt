@@ -1,20 +1,20 @@
 -- Operands that have no operand: a variable or a constant by its first byte, and the tree that its record makes. Assumes nothing.
 use mathlib.Core.Path.{_≡_, refl, sym, ap, _∙_, subst}
-use mathlib.Core.Bool.{Bool, true, false, cond}
+use mathlib.Core.Bool.{true, false}
 use mathlib.Core.List.{List, [], _∷_}
-use Prim.Native.Nat.{ℕ, suc, _+_, _-_, _*_, _^_, _≤_, _<_}
+use Prim.Native.Nat.{ℕ, _+_, _-_, _*_, _^_, _≤_, _<_}
 use native.Mathlib.Omega.{arith}
 use borrow.Author.Tests.{ne-eqb}
-use lib.IntN.{ℤ, pos, negℤ}
+use lib.IntN.{ℤ}
 use lib.ListN.{length, drop}
 use lib.Seq.{sets, drop-drop}
 use Rattle.prelude.specs.Lists.{caseOf, gather}
 use Rattle.records.specs.Bytes.{byte, unsigned}
-use Rattle.records.specs.Refusal.{Out, val, fault, _>>=_}
+use Rattle.records.specs.Refusal.{Out}
 use Rattle.guards.specs.Trees.{Tree, constant, variable, isTruth, fits, nodeCount, nodesFrom, recordsOf}
-use Rattle.guards.specs.Grammar.{Read, read, outside, numeral, readVariable, readPositive, readNegative}
+use Rattle.guards.specs.Grammar.{Read, outside, numeral, readVariable, readPositive, readNegative}
 use Rattle.guard_reader.specs.Places.{ReadNumber, ReadsNumber}
-use Rattle.guard_reader.specs.Parts.{nodeBits, leafAt, LeafIs, HasTree, ReadTree}
+use Rattle.guard_reader.specs.Parts.{nodeBits, leafAt, LeafIs, HasTree}
 use Rattle.guard_reader.specs.declared.lexemes.Numeral.{Numeral}
 use Rattle.guard_reader.specs.declared.lexemes.Numeral.the-variants.{Value, Outside}
 use Rattle.guard_reader.specs.declared.trees.Part.{Part}

@@ -1,13 +1,12 @@
 -- Trees that were read one behind the other, put together by the node that is written behind them. Assumes nothing.
 use mathlib.Core.Path.{_≡_, refl, sym, ap, _∙_, subst}
-use mathlib.Core.Bool.{Bool, true, false, _&&_}
+use mathlib.Core.Bool.{true, false, _&&_}
 use mathlib.Core.List.{List, [], _∷_, _++_}
-use Prim.Native.Nat.{ℕ, suc, _+_, _-_, _*_, _≤_, _<_}
+use Prim.Native.Nat.{ℕ, _+_, _-_, _*_, _≤_, _<_}
 use native.Mathlib.Omega.{arith}
 use lib.Dec.{leb}
 use lib.ListN.{length}
 use lib.Seq.{sets, length-sets}
-use Rattle.prelude.specs.Lists.{gather}
 use Rattle.prelude.proofs.Lists.{gather-append}
 use Rattle.prelude.proofs.Gathered.{gather-one}
 use Rattle.records.specs.Wrote.{Wrote}
@@ -15,27 +14,12 @@ use Rattle.records.proofs.Wrote.{wrote-then}
 use Rattle.arithmetic.specs.Operators.{Arithmetic, sum, difference, product, quotient, remainder, Comparison, equal, less, at-most}
 use Rattle.expressions.specs.Nodes as N
 use Rattle.expressions.specs.Nodes.{Node}
-use Rattle.guards.specs.Trees.{Binary, arithmetic, comparison, both, either, Tree, constant, variable, negation, binary, choice, binaryLevel, isTruth, givesTruth, takesTruths, fits, pairFits, nodeCount, nodesFrom, binaryNode, nodeRecord, recordsOf}
+use Rattle.guards.specs.Trees.{Binary, arithmetic, comparison, both, either, Tree, negation, binary, choice, givesTruth, takesTruths, fits, pairFits, nodeCount, nodesFrom, binaryNode, nodeRecord, recordsOf}
 use Rattle.guards.proofs.NodeRecords.{recordsOf-length}
 use Rattle.guards.proofs.Numbering.{nodeCount-some, nodesFrom-length}
 use Rattle.guard_reader.specs.Places.{binaryCode}
 use Rattle.guard_reader.specs.Parts.{nodeBits, PartIs, NegationIs, JoinIs, ChoiceIs, HasTree}
 use Rattle.guard_reader.specs.declared.trees.Part.{Part}
-
--- ---- levels
-
-arithmeticLevel-least : (o : Arithmetic) → 2 ≤ binaryLevel (arithmetic o)
-arithmeticLevel-least sum = omega arith
-arithmeticLevel-least difference = omega arith
-arithmeticLevel-least product = omega arith
-arithmeticLevel-least quotient = omega arith
-arithmeticLevel-least remainder = omega arith
-
-pub binaryLevel-least : (o : Binary) → 2 ≤ binaryLevel o
-binaryLevel-least (arithmetic o) = arithmeticLevel-least o
-binaryLevel-least (comparison o) = omega arith
-binaryLevel-least both = omega arith
-binaryLevel-least either = omega arith
 
 -- ---- what was written with a tree, and with the node behind it
 

@@ -1,15 +1,15 @@
 -- What a rule comes to at every depth that is enough, from what its parts came to. Assumes nothing.
 use mathlib.Core.Path.{_≡_, refl, sym, ap, _∙_}
-use mathlib.Core.Bool.{Bool, true, false}
+use mathlib.Core.Bool.{false}
 use mathlib.Core.List.{List}
 use Prim.Native.Nat.{ℕ, zero, suc, _+_, _-_, _*_, _≤_, _<_}
 use native.Mathlib.Omega.{arith}
 use lib.ListN.{length, drop}
 use Rattle.records.specs.Bytes.{byte}
-use Rattle.records.specs.Refusal.{Out, val, fault, _>>=_}
-use Rattle.guards.specs.Trees.{Tree, negation, binary, choice, binaryLevel}
-use Rattle.guards.specs.Grammar.{Read, read, outside, unspaced, operatorAt, past, choiceAt, binaryAt, goOn, operandAt}
-use Rattle.guard_reader.specs.Places.{Skipped, marked, MarkAt, SignIs, binaryCode}
+use Rattle.records.specs.Refusal.{Out, _>>=_}
+use Rattle.guards.specs.Trees.{Tree, negation, binary, choice}
+use Rattle.guards.specs.Grammar.{Read, read, outside, operatorAt, past, choiceAt, binaryAt, goOn, operandAt}
+use Rattle.guard_reader.specs.Places.{Skipped, marked, MarkAt, SignIs}
 use Rattle.guard_reader.specs.Parts.{leafAt, HasTree, ReadTree, Reads, NegationIs, JoinIs, ChoiceIs, operandDepth, binaryDepth, choiceDepth}
 use Rattle.guard_reader.specs.declared.lexemes.Sign.{Sign}
 use Rattle.guard_reader.specs.declared.trees.Part.{Part}

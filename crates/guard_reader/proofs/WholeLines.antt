@@ -7,16 +7,16 @@ use native.Mathlib.Omega.{arith}
 use borrow.Author.Tests.{lt-ltb, le-ltb, ltb-false}
 use lib.Dec.{ltb, eqb}
 use lib.ListN.{length, take, drop, length-drop}
-use lib.Seq.{sets, sets-eq, take-at}
-use Rattle.records.specs.Refusal.{Refusal, broken-line, wrong-sort, short-space, Out, val, fault, _>>=_, _>>_, fault-if}
-use Rattle.model.specs.Outcome.{Outcome, settled}
+use lib.Seq.{sets-eq, take-at}
+use Rattle.records.specs.Refusal.{broken-line, wrong-sort, short-space, Out, val, fault, _>>=_, _>>_, fault-if}
+use Rattle.model.specs.Outcome.{settled}
 use Rattle.guards.specs.Trees.{Tree, isTruth, fits, nodeCount, nodesFrom, recordsOf}
 use Rattle.guards.specs.Grammar.{Read, read, outside, unspaced, choiceAt, lineTree}
 use Rattle.guards.specs.Calls.{readGuard, written}
 use Rattle.guards.proofs.NodeRecords.{recordsOf-length}
 use Rattle.guards.proofs.Numbering.{nodesFrom-length}
 use Rattle.guard_reader.specs.Places.{Skipped}
-use Rattle.guard_reader.specs.Parts.{ReadTree, HasTree, choiceDepth}
+use Rattle.guard_reader.specs.Parts.{ReadTree, choiceDepth}
 use Rattle.guard_reader.specs.Answer.{HasLine}
 use Rattle.guard_reader.specs.declared.trees.Part.{Part}
 

@@ -74,7 +74,7 @@ fn read_by(text: &[u8], own: &mut [u8], nodes: &mut [u8]) -> Guard
         return Guard::Refused(Refusal::ShortSpace);
     }
     copy(own, nodes, 16 * size);
-    Guard::Nodes(t.size)
+    Guard::Nodes(t.size as u16)
 }
 
 // A line has no more nodes than bytes: for a short one little is cleared.

@@ -24,7 +24,7 @@ pub enum Parsed {
 }
 
 // A variable or a constant, at a place that has no space.
-fn leaf(text: &[u8], at: usize, nodes: &mut [u8], size: u16) -> Parsed
+fn leaf(text: &[u8], at: usize, nodes: &mut [u8], size: u32) -> Parsed
     requires { ⌜ Placed (now text) at size ⌝ }
     ensures { λ r. ⌜ Reads (now (text .entry)) at size (now (nodes .entry)) (now (nodes .exit)) 0 (λ d. leafAt (drop at (now (text .entry)))) r ⌝ }
 {
@@ -33,7 +33,7 @@ fn leaf(text: &[u8], at: usize, nodes: &mut [u8], size: u16) -> Parsed
         let Numeral::Value(n, next) = number_at(text, at + 1, 63) else {
             return Parsed::Outside;
         };
-        return Parsed::Tree(variable(nodes, size, n as u16, next));
+        return Parsed::Tree(variable(nodes, size, n, next));
     }
     if b == 45 {
         let Numeral::Value(n, next) = number_at(text, at + 1, 2147483648) else {
@@ -47,7 +47,7 @@ fn leaf(text: &[u8], at: usize, nodes: &mut [u8], size: u16) -> Parsed
     Parsed::Tree(constant(nodes, size, n, next))
 }
 
-fn operand(text: &[u8], at: usize, nodes: &mut [u8], size: u16) -> Parsed
+fn operand(text: &[u8], at: usize, nodes: &mut [u8], size: u32) -> Parsed
     requires { ⌜ Placed (now text) at size ⌝ }
     ensures { λ r. ⌜ Reads (now (text .entry)) at size (now (nodes .entry)) (now (nodes .exit)) (operandDepth (length (now (text .entry)) - at)) (λ d. operandAt d (drop at (now (text .entry)))) r ⌝ }
 {
@@ -77,7 +77,7 @@ fn operand(text: &[u8], at: usize, nodes: &mut [u8], size: u16) -> Parsed
 }
 
 // Operators of levels up to k with their operands.
-fn binary(text: &[u8], at: usize, k: u8, nodes: &mut [u8], size: u16) -> Parsed
+fn binary(text: &[u8], at: usize, k: u8, nodes: &mut [u8], size: u32) -> Parsed
     requires { ⌜ Placed (now text) at size × (k ≤ 7) ⌝ }
     ensures { λ r. ⌜ Reads (now (text .entry)) at size (now (nodes .entry)) (now (nodes .exit)) (binaryDepth (length (now (text .entry)) - at)) (λ d. binaryAt d k (drop at (now (text .entry)))) r ⌝ }
 {
@@ -98,7 +98,7 @@ fn binary(text: &[u8], at: usize, k: u8, nodes: &mut [u8], size: u16) -> Parsed
     }
 }
 
-pub fn choice(text: &[u8], at: usize, nodes: &mut [u8], size: u16) -> Parsed
+pub fn choice(text: &[u8], at: usize, nodes: &mut [u8], size: u32) -> Parsed
     requires { ⌜ Placed (now text) at size ⌝ }
     ensures { λ r. ⌜ Reads (now (text .entry)) at size (now (nodes .entry)) (now (nodes .exit)) (choiceDepth (length (now (text .entry)) - at)) (λ d. choiceAt d (drop at (now (text .entry)))) r ⌝ }
 {

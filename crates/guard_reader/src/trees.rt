@@ -9,20 +9,19 @@ ghost use lib.Seq.{sets};
 ghost use Rattle.records.specs.Bytes.{bytes2, bytes4, unsigned};
 ghost use Rattle.guard_reader.specs.Parts.{nodeBits, LeafIs, NegationIs, JoinIs, ChoiceIs};
 use records::put_byte;
-use records::put_u16;
 use records::put_u32;
 
 // A tree that was read: the place behind it, the number of nodes written with it, whether all operands have the sort that their operator takes, and whether it is a
 // truth.
 pub struct Part {
     pub next: usize,
-    pub size: u16,
+    pub size: u32,
     pub fits: bool,
     pub truth: bool,
 }
 
 // Two bytes and four that have room: the test is the caller's.
-fn put_two(s: &mut [u8], at: usize, v: u16)
+fn put_two(s: &mut [u8], at: usize, v: u32)
     requires { ⌜ at + 1 < length (now s) ⌝ }
     ensures { λ _. ⌜ now (s .exit) ≡ sets (now (s .entry)) at (bytes2 v) ⌝ }
 {
@@ -34,13 +33,22 @@ fn put_four(s: &mut [u8], at: usize, v: u32)
     requires { ⌜ at + 3 < length (now s) ⌝ }
     ensures { λ _. ⌜ now (s .exit) ≡ sets (now (s .entry)) at (bytes4 v) ⌝ }
 {
-    put_two(s, at, (v % 65536) as u16);
-    put_two(s, at + 2, (v / 65536) as u16);
+    put_two(s, at, v % 65536);
+    put_two(s, at + 2, v / 65536);
+}
+
+// Two bytes, as far as there is room.
+fn put_some(s: &mut [u8], at: usize, v: u32)
+    requires { ⌜ at < 2 ^ 62 ⌝ }
+    ensures { λ _. ⌜ now (s .exit) ≡ sets (now (s .entry)) at (bytes2 v) ⌝ }
+{
+    put_byte(s, at, (v % 256) as u8);
+    put_byte(s, at + 1, (v / 256 % 256) as u8);
 }
 
 // The record of node n, which has room; a constant is given by its bits.
-fn put_whole(nodes: &mut [u8], at: usize, code: u8, a: u16, b: u16, c: u16, bits: u32)
-    requires { ⌜ (at + 15 < length (now nodes)) × (at < 2 ^ 32) ⌝ }
+fn put_whole(nodes: &mut [u8], at: usize, code: u8, a: u32, b: u32, c: u32, bits: u32)
+    requires { ⌜ (at + 15 < length (now nodes)) × (at < 2 ^ 32 * 16) ⌝ }
     ensures { λ _. ⌜ now (nodes .exit) ≡ sets (now (nodes .entry)) at (5 ∷ nodeBits code a b c bits) ⌝ }
 {
     nodes[at] = 5;
@@ -53,7 +61,7 @@ fn put_whole(nodes: &mut [u8], at: usize, code: u8, a: u16, b: u16, c: u16, bits
 }
 
 // The record of node n. Bytes past the end are not written.
-fn put_node(nodes: &mut [u8], n: u16, code: u8, a: u16, b: u16, c: u16, bits: u32)
+fn put_node(nodes: &mut [u8], n: u32, code: u8, a: u32, b: u32, c: u32, bits: u32)
     ensures { λ _. ⌜ now (nodes .exit) ≡ sets (now (nodes .entry)) (16 * n) (5 ∷ nodeBits code a b c bits) ⌝ }
 {
     let at = 16 * (n as usize);
@@ -62,9 +70,9 @@ fn put_node(nodes: &mut [u8], n: u16, code: u8, a: u16, b: u16, c: u16, bits: u3
     }
     put_byte(nodes, at, 5);
     put_byte(nodes, at + 1, code);
-    put_u16(nodes, at + 2, a);
-    put_u16(nodes, at + 4, b);
-    put_u16(nodes, at + 6, c);
+    put_some(nodes, at + 2, a);
+    put_some(nodes, at + 4, b);
+    put_some(nodes, at + 6, c);
     put_u32(nodes, at + 8, bits);
     put_u32(nodes, at + 12, 0);
 }
@@ -77,7 +85,7 @@ pub fn negative(n: u32) -> u32
     if n == 0 { 0 } else { 4294967295 - (n - 1) }
 }
 
-pub fn constant(nodes: &mut [u8], size: u16, bits: u32, next: usize) -> Part
+pub fn constant(nodes: &mut [u8], size: u32, bits: u32, next: usize) -> Part
     requires { ⌜ size ≤ 256 ⌝ }
     ensures { λ r. ⌜ LeafIs (now (nodes .entry)) size (nodeBits 1 0 0 0 bits) next (now (nodes .exit)) r ⌝ }
 {
@@ -90,7 +98,7 @@ pub fn constant(nodes: &mut [u8], size: u16, bits: u32, next: usize) -> Part
     }
 }
 
-pub fn variable(nodes: &mut [u8], size: u16, v: u16, next: usize) -> Part
+pub fn variable(nodes: &mut [u8], size: u32, v: u32, next: usize) -> Part
     requires { ⌜ size ≤ 256 ⌝ }
     ensures { λ r. ⌜ LeafIs (now (nodes .entry)) size (nodeBits 2 v 0 0 0) next (now (nodes .exit)) r ⌝ }
 {

@@ -1,5 +1,5 @@
 -- The line of an accepted list: it is short, and what the call answers. Assumes nothing.
-use mathlib.Core.Path.{_≡_, sym, ap, _∙_}
+use mathlib.Core.Path.{_≡_, sym, ap, _∙_, subst}
 use mathlib.Core.Bool.{Bool, true, false, cond}
 use mathlib.Core.Option.{some, none}
 use mathlib.Core.List.{List, _++_}
@@ -17,11 +17,13 @@ use Rattle.records.specs.Wrote.{Wrote}
 use Rattle.expressions.specs.Nodes.{Node, nodeAt}
 use Rattle.expressions.specs.Sorts.{sortOf, isTruth, nodesNamed, operandsFit, operandUses}
 use Rattle.model.specs.Outcome.{Outcome, settled}
-use Rattle.guards.specs.Lists.{isKnown, usedRightly, isOneTree, listRefusal}
+use Rattle.guards.specs.Texts.{textOf}
+use Rattle.guards.specs.Lists.{treeOf, isKnown, usedRightly, isOneTree, listRefusal}
 use Rattle.guards.specs.Calls.{written, writtenLine, writeGuard}
 use Rattle.guard_writer.specs.Operands.{Near}
+use Rattle.guard_writer.specs.Measures.{OwnAll}
 use Rattle.guard_writer.proofs.Listed.{passed, tree-parts}
-use Rattle.guard_writer.proofs.Short.{short-text}
+use Rattle.guard_writer.proofs.Short.{short-text, own-text}
 
 -- ---- how short
 
@@ -42,14 +44,34 @@ module _ (s : List ℕ) (accepted : none ≡ listRefusal (nodeAt s) (length s / 
   parts : (ltb 0 size ≡ true) × (all (usedRightly (nodeAt s) size) (upto size) ≡ true)
   parts = tree-parts (ltb 0 size) (operandsFit (nodeAt s) size) (isTruth (sortOf (nodeAt s (size - 1)))) (all (usedRightly (nodeAt s) size) (upto size)) (tests .1)
 
+  pub few-nodes : size ≤ 1024
+  few-nodes = ltb-false 1024 size (tests .0)
+
+  pub some-nodes : 0 < size
+  some-nodes = ltb-true 0 size (parts .0)
+
+  once : (k : ℕ) → k < size - 1 → operandUses (nodeAt s) size k ≤ 1
+  once k h = used-once (nodeAt s) size k (omega arith) (parts .1)
+
+  -- 21 bytes to a node are enough, and so are those that are each node's own
+  pub line-short : length (writtenLine s) ≤ 21 * size
+  line-short = let some = some-nodes in omega (arith, short-text (nodeAt s) size (size - 1) (omega arith) once)
+
+  pub line-own : (bytes : ℕ) → OwnAll (nodeAt s) size bytes → length (writtenLine s) ≤ bytes
+  line-own bytes own =
+      let some = some-nodes in
+      let e : size ≡ suc (size - 1) = omega arith in
+      own-text (nodeAt s) size (size - 1) (omega arith) once bytes (subst (λ k. OwnAll (nodeAt s) k bytes) e own)
+
   pub short-line : length (writtenLine s) ≤ 21 * 1024
-  short-line =
-      let few : size ≤ 1024 = ltb-false 1024 size (tests .0) in
-      let some : 0 < size = ltb-true 0 size (parts .0) in
-      omega (arith, short-text (nodeAt s) size (size - 1) (omega arith) (λ k h. used-once (nodeAt s) size k (omega arith) (parts .1)))
+  short-line = omega (arith, line-short, few-nodes)
 
   pub near-line : Near 0 (writtenLine s)
   near-line = record { near = omega (arith, short-line) }
+
+-- the text of the root's tree
+pub line-is : (s : List ℕ) {root : ℕ} → root ≡ length s / 16 - 1 → textOf (treeOf (nodeAt s) root) ≡ writtenLine s
+line-is s e = ap (λ n. textOf (treeOf (nodeAt s) n)) e
 
 -- ---- what the call answers
 

@@ -1,15 +1,13 @@
 -- The tree of a node by the rule for one node: any depth above the node's number gives it. Assumes nothing.
 use mathlib.Core.Path.{_≡_, refl, sym, ap, _∙_}
 use mathlib.Core.Bool.{Bool, true, false, cond}
-use mathlib.Core.List.{List, [], _∷_, _++_}
+use mathlib.Core.List.{[], _∷_, _++_}
 use Prim.Native.Nat.{ℕ, zero, suc, _<_, _≤_}
 use native.Mathlib.Omega.{arith}
 use borrow.Author.Tests.{ltb-true, lt-ltb, le-ltb}
 use lib.Dec.{ltb}
 use lib.IntN.{pos}
-use Rattle.expressions.specs.Nodes.{Node, nodeAt}
-use Rattle.expressions.specs.Answers.{nodeFor}
-use Rattle.expressions.specs.declared.nodes.Node as read
+use Rattle.expressions.specs.Nodes.{Node}
 use Rattle.guards.specs.Trees.{Tree, constant, level}
 use Rattle.guards.specs.Texts.{textOf, textIn}
 use Rattle.guards.specs.Lists.{treeBy, treeAt, treeOf}
@@ -47,11 +45,3 @@ module _ (node : ℕ → Node) where
 
     pub enclosed-operand : k < level (treeOf node a) → 40 ∷ textOf (treeOf node a) ++ (41 ∷ []) ≡ textIn k (operandTree node n a)
     enclosed-operand l = enclosed k (treeOf node a) l ∙ ap (textIn k) (lower-operand n a h)
-
--- of a node that was read
-module _ (s : List ℕ) (n : ℕ) {x y : read.Node} (h : nodeFor x ≡ nodeAt s n) (e : x ≡ y) where
-  pub tree-read : treeBy (operandTree (nodeAt s) n) (nodeFor y) ≡ treeOf (nodeAt s) n
-  tree-read = ap (λ z. treeBy (operandTree (nodeAt s) n) (nodeFor z)) (sym e) ∙ ap (treeBy (operandTree (nodeAt s) n)) h ∙ sym (tree-rule (nodeAt s) n)
-
-pub level-read : (s : List ℕ) (n : ℕ) (x : read.Node) → nodeFor x ≡ nodeAt s n → {r : ℕ} → ((tree : ℕ → Tree) → r ≡ level (treeBy tree (nodeFor x))) → r ≡ level (treeOf (nodeAt s) n)
-level-read s n x h l = l (operandTree (nodeAt s) n) ∙ ap level (tree-read s n {x = x} {y = x} h refl)

@@ -1,6 +1,6 @@
--- A tree whose nodes are used once at most has a short text: 21 bytes to a node at most. A node's bytes are its own and those of its operands; over all nodes up to
--- one, the bytes of operands are those of lower nodes, each counted once, which leaves the bytes that are the nodes' own. Assumes nothing.
-use mathlib.Core.Path.{_≡_, refl, sym, ap, _∙_}
+-- A tree whose nodes are used once at most has a short text: the bytes that are the nodes' own, 21 to a node at most. A node's bytes are its own and those of its
+-- operands; over all nodes up to one, the bytes of operands are those of lower nodes, each counted once, which leaves the nodes' own. Assumes nothing.
+use mathlib.Core.Path.{_≡_, refl, sym, ap, _∙_, subst}
 use mathlib.Core.Bool.{Bool, true, false, cond}
 use mathlib.Core.List.{List, [], _∷_, _++_}
 use Prim.Native.Nat.{ℕ, zero, suc, _+_, _*_, _-_, _≤_, _<_, zero-le}
@@ -27,14 +27,11 @@ use Rattle.guards.specs.Trees.{Tree, Binary, binary, constant, arithmetic, comp
 use Rattle.guards.specs.Texts.{sign, textOf, textIn, placed}
 use Rattle.guards.specs.Lists.{treeBy, treeOf}
 use Rattle.guard_writer.specs.Operands.{operandTree}
+use Rattle.guard_writer.specs.Measures.{total, cut, textLength, Own, OwnAll}
 use Rattle.guard_writer.proofs.Texts.{zero-line}
 use Rattle.guard_writer.proofs.Rules.{tree-rule}
 
 -- ---- sums over lists
-
-unfoldable total : (ℕ → ℕ) → List ℕ → ℕ
-total f [] = 0
-total f (x ∷ xs) = f x + total f xs
 
 total-append : (f : ℕ → ℕ) (xs ys : List ℕ) → total f (xs ++ ys) ≡ total f xs + total f ys
 unfolding total
@@ -52,6 +49,11 @@ unfolding total
 total-split f g h e [] = zero-le
 total-split f g h e (x ∷ xs) = omega (arith, e x, total-split f g h e xs)
 
+total-most : (f g : ℕ → ℕ) → ((a : ℕ) → f a ≤ g a) → (xs : List ℕ) → total f xs ≤ total g xs
+unfolding total
+total-most f g e [] = zero-le
+total-most f g e (x ∷ xs) = omega (arith, e x, total-most f g e xs)
+
 -- a value for each time that b is met
 met : (v b n : ℕ) (xs : List ℕ) → times b xs ≤ n → total (λ a. cond (eqb a b) v 0) xs ≤ n * v
 unfolding total count
@@ -66,16 +68,19 @@ met v b n (x ∷ xs) h = go (eqb x b) n h (λ m l. met v b m xs l)
     go true (suc m) l ih = omega (arith, ih m (omega arith), suc-mul m v)
     go false n l ih = omega (arith, ih n l)
 
--- those below b alone
-abbrev cut : (ℕ → ℕ) → ℕ → ℕ → ℕ
-cut f b a = cond (ltb a b) (f a) 0
-
 module _ (f : ℕ → ℕ) where
-  cut-in : (b a : ℕ) → a < b → cut f b a ≡ f a
+  pub cut-in : (b a : ℕ) → a < b → cut f b a ≡ f a
   cut-in b a h = ap (λ t. cond t (f a) 0) (lt-ltb a b h)
 
   cut-out : (b a : ℕ) → b ≤ a → cut f b a ≡ 0
   cut-out b a h = ap (λ t. cond t (f a) 0) (le-ltb a b h)
+
+  cut-wider : (m b : ℕ) → m ≤ b → (a : ℕ) → cut f m a ≤ cut f b a
+  cut-wider m b h a = go (ltb a m) refl
+    where
+      go : (t : Bool) → ltb a m ≡ t → cond t (f a) 0 ≤ cut f b a
+      go true e = let l : a < m = ltb-true a m e in omega (arith, cut-in b a (omega arith))
+      go false e = zero-le
 
   cut-more : (b a : ℕ) → cut f (suc b) a ≤ cut f b a + cond (eqb a b) (f b) 0
   cut-more b a = go (ltb a b) (eqb a b) refl refl
@@ -168,34 +173,45 @@ module _ (tree : ℕ → Tree) (g : ℕ → ℕ) (short : (a : ℕ) → length (
 -- ---- all nodes
 
 module _ (node : ℕ → Node) where
-  abbrev bytes : ℕ → ℕ
-  bytes n = length (textOf (treeOf node n))
-
-  operand-short : (b m : ℕ) → m ≤ b → (a : ℕ) → length (textOf (operandTree node m a)) ≤ suc (cut bytes b a)
-  operand-short b m h a = go (ltb a m) refl
+  operand-short : (n a : ℕ) → length (textOf (operandTree node n a)) ≤ suc (cut (textLength node) n a)
+  operand-short n a = go (ltb a n)
     where
-      go : (t : Bool) → ltb a m ≡ t → length (textOf (cond t (treeOf node a) (constant (pos 0)))) ≤ suc (cut bytes b a)
-      go true e = let l : a < m = ltb-true a m e in omega (arith, cut-in bytes b a (omega arith))
-      go false e = omega (arith, ap length zero-line)
+      go : (t : Bool) → length (textOf (cond t (treeOf node a) (constant (pos 0)))) ≤ suc (cond t (textLength node a) 0)
+      go true = omega arith
+      go false = omega (arith, ap length zero-line)
 
-  tree-short : (b m : ℕ) → m ≤ b → bytes m ≤ 21 + total (cut bytes b) (operandNumbers (node m))
-  tree-short b m h = omega (arith, ap (λ t. length (textOf t)) (tree-rule node m), node-short (operandTree node m) (cut bytes b) (operand-short b m h) (node m))
+  tree-short : (n : ℕ) → Own node n 21
+  tree-short n = record {
+    few = omega arith;
+    enough = omega (arith, ap (λ t. length (textOf t)) (tree-rule node n), node-short (operandTree node n) (cut (textLength node) n) (operand-short n) (node n));
+  }
 
   operands-more : (m : ℕ) → allOperands node (suc m) ≡ allOperands node m ++ operandNumbers (node m)
   operands-more m = ap (allOperands node) (sym (add-one m)) ∙ gather-more (λ n. operandNumbers (node n)) m
 
-  all-short : (b m : ℕ) → m ≤ suc b → total bytes (upto m) ≤ 21 * m + total (cut bytes b) (allOperands node m)
+  -- the bytes that are the nodes' own, one node after the other
+  pub own-none : OwnAll node 0 0
   unfolding total from
-  all-short b zero h = zero-le
-  all-short b (suc m) h =
-      omega (
-        arith,
-        total-more bytes m,
-        all-short b m (omega arith),
-        tree-short b m (omega arith),
-        ap (total (cut bytes b)) (operands-more m),
-        total-append (cut bytes b) (allOperands node m) (operandNumbers (node m)),
-      )
+  own-none = record { few = zero-le; enough = λ b h. zero-le }
+
+  pub own-more : (m first bytes : ℕ) → OwnAll node m first → Own node m bytes → OwnAll node (suc m) (first + bytes)
+  own-more m first bytes all own = record {
+    few = omega (arith, all .few, own .few);
+    enough = λ b h.
+        omega (
+          arith,
+          total-more (textLength node) m,
+          all .enough b (omega arith),
+          own .enough,
+          total-most (cut (textLength node) m) (cut (textLength node) b) (cut-wider (textLength node) m b (omega arith)) (operandNumbers (node m)),
+          ap (total (cut (textLength node) b)) (operands-more m),
+          total-append (cut (textLength node) b) (allOperands node m) (operandNumbers (node m)),
+        );
+  }
+
+  all-short : (m : ℕ) → OwnAll node m (21 * m)
+  all-short zero = own-none
+  all-short (suc m) = subst (OwnAll node (suc m)) (let e : 21 * m + 21 ≡ 21 * suc m = omega arith in e) (own-more m (21 * m) 21 (all-short m) (tree-short m))
 
   -- the first nodes use none more often than all do
   first-uses : (m r k : ℕ) → times k (allOperands node m) ≤ operandUses node (m + r) k
@@ -207,12 +223,17 @@ module _ (node : ℕ → Node) where
         count-append (λ n. eqb n k) (allOperands node m) (gather f (from (0 + m) r)),
       )
 
-  pub short-text : (size n : ℕ) → n < size → ((k : ℕ) → k < n → operandUses node size k ≤ 1) → length (textOf (treeOf node n)) ≤ 21 * suc n
-  short-text size n h used =
-      let e : suc n + (size - suc n) ≡ size = omega arith in
-      omega (
-        arith,
-        all-short n (suc n) (omega arith),
-        covered bytes n (allOperands node (suc n)) (λ k l. omega (arith, first-uses (suc n) (size - suc n) k, ap (λ s. operandUses node s k) e, used k l)),
-        total-more bytes n,
-      )
+  module _ (size n : ℕ) (h : n < size) (used : (k : ℕ) → k < n → operandUses node size k ≤ 1) where
+    -- bytes that are the nodes' own are enough
+    pub own-text : (bytes : ℕ) → OwnAll node (suc n) bytes → length (textOf (treeOf node n)) ≤ bytes
+    own-text bytes own =
+        let e : suc n + (size - suc n) ≡ size = omega arith in
+        omega (
+          arith,
+          own .enough n (omega arith),
+          covered (textLength node) n (allOperands node (suc n)) (λ k l. omega (arith, first-uses (suc n) (size - suc n) k, ap (λ s. operandUses node s k) e, used k l)),
+          total-more (textLength node) n,
+        )
+
+    pub short-text : length (textOf (treeOf node n)) ≤ 21 * suc n
+    short-text = own-text (21 * suc n) (all-short (suc n))

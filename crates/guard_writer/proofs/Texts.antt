@@ -45,7 +45,7 @@ levels (comparison o) = (omega arith, omega arith)
 levels both = (omega arith, omega arith)
 levels either = (omega arith, omega arith)
 
-level-most : (t : Tree) → level t ≤ 7
+pub level-most : (t : Tree) → level t ≤ 7
 level-most (constant z) = omega arith
 level-most (variable v) = omega arith
 level-most (negation t) = omega arith

@@ -6,18 +6,8 @@ use lib.Dec.{ltb}
 use lib.IntN.{pos}
 use lib.ListN.{length}
 use Rattle.expressions.specs.Nodes.{Node}
-use Rattle.expressions.specs.Answers.{operatorOf, relationOf}
-use Rattle.guards.specs.Trees as Trees
 use Rattle.guards.specs.Trees.{Tree, constant}
 use Rattle.guards.specs.Lists.{treeOf}
-use Rattle.guard_writer.specs.declared.trees.Binary.{Binary}
-use Rattle.guard_writer.specs.declared.trees.Binary.the-variants.{Arithmetic, Comparison, Both, Either}
-
-abbrev pub binaryOf : Binary → Trees.Binary
-binaryOf (Arithmetic o) = Trees.arithmetic (operatorOf o)
-binaryOf (Comparison o) = Trees.comparison (relationOf o)
-binaryOf Both = Trees.both
-binaryOf Either = Trees.either
 
 -- the tree of operand a of node n; one that is not lower counts as 0
 abbrev pub operandTree : (ℕ → Node) → ℕ → ℕ → Tree

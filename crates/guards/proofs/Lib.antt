@@ -7,7 +7,6 @@ pub mod PlacedUses
 pub mod ReadLists
 pub mod AcceptedLists
 pub mod AcceptedSizes
-pub mod ReadSteps
 pub mod ReadTrees
 pub mod ReadCalls
 pub mod Values

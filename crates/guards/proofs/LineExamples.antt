@@ -1,15 +1,13 @@
 -- Lines of document 02 and of its open points, worked out by the definitions. Assumes nothing.
 use mathlib.Core.Path.{_≡_, refl}
-use mathlib.Core.List.{List, [], _∷_}
-use Prim.Native.Nat.{ℕ}
-use Prim.Native.String.{String}
-use lib.IntN.{ℤ, pos, negsuc}
-use Rattle.records.specs.Refusal.{Refusal, broken-line, wrong-sort, short-space, Out, val, fault, refusalNumber}
-use Rattle.arithmetic.specs.Operators.{sum, difference, product, less}
+use mathlib.Core.List.{[], _∷_}
+use lib.IntN.{pos, negsuc}
+use Rattle.records.specs.Refusal.{broken-line, wrong-sort, short-space, val, fault}
+use Rattle.arithmetic.specs.Operators.{sum, difference, less}
 use Rattle.model.specs.Replay.{digits}
 use Rattle.lines.specs.Ascii.{ascii}
 use Rattle.expressions.specs.Nodes as N
-use Rattle.guards.specs.Trees.{Tree, constant, variable, binary, choice, arithmetic, comparison, nodesFrom, nodeCount}
+use Rattle.guards.specs.Trees.{Tree, constant, variable, binary, choice, arithmetic, comparison, nodesFrom}
 use Rattle.guards.specs.Grammar.{lineTree, Grammar}
 use Rattle.guards.specs.Texts.{textOf}
 use Rattle.guards.specs.Calls.{readGuard, GuardCalls}

@@ -26,7 +26,7 @@ digit-least b e = leb-true 48 b (and-true (leb 48 b) (leb b 57) e .0)
 pub digit-most : (b : ℕ) → isDigit b ≡ true → b ≤ 57
 digit-most b e = leb-true b 57 (and-true (leb 48 b) (leb b 57) e .1)
 
-digits-by : (n b : ℕ) (s : List ℕ) → digitsAfter n (b ∷ s) ≡ cond (isDigit b) (digitsAfter (10 * n + (b - 48)) s) (record { got = n; rest = b ∷ s })
+pub digits-by : (n b : ℕ) (s : List ℕ) → digitsAfter n (b ∷ s) ≡ cond (isDigit b) (digitsAfter (10 * n + (b - 48)) s) (record { got = n; rest = b ∷ s })
 unfolding digitsAfter
 digits-by n b s = refl
 
@@ -128,7 +128,7 @@ module _ (most n : ℕ) (r : List ℕ) (l : n < 2 ^ 32) (e : isDigit (byte r 0) 
 -- ---- what is read is decimal text
 
 -- more digits make no smaller number
-digitsAfter-grows : (n : ℕ) (s : List ℕ) → n ≤ digitsAfter n s .got
+pub digitsAfter-grows : (n : ℕ) (s : List ℕ) → n ≤ digitsAfter n s .got
 unfolding digitsAfter
 digitsAfter-grows n [] = omega arith
 digitsAfter-grows n (b ∷ s) = go (isDigit b) (digitsAfter-grows (10 * n + (b - 48)) s)

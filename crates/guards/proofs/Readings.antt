@@ -11,7 +11,7 @@ use Rattle.records.specs.Bytes.{byte}
 use Rattle.records.specs.Refusal.{Out, _>>=_}
 use Rattle.guards.specs.Trees.{Tree}
 use Rattle.guards.specs.Grammar.{Read, read, unspaced, isDigit, operatorAt, choiceAt, binaryAt, goOn, operandAt}
-use Rattle.guards.proofs.Steps.{unspaced-least, Next, goOn-ends, choiceAt-plain}
+use Rattle.guards.proofs.Steps.{unspaced-length, Next, goOn-ends, choiceAt-plain}
 
 -- a tree is read, and the bytes behind it are left, but for spaces
 pub record Reads (t : Tree) (r : List ℕ) (x : Out (Read Tree)) : Type 0 where
@@ -52,7 +52,7 @@ pub record Complete (j : ℕ) (t : Tree) (s : List ℕ) : Type 0 where
 -- ---- an operand is a run of operators, and that a choice
 
 pub rest-least : (s r : List ℕ) → length (unspaced r) ≤ length (s ++ r)
-rest-least s r = omega (arith, unspaced-least r, length-append s r)
+rest-least s r = omega (arith, unspaced-length r, length-append s r)
 
 module _ (j : ℕ) (t : Tree) (s : List ℕ) where
   run-of : Operand t s → Run j t s

@@ -18,10 +18,10 @@ use Rattle.guards.proofs.Numerals.{digit-least, digit-most}
 
 -- ---- spaces
 
-pub unspaced-least : (s : List ℕ) → length (unspaced s) ≤ length s
+pub unspaced-length : (s : List ℕ) → length (unspaced s) ≤ length s
 unfolding unspaced
-unspaced-least [] = omega arith
-unspaced-least (b ∷ s) = go (eqb b 32) (unspaced-least s)
+unspaced-length [] = omega arith
+unspaced-length (b ∷ s) = go (eqb b 32) (unspaced-length s)
   where
     go : (t : Bool) → length (unspaced s) ≤ length s → length (cond t (unspaced s) (b ∷ s)) ≤ suc (length s)
     go true h = omega arith

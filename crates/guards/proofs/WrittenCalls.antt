@@ -1,5 +1,5 @@
 -- What a call of the writer wrote, handed to the reader: the line is read as the tree of the list, in the reader's numbering. Assumes nothing.
-use mathlib.Core.Path.{_≡_, refl, sym, ap, _∙_}
+use mathlib.Core.Path.{_≡_, refl, ap, _∙_}
 use mathlib.Core.Bool.{Bool, true, false, not, _&&_}
 use mathlib.Core.Option.{Option, some, none}
 use mathlib.Core.List.{List, _++_}
@@ -8,7 +8,7 @@ use native.Mathlib.Omega.{arith}
 use lib.Dec.{ltb}
 use lib.ListN.{length, take, drop}
 use lib.Seq.{take-at}
-use Rattle.records.specs.Refusal.{Refusal, wrong-sort, short-space, Out, val, fault, _>>=_, _>>_, fault-if, unless-refused}
+use Rattle.records.specs.Refusal.{Refusal, wrong-sort, short-space, Out, val, _>>=_, _>>_, fault-if, unless-refused}
 use Rattle.records.proofs.RoundTrips.{OfBytes}
 use Rattle.model.specs.Outcome.{settled}
 use Rattle.expressions.specs.Nodes.{nodeAt}

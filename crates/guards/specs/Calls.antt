@@ -2,13 +2,13 @@
 -- definitions.
 use mathlib.Core.Bool.{not, _&&_}
 use mathlib.Core.List.{List, _++_}
-use Prim.Native.Nat.{ℕ, _*_, _/_, _-_}
+use Prim.Native.Nat.{ℕ, _/_, _-_}
 use lib.Dec.{ltb}
 use lib.ListN.{length, drop}
-use Rattle.records.specs.Refusal.{wrong-sort, short-space, Out, val, _>>=_, _>>_, fault-if, unless-refused}
+use Rattle.records.specs.Refusal.{wrong-sort, short-space, val, _>>=_, _>>_, fault-if, unless-refused}
 use Rattle.model.specs.Outcome.{Outcome, settled}
 use Rattle.expressions.specs.Nodes.{nodeAt}
-use Rattle.guards.specs.Trees.{Tree, isTruth, fits, nodeCount, nodesFrom, recordsOf}
+use Rattle.guards.specs.Trees.{isTruth, fits, nodeCount, nodesFrom, recordsOf}
 use Rattle.guards.specs.Grammar.{lineTree, Grammar}
 use Rattle.guards.specs.Texts.{textOf}
 use Rattle.guards.specs.Lists.{listRefusal, treeOf, GuardLists}

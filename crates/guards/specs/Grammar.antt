@@ -6,7 +6,7 @@ use Prim.Native.Nat.{ℕ, zero, suc, _+_, _-_, _*_, _^_}
 use Prim.Native.Char.{code}
 use lib.Dec.{ltb, leb, eqb}
 use lib.ListN.{length, drop}
-use lib.IntN.{ℤ, pos, negℤ}
+use lib.IntN.{pos, negℤ}
 use Rattle.prelude.specs.Lists.{caseOf, Lists}
 use Rattle.records.specs.Bytes.{byte}
 use Rattle.records.specs.Refusal.{broken-line, Out, val, fault, _>>=_, _>>_, fault-if}

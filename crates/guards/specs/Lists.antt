@@ -1,10 +1,10 @@
 -- A list of nodes that is one guard: its tests, and its tree. Assumes nothing: these are definitions.
-use mathlib.Core.Bool.{Bool, true, false, not, cond, _&&_, _||_}
+use mathlib.Core.Bool.{Bool, not, cond, _&&_, _||_}
 use mathlib.Core.Option.{Option}
-use mathlib.Core.List.{List, [], _∷_}
+use mathlib.Core.List.{[], _∷_}
 use Prim.Native.Nat.{ℕ, zero, suc, _-_}
 use lib.Dec.{ltb, eqb}
-use lib.IntN.{ℤ, pos}
+use lib.IntN.{pos}
 use Rattle.prelude.specs.Lists.{all, upto, Lists}
 use Rattle.records.specs.Refusal.{Refusal, wrong-amounts, broken-code, dangling-number, broken-node, lowest}
 use Rattle.expressions.specs.Nodes as N

@@ -1,5 +1,4 @@
 -- `line` meets its contract, by those of the rule and of the spaces behind it. Assumes nothing.
-use Prim.Native.Nat.{_≤_}
 use native.Mathlib.Omega.{arith}
 use borrow.Author.Needs.{needs}
 use Rattle.guard_reader.proofs.WholeLines.{line-length, line-few, line-outside, line-behind, line-whole}

@@ -1,7 +1,5 @@
 -- `read_by` meets its contract: the line's refusal, then the sorts, then the room; else the nodes, before what lies beyond. Assumes nothing.
-use mathlib.Core.Path.{_≡_, refl, sym, ap, _∙_}
-use mathlib.Core.Bool.{Bool, true, false, not, _&&_}
-use mathlib.Core.List.{_++_}
+use mathlib.Core.Path.{sym, ap, _∙_}
 use Prim.Native.Nat.{_*_, _/_, _≤_}
 use native.Mathlib.Nat.{div-mul-le-self}
 use native.Mathlib.Omega.{arith}
@@ -32,12 +30,19 @@ copy-requires c κs =
     let long = c .before .before .before .before .before .before .before .before .before .before .before .line .kept .1 .0 in
     (omega arith, omega (arith, div-mul-le-self (length (c .before .before .before .before .before .before .before .before .before .before .before .before .before .before .before .before .args .nodes .now)) 16))
 
+cast-t21 : tie.Need-cast-t21
+cast-t21 c =
+    let r = rw (c .before .before .before .before .before .before .before .before .before .before .before .t .given .1) at (c .before .before .before .before .before .before .before .before .before .before .before .before .before .before .before .line .ensures) in
+    let few : c .before .before .before .before .before .before .before .before .before .before .before .t .given .0 .0 .size ≤ length (c .before .before .before .before .before .before .before .before .before .before .before .before .before .before .before .before .before .before .before .before .args .text .now) = r .few in
+    let short : length (c .before .before .before .before .before .before .before .before .before .before .before .before .before .before .before .before .before .before .before .before .args .text .now) ≤ 256 = r .short in
+    omega arith
+
 returns-4 : tie.Need-returns-4
 returns-4 c =
-    let r = rw (c .before .before .before .before .before .before .before .before .before .before .t .given .1) at (c .before .before .before .before .before .before .before .before .before .before .before .before .before .before .line .ensures) in
-    let lent = c .before .before .before .before .before .before .before .before .before .before .before .before .before .before .before .before .before .before .before .args .nodes .now in
-    ap (λ l. guardOf (guard.Nodes (c .before .before .before .before .before .before .before .before .before .before .t .given .0 .0 .size)) l) (c .before .before .copy .ensures)
-    ∙ guard-nodes (rw (c .before .before .before .before .before .before .before .before .before .before .t .given .1) at (c .before .before .before .before .before .before .before .before .before .before .before .before .before .before .line .ensures)) lent (c .before .before .before .before .before .before .before .before .before .before .before .before .before .before .before .before .before .before .before .pre (r .short)) (not-false _ (c .before .before .before .before .before .before .before .if1 .left)) (c .before .before .before .before .before .if2 .left)
+    let r = rw (c .before .before .before .before .before .before .before .before .before .before .before .t .given .1) at (c .before .before .before .before .before .before .before .before .before .before .before .before .before .before .before .line .ensures) in
+    let lent = c .before .before .before .before .before .before .before .before .before .before .before .before .before .before .before .before .before .before .before .before .args .nodes .now in
+    ap (λ l. guardOf (guard.Nodes (c .before .before .before .before .before .before .before .before .before .before .before .t .given .0 .0 .size)) l) (c .before .before .before .copy .ensures)
+    ∙ guard-nodes (rw (c .before .before .before .before .before .before .before .before .before .before .before .t .given .1) at (c .before .before .before .before .before .before .before .before .before .before .before .before .before .before .before .line .ensures)) lent (c .before .before .before .before .before .before .before .before .before .before .before .before .before .before .before .before .before .before .before .before .pre (r .short)) (not-false _ (c .before .before .before .before .before .before .before .before .if1 .left)) (c .before .before .before .before .before .before .if2 .left)
 
 pub read-by-spec : {M : Type 1} → statement M
 read-by-spec =
@@ -55,6 +60,7 @@ read-by-spec =
     returns-3
     (λ c. search needs)
     copy-requires
+    cast-t21
     (λ c. search needs)
     (λ c. search needs)
     returns-4)

@@ -1,39 +1,37 @@
 -- `write_guard` meets its contract: what is refused as a list is refused so, and the line of the others is written where the buffer has its length. Assumes nothing.
 use mathlib.Core.Path.{_≡_, sym, ap, _∙_}
-use mathlib.Core.Option.{none}
-use Prim.Native.Nat.{_/_}
-use native.Mathlib.Omega.{arith}
 use borrow.Author.Needs.{needs}
+use borrow.Author.Tests.{leb-true, leb-false, not-true, not-false}
 use denote.Ref.{now}
 use lib.ListN.{length}
 use Rattle.records.specs.RefusalOf.{refusalOf}
-use Rattle.expressions.specs.Nodes.{nodeAt}
-use Rattle.guards.specs.Texts.{textOf}
-use Rattle.guards.specs.Lists.{listRefusal, treeOf}
 use Rattle.guards.specs.Calls.{writtenLine}
-use Rattle.guard_writer.specs.Answers.{listedOf}
+use Rattle.guard_writer.specs.Answers.{listedOf, IsLine}
 use Rattle.guard_writer.proofs.Texts.{near-as, wrote-as}
-use Rattle.guard_writer.proofs.Lines.{near-line, refused-answer, too-short, line-answer}
+use Rattle.guard_writer.proofs.Lines.{near-line, line-is, refused-answer, too-short, line-answer}
 use Rattle.guard_writer.proofs.write_guard.Statement.{statement}
 use Rattle.guard_writer.proofs.write_guard.Tie as tie
 
-accepted : (c : tie.After-known-told2) → none ≡ listRefusal (nodeAt (now (c .before .before .before .before .before .before .args .nodes))) (length (now (c .before .before .before .before .before .before .args .nodes)) / 16)
-accepted c = sym (ap listedOf (c .before .listed2 .given .1)) ∙ c .before .before .before .list-refusal .ensures .answer
+line : (c : tie.After-known-told2) → IsLine (now (c .before .before .before .before .before .before .args .nodes)) (c .before .listed2 .given .0 .0)
+line c = record {
+  accepted = sym (ap listedOf (c .before .listed2 .given .1)) ∙ c .before .before .before .list-refusal .ensures .answer;
+  last = c .before .before .before .list-refusal .ensures .root _ (c .before .listed2 .given .1);
+}
 
-line-is : (c : tie.After-known-told2) → textOf (treeOf (nodeAt (now (c .before .before .before .before .before .before .args .nodes))) (c .before .listed2 .given .0 .0)) ≡ writtenLine (now (c .before .before .before .before .before .before .args .nodes))
-line-is c = ap (λ n. textOf (treeOf (nodeAt (now (c .before .before .before .before .before .before .args .nodes))) n)) (c .before .before .before .list-refusal .ensures .root _ (c .before .listed2 .given .1))
-
-put-tree-requires : tie.Need-put-tree-requires
-put-tree-requires c κs = near-as (near-line (now (c .before .before .before .before .before .before .before .args .nodes)) (accepted (c .before))) (sym (line-is (c .before)))
+has-room-requires : tie.Need-has-room-requires
+has-room-requires c κs = line c
 
 returns : tie.Need-returns
 returns c =
-    let x = c .before .before .before .before .before .before .before .before .before .before .args in
-    let w = wrote-as (c .before .before .put-tree .ensures) (line-is (c .before .before .before .before)) in
-    too-short (now (x .nodes)) (now (x .text)) (accepted (c .before .before .before .before)) (omega (arith, w .behind, c .if1 .taken))
+    let x = c .before .before .before .before .before .before .before .before .args in
+    let s = now (x .nodes) in
+    too-short s (now (x .text)) (line (c .before .before) .accepted) (leb-false (length (writtenLine s)) (length (now (x .text))) (sym (c .before .has-room .ensures) ∙ not-true _ (c .if1 .taken)))
 
-put-tree-requires-2 : tie.Need-put-tree-requires-2
-put-tree-requires-2 c κs = near-as (near-line (now (c .before .before .before .before .before .before .before .before .before .before .before .args .nodes)) (accepted (c .before .before .before .before .before))) (sym (line-is (c .before .before .before .before .before)))
+put-tree-requires : tie.Need-put-tree-requires
+put-tree-requires c κs =
+    let s = now (c .before .before .before .before .before .before .before .before .before .args .nodes) in
+    let l = line (c .before .before .before) in
+    near-as (near-line s (l .accepted)) (sym (line-is s (l .last)))
 
 returns-2 : tie.Need-returns-2
 returns-2 c =
@@ -42,9 +40,11 @@ returns-2 c =
 
 returns-3 : tie.Need-returns-3
 returns-3 c =
-    let x = c .before .before .before .before .before .before .before .before .before .before .before .before .before .before .args in
-    let w = wrote-as (c .before .before .before .before .before .before .put-tree .ensures) (line-is (c .before .before .before .before .before .before .before .before)) in
-    line-answer (now (x .nodes)) (now (x .text)) (accepted (c .before .before .before .before .before .before .before .before)) (omega (arith, w .behind, c .before .before .before .before .if1 .left)) (wrote-as (c .before .before .put-tree2 .ensures) (line-is (c .before .before .before .before .before .before .before .before)))
+    let x = c .before .before .before .before .before .before .before .before .before .before .before .before .args in
+    let s = now (x .nodes) in
+    let l = line (c .before .before .before .before .before .before) in
+    let room = leb-true (length (writtenLine s)) (length (now (x .text))) (sym (c .before .before .before .before .before .has-room .ensures) ∙ not-false _ (c .before .before .before .before .if1 .left)) in
+    line-answer s (now (x .text)) (l .accepted) room (wrote-as (c .before .before .put-tree .ensures) (line-is s (l .last)))
 
 pub write-guard-spec : {M : Type 1} → statement M
 write-guard-spec =
@@ -53,10 +53,9 @@ write-guard-spec =
     (λ c κs. search needs)
     (λ c. search needs)
     (λ c. search needs)
-    (λ c. search needs)
-    put-tree-requires
+    has-room-requires
     returns
-    put-tree-requires-2
+    put-tree-requires
     returns-2
     (λ c. search needs)
     returns-3)

@@ -1,14 +1,14 @@
 -- `lexemes::digits` meets its contract: the invariant is that the digits left go on from the number so far. Assumes nothing.
 use mathlib.Core.Path.{_≡_, refl, sym, ap, _∙_}
 use mathlib.Core.Bool.{true, false}
-use Prim.Native.Nat.{_+_, _-_, _*_, _≤_, _<_, _^_}
+use Prim.Native.Nat.{_+_, _-_, _*_, _≤_, _<_}
 use native.Mathlib.Omega.{arith}
 use borrow.Author.Needs.{needs}
 use borrow.Author.Tests.{not-true, not-false}
 use lib.ListN.{length, getD, drop}
-use Rattle.records.specs.Refusal.{Out}
-use Rattle.guards.specs.Grammar.{isDigit, digitsAfter, upTo, outside}
-use Rattle.guard_reader.proofs.FromPlace.{digit-least, digit-most, no-digit-end, digits-end, digits-more, digits-other, too-large, within}
+use Rattle.guards.specs.Grammar.{isDigit, digitsAfter, upTo}
+use Rattle.guards.proofs.Numerals.{digit-least, digit-most}
+use Rattle.guard_reader.proofs.FromPlace.{no-digit-end, digits-end, digits-more, digits-other, too-large, within}
 use Rattle.guard_reader.proofs.lexemes.digits.Statement.{statement}
 use Rattle.guard_reader.proofs.lexemes.digits.Tie as tie
 

@@ -1,11 +1,9 @@
 -- `lexemes::number_at` meets its contract: the tests of the first two bytes, then the digits. Assumes nothing.
-use mathlib.Core.Path.{_≡_, sym, ap, _∙_}
-use mathlib.Core.Bool.{true, false, _&&_}
-use Prim.Native.Nat.{_+_}
+use mathlib.Core.Path.{sym, ap, _∙_}
+use mathlib.Core.Bool.{_&&_}
 use borrow.Author.Needs.{needs}
 use borrow.Author.Tests.{not-true, not-false}
 use lib.Dec.{eqb}
-use Rattle.records.specs.Bytes.{byte}
 use Rattle.guards.specs.Grammar.{isDigit}
 use Rattle.guard_reader.proofs.FromPlace.{no-numeral, leading-zero, numeral-read}
 use Rattle.guard_reader.proofs.lexemes.number_at.Statement.{statement}

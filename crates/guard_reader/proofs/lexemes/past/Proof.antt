@@ -1,14 +1,12 @@
 -- `lexemes::past` meets its contract: the byte behind the spaces is the mark or not. Assumes nothing.
 use mathlib.Core.Path.{_≡_, sym, ap, _∙_}
-use Prim.Native.Nat.{ℕ, _+_, _≤_, _<_}
+use Prim.Native.Nat.{_≤_, _<_}
 use native.Mathlib.Omega.{arith}
 use borrow.Author.Needs.{needs}
 use borrow.Author.Tests.{eq-eqb, ne-eqb}
-use lib.Dec.{eqb}
 use lib.ListN.{length, drop}
 use lib.Seq.{drop-drop}
 use Rattle.records.specs.Bytes.{byte}
-use Rattle.guards.specs.Grammar.{unspaced}
 use Rattle.guard_reader.proofs.FromPlace.{byte-first, byte-inside}
 use Rattle.guard_reader.proofs.lexemes.past.Statement.{statement}
 use Rattle.guard_reader.proofs.lexemes.past.Tie as tie

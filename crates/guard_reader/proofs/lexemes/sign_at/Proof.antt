@@ -1,6 +1,5 @@
 -- `lexemes::sign_at` meets its contract, by that of the two bytes at the place. Assumes nothing.
-use mathlib.Core.Path.{_≡_, sym, _∙_, subst}
-use Prim.Native.Nat.{_+_}
+use mathlib.Core.Path.{_∙_, subst}
 use borrow.Author.Needs.{needs}
 use Rattle.guards.specs.Grammar.{operatorBy}
 use Rattle.guard_reader.specs.Places.{SignIs}

@@ -1,16 +1,17 @@
 -- The proof of the cycle of calls of `rules::operand`, `rules::binary` and `rules::choice`: each goes on from a place behind the one before it, or goes down a rule
 -- at its own. Assumes nothing.
-use mathlib.Core.Path.{_≡_, refl, sym, ap, _∙_}
+use mathlib.Core.Path.{_≡_, sym, _∙_}
 use mathlib.Core.List.{List}
 use Prim.Native.Nat.{ℕ, _+_, _-_, _*_, _≤_, _<_}
 use native.Mathlib.Omega.{arith}
 use borrow.Author.Needs.{needs}
-use lib.ListN.{length, drop}
+use lib.ListN.{length}
 use Rattle.records.specs.Bytes.{byte}
 use Rattle.guards.specs.Trees.{binaryLevel}
+use Rattle.guards.proofs.Steps.{binaryLevel-within}
 use Rattle.guard_reader.proofs.FromPlace.{byte-inside}
-use Rattle.guard_reader.proofs.PartTrees.{binaryLevel-least, tree-length, tree-positive, tree-few}
-use Rattle.guard_reader.proofs.GrammarSteps.{SignAt, sign-found}
+use Rattle.guard_reader.proofs.PartTrees.{tree-length, tree-positive, tree-few}
+use Rattle.guard_reader.proofs.GrammarSteps.{sign-found}
 use Rattle.guard_reader.proofs.Readings.{Reading, enclosed-outside, enclosed-open, enclosed-read, negated-outside, negated-read, leaf-read, first-outside, first-read, level-ends, right-outside, right-read, bare-outside, bare-read, second-outside, colon-missing, third-outside, third-read}
 use borrow.Fn.Kinds.{In}
 use borrow.Fn.PlainCycle.{Measures, is, falls, and}
@@ -119,7 +120,7 @@ module _ (t : ℕ) where
       let tight : c .before .before .before .sign-at .result .level ≤ x .k = c .before .if1 .left in
       let s = sign-found text (c .before .before .before .before .skip .result) (c .before .before .before .sign-at .result) (c .before .before .before .sign-at .ensures) (omega arith) in
       let e : c .before .before .before .sign-at .result .level ≡ binaryLevel (s .operator) = s .sign .level in
-      let low : 2 ≤ binaryLevel (s .operator) = binaryLevel-least (s .operator) in
+      let low : 2 ≤ binaryLevel (s .operator) = binaryLevel-within (s .operator) .low in
       omega arith
 
   binary-binary-requires : binary-lts.Need-binary-requires (binary-calls t) (binary-at t) binary.Post binary-Inv-loop binary-μ-loop

@@ -1,11 +1,10 @@
 -- `rules::leaf` meets its contract: a variable or a constant by its first byte, and the tree of its record. Assumes nothing.
 use mathlib.Core.Path.{_≡_, refl, sym, ap, _∙_}
-use Prim.Native.Nat.{ℕ, _+_, _^_, _≤_, _<_}
+use Prim.Native.Nat.{ℕ, _+_, _≤_, _<_}
 use native.Mathlib.Omega.{arith}
 use borrow.Author.Needs.{needs}
 use lib.IntN.{pos, negℤ}
 use lib.ListN.{length, drop}
-use Rattle.records.specs.Bytes.{byte}
 use Rattle.records.specs.Refusal.{_>>=_}
 use Rattle.guards.specs.Trees.{constant, variable}
 use Rattle.guards.specs.Grammar.{read}
@@ -25,14 +24,6 @@ returns c =
     let x = c .before .before .before .before .before .before .before .args in
     λ d _. is-variable (x .text .now) (x .at) (sym (c .before .before .before .before .byte-at .ensures) ∙ c .before .before .before .if1 .taken)
     ∙ ap (λ o. o >>= λ n. read (variable (n .got)) (n .rest)) (no-number (x .text .now) (x .at + 1) 63 (c .before .before .number-at .result) (c .before .before .number-at .ensures) (c .enum-told .given .1))
-
-cast-variable : tie.Need-cast-variable
-cast-variable c =
-    let x = c .before .before .before .before .before .before .before .before .before .args in
-    let g = c .before .before .n .given in
-    let r = a-number (x .text .now) (x .at + 1) 63 (c .before .before .before .before .number-at .result) (c .before .before .before .before .number-at .ensures) (g .0 .0) (g .0 .1 .0) (g .1) in
-    let l : g .0 .0 ≤ 63 = r .low in
-    omega arith
 
 returns-2 : tie.Need-returns-2
 returns-2 c =
@@ -106,7 +97,6 @@ leaf-spec =
     (λ c. search needs)
     (λ c. search needs)
     returns
-    cast-variable
     (λ c κs. search needs)
     (λ c. search needs)
     returns-2

@@ -1,5 +1,5 @@
 -- `trees::pair_fits` meets its contract, by the sort that the operator takes. Assumes nothing.
-use mathlib.Core.Path.{refl, sym, ap}
+use mathlib.Core.Path.{sym, ap}
 use Rattle.guards.specs.Trees.{pairFits}
 use Rattle.guard_reader.proofs.trees.pair_fits.Statement.{statement}
 use Rattle.guard_reader.proofs.trees.pair_fits.Tie as tie

@@ -15,13 +15,4 @@ returns c =
     c .before .before .put-two2 .ensures ∙ (λ x. sets (c .before .before .before .before .before .before .put-two .ensures x) (next x) (bytes2 (a .v / 65536)))
 
 pub put-four-spec : {M : Type 1} → statement M
-put-four-spec =
-    tie.close
-    (tie.spec
-    (λ c. search needs)
-    (λ c κs. search needs)
-    (λ c. search needs)
-    (λ c. search needs)
-    (λ c κs. search needs)
-    (λ c. search needs)
-    returns)
+put-four-spec = tie.close (tie.spec (λ c κs. search needs) (λ c. search needs) (λ c κs. search needs) (λ c. search needs) returns)

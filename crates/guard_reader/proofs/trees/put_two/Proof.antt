@@ -1,6 +1,6 @@
 -- `trees::put_two` meets its contract, by its two writes. Assumes nothing.
-use mathlib.Core.Path.{_≡_, ap}
-use Prim.Native.Nat.{suc, _+_, _/_, _%_}
+use mathlib.Core.Path.{ap}
+use Prim.Native.Nat.{_/_, _%_}
 use native.Mathlib.Numerals.{add-one}
 use borrow.Author.Needs.{needs}
 use lib.ListN.{set}

@@ -8,17 +8,16 @@ use borrow.Author.Needs.{needs}
 use borrow.Fn.Kinds.{In}
 use borrow.Fn.PlainCycle.{Measures, is, falls, and}
 use denote.Ref.{now}
-use mir.Facts.{toZ-ofZ}
-use mir.Syntax.{w32}
-use mir.Val.{SFits}
 use Rattle.records.proofs.Wrote.{wrote-then}
 use Rattle.expressions.specs.Nodes.{nodeAt}
-use Rattle.guards.specs.Trees.{constant, binaryLevel, level}
+use Rattle.guards.specs.Trees.{binaryLevel, level}
 use Rattle.guards.specs.Texts.{sign, textOf, textIn}
 use Rattle.guards.specs.Lists.{treeOf}
-use Rattle.guard_writer.specs.Operands.{binaryOf, operandTree}
-use Rattle.guard_writer.proofs.Texts.{near-left, near-then, near-as, wrote-as, levels, anywhere, zero-text, zero-line}
-use Rattle.guard_writer.proofs.Rules.{tree-read, level-read, no-operand, bare-operand, enclosed-operand}
+use Rattle.guard_writer.specs.Codes.{codeLevel, codeBinary}
+use Rattle.guard_writer.specs.Operands.{operandTree}
+use Rattle.guard_writer.proofs.Texts.{near-left, near-then, near-as, wrote-as, levels, level-most, anywhere, zero-text}
+use Rattle.guard_writer.proofs.Rules.{no-operand, bare-operand, enclosed-operand}
+use Rattle.guard_writer.proofs.Codes.{node-by-level}
 use Rattle.guard_writer.proofs.trees.put_binary.Reads as put-binary
 use Rattle.guard_writer.proofs.trees.put_binary.Kinds as put-binary-kinds
 use Rattle.guard_writer.proofs.trees.+put_binary+put_choice+put_negation+put_operand+put_tree.Lts-put_binary as put-binary-lts
@@ -34,12 +33,11 @@ use Rattle.guard_writer.proofs.trees.+put_binary+put_choice+put_negatio
 use Rattle.guard_writer.proofs.trees.put_tree.Reads as put-tree
 use Rattle.guard_writer.proofs.trees.put_tree.Kinds as put-tree-kinds
 use Rattle.guard_writer.proofs.trees.+put_binary+put_choice+put_negation+put_operand+put_tree.Lts-put_tree as put-tree-lts
-use Rattle.expressions.proofs.nodes.node_at.Reads as node-at-reads
-use Rattle.guard_writer.proofs.trees.binary_level.Reads as binary-level-reads
-use Rattle.guard_writer.proofs.trees.level.Reads as level-reads
-use Rattle.guard_writer.proofs.trees.put_constant.Reads as put-constant-reads
+use Rattle.expressions.proofs.nodes.fields_at.Reads as fields-at-reads
+use Rattle.guard_writer.proofs.operators.level.Reads as level-reads
+use Rattle.guard_writer.proofs.operators.level_at.Reads as level-at-reads
+use Rattle.guard_writer.proofs.trees.put_leaf.Reads as put-leaf-reads
 use Rattle.guard_writer.proofs.trees.put_sign.Reads as put-sign-reads
-use Rattle.guard_writer.proofs.trees.put_variable.Reads as put-variable-reads
 use Rattle.lines.proofs.put_text.Reads as put-text-reads
 use Rattle.guard_writer.proofs.trees.+put_binary+put_choice+put_negation+put_operand+put_tree.{statement}
 use Rattle.guard_writer.proofs.trees.+put_binary+put_choice+put_negation+put_operand+put_tree.Tie.{close}
@@ -92,7 +90,7 @@ put-tree-below t = and 2 put-tree-kinds.ps (falls 2 put-tree-kinds.ps _<_ μ-put
 
 -- what the calls of each ask and ensure
 abbrev put-binary-calls : ℕ → put-binary-lts.Claims
-put-binary-calls t = (binary-level-reads.Asked, binary-level-reads.Learnt, put-operand-below t, put-operand.Post, put-sign-reads.Asked, put-sign-reads.Learnt)
+put-binary-calls t = (level-reads.Asked, level-reads.Learnt, put-operand-below t, put-operand.Post, put-sign-reads.Asked, put-sign-reads.Learnt)
 
 abbrev put-choice-calls : ℕ → put-choice-lts.Claims
 put-choice-calls t = (put-operand-below t, put-operand.Post, put-text-reads.Asked, put-text-reads.Learnt)
@@ -101,62 +99,60 @@ abbrev put-negation-calls : ℕ → put-negation-lts.Claims
 put-negation-calls t = (put-text-reads.Asked, put-text-reads.Learnt, put-operand-below t, put-operand.Post)
 
 abbrev put-operand-calls : ℕ → put-operand-lts.Claims
-put-operand-calls t = (put-text-reads.Asked, put-text-reads.Learnt, node-at-reads.Asked, node-at-reads.Learnt, level-reads.Asked, level-reads.Learnt, put-tree-below t, put-tree.Post)
+put-operand-calls t = (put-text-reads.Asked, put-text-reads.Learnt, level-at-reads.Asked, level-at-reads.Learnt, put-leaf-reads.Asked, put-leaf-reads.Learnt, put-tree-below t, put-tree.Post)
 
 abbrev put-tree-calls : ℕ → put-tree-lts.Claims
-put-tree-calls t = (node-at-reads.Asked, node-at-reads.Learnt, put-constant-reads.Asked, put-constant-reads.Learnt, put-variable-reads.Asked, put-variable-reads.Learnt, put-binary-below t, put-binary.Post, put-choice-below t, put-choice.Post, put-negation-below t, put-negation.Post, put-text-reads.Asked, put-text-reads.Learnt)
+put-tree-calls t = (fields-at-reads.Asked, fields-at-reads.Learnt, level-reads.Asked, level-reads.Learnt, put-leaf-reads.Asked, put-leaf-reads.Learnt, put-negation-below t, put-negation.Post, put-choice-below t, put-choice.Post, put-binary-below t, put-binary.Post)
 
 module _ (t : ℕ) where
   put-binary-put-operand-requires : put-binary-lts.Need-put-operand-requires (put-binary-calls t) (put-binary-at t) put-binary.Post
   unfolding textOf
   put-binary-put-operand-requires c κs =
       let x = c .before .before .before .before .args in
-      let k = c .before .binary-level in
-      let o = binaryOf (x .o) in
+      let k = c .before .level .ensures ∙ c .before .before .before .before .pre .1 .0 in
+      let o = codeBinary (x .code) in
       let A = operandTree (nodeAt (now (x .nodes))) (x .n) (x .a) in
       let C = operandTree (nodeAt (now (x .nodes))) (x .n) (x .b) in
-      let n = near-left (textIn (binaryLevel o) A ++ sign o) (textIn (binaryLevel o - 1) C) (c .before .before .before .before .pre .1) in
-      (omega (arith, c .before .before .before .before .pre .0), near-as (near-left (textIn (binaryLevel o) A) (sign o) n) (ap (λ j. textIn j A) (sym (k .ensures))))
+      let n = near-left (textIn (binaryLevel o) A ++ sign o) (textIn (binaryLevel o - 1) C) (c .before .before .before .before .pre .1 .1) in
+      (omega (arith, c .before .before .before .before .pre .0), near-as (near-left (textIn (binaryLevel o) A) (sign o) n) (ap (λ j. textIn j A) (sym (k))))
 
   put-binary-put-sign-requires : put-binary-lts.Need-put-sign-requires (put-binary-calls t) (put-binary-at t) put-binary.Post
   unfolding textOf
   put-binary-put-sign-requires c κs =
       let x = c .before .before .before .before .before .before .before .before .args in
-      let k = c .before .before .before .before .before .binary-level in
-      let o = binaryOf (x .o) in
+      let k = c .before .before .before .before .before .level .ensures ∙ c .before .before .before .before .before .before .before .before .pre .1 .0 in
+      let o = codeBinary (x .code) in
       let A = operandTree (nodeAt (now (x .nodes))) (x .n) (x .a) in
       let C = operandTree (nodeAt (now (x .nodes))) (x .n) (x .b) in
-      let n = near-left (textIn (binaryLevel o) A ++ sign o) (textIn (binaryLevel o - 1) C) (c .before .before .before .before .before .before .before .before .pre .1) in
-      let w = wrote-as (c .before .before .before .put-operand .ensures) (ap (λ j. textIn j A) (k .ensures)) in
+      let n = near-left (textIn (binaryLevel o) A ++ sign o) (textIn (binaryLevel o - 1) C) (c .before .before .before .before .before .before .before .before .pre .1 .1) in
+      let w = wrote-as (c .before .before .before .put-operand .ensures) (ap (λ j. textIn j A) (k)) in
       near-then (sign o) n w
 
   put-binary-sub-put-operand : put-binary-lts.Need-sub-put-operand (put-binary-calls t) (put-binary-at t) put-binary.Post
-  put-binary-sub-put-operand c =
-      let k = c .before .before .before .before .before .before .before .before .binary-level in
-      omega (arith, k .ensures, levels (binaryOf (c .before .before .before .before .before .before .before .before .before .before .before .args .o)) .0)
+  put-binary-sub-put-operand c = omega (arith, c .before .before .before .before .before .before .before .before .level .ensures, c .before .before .before .before .before .before .before .before .before .before .before .pre .1 .0, levels (codeBinary (c .before .before .before .before .before .before .before .before .before .before .before .args .code)) .0)
 
   put-binary-put-operand-requires-2 : put-binary-lts.Need-put-operand-requires-2 (put-binary-calls t) (put-binary-at t) put-binary.Post
   unfolding textOf
   put-binary-put-operand-requires-2 c κs =
       let x = c .before .before .before .before .before .before .before .before .before .before .before .before .args in
-      let k = c .before .before .before .before .before .before .before .before .before .binary-level in
-      let o = binaryOf (x .o) in
+      let k = c .before .before .before .before .before .before .before .before .before .level .ensures ∙ c .before .before .before .before .before .before .before .before .before .before .before .before .pre .1 .0 in
+      let o = codeBinary (x .code) in
       let A = operandTree (nodeAt (now (x .nodes))) (x .n) (x .a) in
       let C = operandTree (nodeAt (now (x .nodes))) (x .n) (x .b) in
-      let n = near-left (textIn (binaryLevel o) A ++ sign o) (textIn (binaryLevel o - 1) C) (c .before .before .before .before .before .before .before .before .before .before .before .before .pre .1) in
-      let w = wrote-as (c .before .before .before .before .before .before .before .put-operand .ensures) (ap (λ j. textIn j A) (k .ensures)) in
-      (omega (arith, c .before .before .before .before .before .before .before .before .before .before .before .before .pre .0), near-as (near-then (textIn (binaryLevel o - 1) C) (c .before .before .before .before .before .before .before .before .before .before .before .before .pre .1) (wrote-then w (c .before .before .before .put-sign .ensures))) (ap (λ j. textIn (j - 1) C) (sym (k .ensures))))
+      let n = near-left (textIn (binaryLevel o) A ++ sign o) (textIn (binaryLevel o - 1) C) (c .before .before .before .before .before .before .before .before .before .before .before .before .pre .1 .1) in
+      let w = wrote-as (c .before .before .before .before .before .before .before .put-operand .ensures) (ap (λ j. textIn j A) (k)) in
+      (omega (arith, c .before .before .before .before .before .before .before .before .before .before .before .before .pre .0), near-as (near-then (textIn (binaryLevel o - 1) C) (c .before .before .before .before .before .before .before .before .before .before .before .before .pre .1 .1) (wrote-then w (c .before .before .before .put-sign .ensures))) (ap (λ j. textIn (j - 1) C) (sym (k))))
 
   put-binary-returns : put-binary-lts.Need-returns (put-binary-calls t) (put-binary-at t) put-binary.Post
   unfolding textOf
   put-binary-returns c =
       let x = c .before .before .before .before .before .before .before .before .before .before .before .before .before .before .before .args in
-      let k = c .before .before .before .before .before .before .before .before .before .before .before .before .binary-level in
-      let o = binaryOf (x .o) in
+      let k = c .before .before .before .before .before .before .before .before .before .before .before .before .level .ensures ∙ c .before .before .before .before .before .before .before .before .before .before .before .before .before .before .before .pre .1 .0 in
+      let o = codeBinary (x .code) in
       let A = operandTree (nodeAt (now (x .nodes))) (x .n) (x .a) in
       let C = operandTree (nodeAt (now (x .nodes))) (x .n) (x .b) in
-      let w = wrote-as (c .before .before .before .before .before .before .before .before .before .before .put-operand .ensures) (ap (λ j. textIn j A) (k .ensures)) in
-      wrote-then (wrote-then w (c .before .before .before .before .before .before .put-sign .ensures)) (wrote-as (c .before .before .put-operand2 .ensures) (ap (λ j. textIn (j - 1) C) (k .ensures)))
+      let w = wrote-as (c .before .before .before .before .before .before .before .before .before .before .put-operand .ensures) (ap (λ j. textIn j A) (k)) in
+      wrote-then (wrote-then w (c .before .before .before .before .before .before .put-sign .ensures)) (wrote-as (c .before .before .put-operand2 .ensures) (ap (λ j. textIn (j - 1) C) (k)))
 
   put-choice-put-operand-requires : put-choice-lts.Need-put-operand-requires (put-choice-calls t) (put-choice-at t) put-choice.Post
   unfolding textOf
@@ -233,132 +229,106 @@ module _ (t : ℕ) where
       let x = c .before .before .before .before .before .before .before .before .args in
       wrote-as (c .before .before .put-text .ensures) (zero-text (x .k) ∙ ap (textIn (x .k)) (no-operand (nodeAt (now (x .nodes))) (x .n) (x .a) (c .before .before .before .before .before .if1 .taken)))
 
+  put-operand-put-leaf-requires : put-operand-lts.Need-put-leaf-requires (put-operand-calls t) (put-operand-at t) put-operand.Post
+  put-operand-put-leaf-requires c κs =
+      let x = c .before .before .before .before .before .before .args in
+      let s = now (x .nodes) in
+      let l : level (treeOf (nodeAt s) (x .a)) ≡ 0 = sym (c .before .before .level-at .ensures) ∙ c .before .if2 .taken in
+      let e = bare-operand (nodeAt s) (x .n) (x .k) (x .a) (c .before .before .before .if1 .left) (omega arith) in
+      (l, near-as (c .before .before .before .before .before .before .pre .1) (sym e))
+
+  put-operand-returns-2 : put-operand-lts.Need-returns-2 (put-operand-calls t) (put-operand-at t) put-operand.Post
+  put-operand-returns-2 c =
+      let x = c .before .before .before .before .before .before .before .before .before .args in
+      let s = now (x .nodes) in
+      let l : level (treeOf (nodeAt s) (x .a)) ≡ 0 = sym (c .before .before .before .before .before .level-at .ensures) ∙ c .before .before .before .before .if2 .taken in
+      wrote-as (c .before .before .put-leaf .ensures) (bare-operand (nodeAt s) (x .n) (x .k) (x .a) (c .before .before .before .before .before .before .if1 .left) (omega arith))
+
   put-operand-put-tree-requires : put-operand-lts.Need-put-tree-requires (put-operand-calls t) (put-operand-at t) put-operand.Post
   put-operand-put-tree-requires c κs =
       let x = c .before .before .before .before .before .before .before .args in
       let s = now (x .nodes) in
-      let l : c .before .before .level .result ≡ level (treeOf (nodeAt s) (x .a)) = level-read s (x .a) (c .before .before .before .node-at .result) (c .before .before .before .node-at .ensures) (c .before .before .level .ensures) in
-      let e = bare-operand (nodeAt s) (x .n) (x .k) (x .a) (c .before .before .before .before .if1 .left) (omega (arith, l, c .before .if2 .taken)) in
+      let e = bare-operand (nodeAt s) (x .n) (x .k) (x .a) (c .before .before .before .before .if1 .left) (omega (arith, c .before .before .before .level-at .ensures, c .before .if3 .taken)) in
       (omega (arith, c .before .before .before .before .before .before .before .pre .0, c .before .before .before .before .if1 .left), near-as (c .before .before .before .before .before .before .before .pre .1) (sym e))
 
-  put-operand-returns-2 : put-operand-lts.Need-returns-2 (put-operand-calls t) (put-operand-at t) put-operand.Post
-  put-operand-returns-2 c =
+  put-operand-returns-3 : put-operand-lts.Need-returns-3 (put-operand-calls t) (put-operand-at t) put-operand.Post
+  put-operand-returns-3 c =
       let x = c .before .before .before .before .before .before .before .before .before .before .args in
       let s = now (x .nodes) in
-      let l : c .before .before .before .before .before .level .result ≡ level (treeOf (nodeAt s) (x .a)) = level-read s (x .a) (c .before .before .before .before .before .before .node-at .result) (c .before .before .before .before .before .before .node-at .ensures) (c .before .before .before .before .before .level .ensures) in
-      let e = bare-operand (nodeAt s) (x .n) (x .k) (x .a) (c .before .before .before .before .before .before .before .if1 .left) (omega (arith, l, c .before .before .before .before .if2 .taken)) in
-      wrote-as (c .before .before .put-tree .ensures) e
+      wrote-as (c .before .before .put-tree .ensures) (bare-operand (nodeAt s) (x .n) (x .k) (x .a) (c .before .before .before .before .before .before .before .if1 .left) (omega (arith, c .before .before .before .before .before .before .level-at .ensures, c .before .before .before .before .if3 .taken)))
 
   put-operand-put-tree-requires-2 : put-operand-lts.Need-put-tree-requires-2 (put-operand-calls t) (put-operand-at t) put-operand.Post
   put-operand-put-tree-requires-2 c κs =
       let x = c .before .before .before .before .before .before .before .before .before .before .before .before .args in
       let s = now (x .nodes) in
-      let l : c .before .before .before .before .before .before .before .level .result ≡ level (treeOf (nodeAt s) (x .a)) = level-read s (x .a) (c .before .before .before .before .before .before .before .before .node-at .result) (c .before .before .before .before .before .before .before .before .node-at .ensures) (c .before .before .before .before .before .before .before .level .ensures) in
-      let e = enclosed-operand (nodeAt s) (x .n) (x .k) (x .a) (c .before .before .before .before .before .before .before .before .before .if1 .left) (omega (arith, l, c .before .before .before .before .before .before .if2 .left)) in
-      (omega (arith, c .before .before .before .before .before .before .before .before .before .before .before .before .pre .0, c .before .before .before .before .before .before .before .before .before .if1 .left), near-left (textOf (treeOf (nodeAt s) (x .a))) (41 ∷ []) (near-then (textOf (treeOf (nodeAt s) (x .a)) ++ (41 ∷ [])) (near-as (c .before .before .before .before .before .before .before .before .before .before .before .before .pre .1) (sym e)) (c .before .before .before .put-text2 .ensures)))
+      let text = textOf (treeOf (nodeAt s) (x .a)) in
+      let e = enclosed-operand (nodeAt s) (x .n) (x .k) (x .a) (c .before .before .before .before .before .before .before .before .before .if1 .left) (omega (arith, c .before .before .before .before .before .before .before .before .level-at .ensures, c .before .before .before .before .before .before .if3 .left)) in
+      (omega (arith, c .before .before .before .before .before .before .before .before .before .before .before .before .pre .0, c .before .before .before .before .before .before .before .before .before .if1 .left), near-left text (41 ∷ []) (near-then (text ++ (41 ∷ [])) (near-as (c .before .before .before .before .before .before .before .before .before .before .before .before .pre .1) (sym e)) (c .before .before .before .put-text2 .ensures)))
 
   put-operand-put-text-requires-3 : put-operand-lts.Need-put-text-requires-3 (put-operand-calls t) (put-operand-at t) put-operand.Post
   put-operand-put-text-requires-3 c κs =
       let x = c .before .before .before .before .before .before .before .before .before .before .before .before .before .before .before .before .before .args in
       let s = now (x .nodes) in
-      let l : c .before .before .before .before .before .before .before .before .before .before .before .before .level .result ≡ level (treeOf (nodeAt s) (x .a)) = level-read s (x .a) (c .before .before .before .before .before .before .before .before .before .before .before .before .before .node-at .result) (c .before .before .before .before .before .before .before .before .before .before .before .before .before .node-at .ensures) (c .before .before .before .before .before .before .before .before .before .before .before .before .level .ensures) in
-      let e = enclosed-operand (nodeAt s) (x .n) (x .k) (x .a) (c .before .before .before .before .before .before .before .before .before .before .before .before .before .before .if1 .left) (omega (arith, l, c .before .before .before .before .before .before .before .before .before .before .before .if2 .left)) in
+      let e = enclosed-operand (nodeAt s) (x .n) (x .k) (x .a) (c .before .before .before .before .before .before .before .before .before .before .before .before .before .before .if1 .left) (omega (arith, c .before .before .before .before .before .before .before .before .before .before .before .before .before .level-at .ensures, c .before .before .before .before .before .before .before .before .before .before .before .if3 .left)) in
       omega (arith, near-then (41 ∷ []) (near-as (c .before .before .before .before .before .before .before .before .before .before .before .before .before .before .before .before .before .pre .1) (sym e)) (wrote-then (c .before .before .before .before .before .before .before .before .put-text2 .ensures) (c .before .before .before .before .put-tree2 .ensures)) .near)
 
-  put-operand-returns-3 : put-operand-lts.Need-returns-3 (put-operand-calls t) (put-operand-at t) put-operand.Post
-  put-operand-returns-3 c =
+  put-operand-returns-4 : put-operand-lts.Need-returns-4 (put-operand-calls t) (put-operand-at t) put-operand.Post
+  put-operand-returns-4 c =
       let x = c .before .before .before .before .before .before .before .before .before .before .before .before .before .before .before .before .before .before .before .before .args in
       let s = now (x .nodes) in
-      let l : c .before .before .before .before .before .before .before .before .before .before .before .before .before .before .before .level .result ≡ level (treeOf (nodeAt s) (x .a)) = level-read s (x .a) (c .before .before .before .before .before .before .before .before .before .before .before .before .before .before .before .before .node-at .result) (c .before .before .before .before .before .before .before .before .before .before .before .before .before .before .before .before .node-at .ensures) (c .before .before .before .before .before .before .before .before .before .before .before .before .before .before .before .level .ensures) in
-      let e = enclosed-operand (nodeAt s) (x .n) (x .k) (x .a) (c .before .before .before .before .before .before .before .before .before .before .before .before .before .before .before .before .before .if1 .left) (omega (arith, l, c .before .before .before .before .before .before .before .before .before .before .before .before .before .before .if2 .left)) in
+      let e = enclosed-operand (nodeAt s) (x .n) (x .k) (x .a) (c .before .before .before .before .before .before .before .before .before .before .before .before .before .before .before .before .before .if1 .left) (omega (arith, c .before .before .before .before .before .before .before .before .before .before .before .before .before .before .before .before .level-at .ensures, c .before .before .before .before .before .before .before .before .before .before .before .before .before .before .if3 .left)) in
       wrote-as (wrote-then (wrote-then (c .before .before .before .before .before .before .before .before .before .before .before .put-text2 .ensures) (c .before .before .before .before .before .before .before .put-tree2 .ensures)) (c .before .before .put-text3 .ensures)) e
 
-  put-tree-put-constant-requires : put-tree-lts.Need-put-constant-requires (put-tree-calls t) (put-tree-at t) put-tree.Post
-  put-tree-put-constant-requires c κs =
-      let x = c .before .before .before .before .before .before .before .args in
-      let fits : SFits w32 (c .before .before .node .given .0 .0) = record { sfits = c .before .known-told .given .0 .1 } in
-      near-as (c .before .before .before .before .before .before .before .pre .1) (sym (ap textOf (tree-read (now (x .nodes)) (x .n) (c .before .before .before .before .node-at .ensures) (c .before .before .node .given .1))) ∙ ap (λ y. textOf (constant y)) (sym (toZ-ofZ fits)))
-
-  put-tree-put-variable-requires : put-tree-lts.Need-put-variable-requires (put-tree-calls t) (put-tree-at t) put-tree.Post
-  put-tree-put-variable-requires c κs =
-      let x = c .before .before .before .before .before .before .before .args in
-      near-as (c .before .before .before .before .before .before .before .pre .1) (sym (ap textOf (tree-read (now (x .nodes)) (x .n) (c .before .before .before .before .node-at .ensures) (c .before .before .node2 .given .1))))
-
-  put-tree-put-binary-requires : put-tree-lts.Need-put-binary-requires (put-tree-calls t) (put-tree-at t) put-tree.Post
-  put-tree-put-binary-requires c κs =
-      let x = c .before .before .before .before .before .before .before .args in
-      (omega (arith, c .before .before .before .before .before .before .before .pre .0), near-as (c .before .before .before .before .before .before .before .pre .1) (sym (ap textOf (tree-read (now (x .nodes)) (x .n) (c .before .before .before .before .node-at .ensures) (c .before .before .node3 .given .1)))))
-
-  put-tree-put-choice-requires : put-tree-lts.Need-put-choice-requires (put-tree-calls t) (put-tree-at t) put-tree.Post
-  put-tree-put-choice-requires c κs =
-      let x = c .before .before .before .before .before .before .before .args in
-      (omega (arith, c .before .before .before .before .before .before .before .pre .0), near-as (c .before .before .before .before .before .before .before .pre .1) (sym (ap textOf (tree-read (now (x .nodes)) (x .n) (c .before .before .before .before .node-at .ensures) (c .before .before .node4 .given .1)))))
-
-  put-tree-put-binary-requires-2 : put-tree-lts.Need-put-binary-requires-2 (put-tree-calls t) (put-tree-at t) put-tree.Post
-  put-tree-put-binary-requires-2 c κs =
-      let x = c .before .before .before .before .before .before .before .args in
-      (omega (arith, c .before .before .before .before .before .before .before .pre .0), near-as (c .before .before .before .before .before .before .before .pre .1) (sym (ap textOf (tree-read (now (x .nodes)) (x .n) (c .before .before .before .before .node-at .ensures) (c .before .before .node5 .given .1)))))
+  put-tree-put-leaf-requires : put-tree-lts.Need-put-leaf-requires (put-tree-calls t) (put-tree-at t) put-tree.Post
+  put-tree-put-leaf-requires c κs =
+      let x = c .before .before .before .before .before .before .args in
+      let f = c .before .before .before .fields-at in
+      (sym (node-by-level (now (x .nodes)) (x .n) (f .result) (f .ensures) .same) ∙ sym (c .before .before .level .ensures) ∙ c .before .if1 .taken, c .before .before .before .before .before .before .pre .1)
 
   put-tree-put-negation-requires : put-tree-lts.Need-put-negation-requires (put-tree-calls t) (put-tree-at t) put-tree.Post
   put-tree-put-negation-requires c κs =
       let x = c .before .before .before .before .before .before .before .args in
-      (omega (arith, c .before .before .before .before .before .before .before .pre .0), near-as (c .before .before .before .before .before .before .before .pre .1) (sym (ap textOf (tree-read (now (x .nodes)) (x .n) (c .before .before .before .before .node-at .ensures) (c .before .before .node6 .given .1)))))
-
-  put-tree-put-binary-requires-3 : put-tree-lts.Need-put-binary-requires-3 (put-tree-calls t) (put-tree-at t) put-tree.Post
-  put-tree-put-binary-requires-3 c κs =
-      let x = c .before .before .before .before .before .before .before .args in
-      (omega (arith, c .before .before .before .before .before .before .before .pre .0), near-as (c .before .before .before .before .before .before .before .pre .1) (sym (ap textOf (tree-read (now (x .nodes)) (x .n) (c .before .before .before .before .node-at .ensures) (c .before .before .node7 .given .1)))))
-
-  put-tree-put-binary-requires-4 : put-tree-lts.Need-put-binary-requires-4 (put-tree-calls t) (put-tree-at t) put-tree.Post
-  put-tree-put-binary-requires-4 c κs =
-      let x = c .before .before .before .before .before .before .before .args in
-      (omega (arith, c .before .before .before .before .before .before .before .pre .0), near-as (c .before .before .before .before .before .before .before .pre .1) (sym (ap textOf (tree-read (now (x .nodes)) (x .n) (c .before .before .before .before .node-at .ensures) (c .before .before .node8 .given .1)))))
-
-  put-tree-returns : put-tree-lts.Need-returns (put-tree-calls t) (put-tree-at t) put-tree.Post
-  put-tree-returns c =
-      let x = c .before .before .before .before .before .before .before .before .before .before .args in
-      let fits : SFits w32 (c .before .before .before .before .before .node .given .0 .0) = record { sfits = c .before .before .before .before .known-told .given .0 .1 } in
-      wrote-as (c .before .before .put-constant .ensures) (ap (λ y. textOf (constant y)) (toZ-ofZ fits) ∙ ap textOf (tree-read (now (x .nodes)) (x .n) (c .before .before .before .before .before .before .before .node-at .ensures) (c .before .before .before .before .before .node .given .1)))
+      let f = c .before .before .before .before .fields-at in
+      let e = node-by-level (now (x .nodes)) (x .n) (f .result) (f .ensures) .is-negation (sym (c .before .before .before .level .ensures) ∙ c .before .if2 .taken) in
+      (omega (arith, c .before .before .before .before .before .before .before .pre .0), near-as (c .before .before .before .before .before .before .before .pre .1) (sym (ap textOf e)))
 
   put-tree-returns-2 : put-tree-lts.Need-returns-2 (put-tree-calls t) (put-tree-at t) put-tree.Post
   put-tree-returns-2 c =
       let x = c .before .before .before .before .before .before .before .before .before .before .args in
-      wrote-as (c .before .before .put-variable .ensures) (ap textOf (tree-read (now (x .nodes)) (x .n) (c .before .before .before .before .before .before .before .node-at .ensures) (c .before .before .before .before .before .node2 .given .1)))
+      let f = c .before .before .before .before .before .before .before .fields-at in
+      wrote-as (c .before .before .put-negation .ensures) (ap textOf (node-by-level (now (x .nodes)) (x .n) (f .result) (f .ensures) .is-negation (sym (c .before .before .before .before .before .before .level .ensures) ∙ c .before .before .before .before .if2 .taken)))
+
+  put-tree-put-choice-requires : put-tree-lts.Need-put-choice-requires (put-tree-calls t) (put-tree-at t) put-tree.Post
+  put-tree-put-choice-requires c κs =
+      let x = c .before .before .before .before .before .before .before .before .args in
+      let f = c .before .before .before .before .before .fields-at in
+      let e = node-by-level (now (x .nodes)) (x .n) (f .result) (f .ensures) .is-choice (sym (c .before .before .before .before .level .ensures) ∙ c .before .if3 .taken) in
+      (omega (arith, c .before .before .before .before .before .before .before .before .pre .0), near-as (c .before .before .before .before .before .before .before .before .pre .1) (sym (ap textOf e)))
 
   put-tree-returns-3 : put-tree-lts.Need-returns-3 (put-tree-calls t) (put-tree-at t) put-tree.Post
   put-tree-returns-3 c =
-      let x = c .before .before .before .before .before .before .before .before .before .before .args in
-      wrote-as (c .before .before .put-binary .ensures) (ap textOf (tree-read (now (x .nodes)) (x .n) (c .before .before .before .before .before .before .before .node-at .ensures) (c .before .before .before .before .before .node3 .given .1)))
+      let x = c .before .before .before .before .before .before .before .before .before .before .before .args in
+      let f = c .before .before .before .before .before .before .before .before .fields-at in
+      wrote-as (c .before .before .put-choice .ensures) (ap textOf (node-by-level (now (x .nodes)) (x .n) (f .result) (f .ensures) .is-choice (sym (c .before .before .before .before .before .before .before .level .ensures) ∙ c .before .before .before .before .if3 .taken)))
+
+  put-tree-put-binary-requires : put-tree-lts.Need-put-binary-requires (put-tree-calls t) (put-tree-at t) put-tree.Post
+  put-tree-put-binary-requires c κs =
+      let x = c .before .before .before .before .before .before .before .before .args in
+      let f = c .before .before .before .before .before .fields-at in
+      let q = node-by-level (now (x .nodes)) (x .n) (f .result) (f .ensures) in
+      let l : 1 < codeLevel (f .result .code) = omega (arith, c .before .before .before .before .level .ensures, c .before .before .before .if1 .left, c .before .before .if2 .left) in
+      let h : codeLevel (f .result .code) < 7 = let m = level-most (treeOf (nodeAt (now (x .nodes))) (x .n)) in omega (arith, c .before .before .before .before .level .ensures, c .before .if3 .left, q .same) in
+      let e = q .is-binary l h in
+      (omega (arith, c .before .before .before .before .before .before .before .before .pre .0), (q .same ∙ sym (ap level e), near-as (c .before .before .before .before .before .before .before .before .pre .1) (sym (ap textOf e))))
 
   put-tree-returns-4 : put-tree-lts.Need-returns-4 (put-tree-calls t) (put-tree-at t) put-tree.Post
   put-tree-returns-4 c =
-      let x = c .before .before .before .before .before .before .before .before .before .before .args in
-      wrote-as (c .before .before .put-choice .ensures) (ap textOf (tree-read (now (x .nodes)) (x .n) (c .before .before .before .before .before .before .before .node-at .ensures) (c .before .before .before .before .before .node4 .given .1)))
-
-  put-tree-returns-5 : put-tree-lts.Need-returns-5 (put-tree-calls t) (put-tree-at t) put-tree.Post
-  put-tree-returns-5 c =
-      let x = c .before .before .before .before .before .before .before .before .before .before .args in
-      wrote-as (c .before .before .put-binary2 .ensures) (ap textOf (tree-read (now (x .nodes)) (x .n) (c .before .before .before .before .before .before .before .node-at .ensures) (c .before .before .before .before .before .node5 .given .1)))
-
-  put-tree-returns-6 : put-tree-lts.Need-returns-6 (put-tree-calls t) (put-tree-at t) put-tree.Post
-  put-tree-returns-6 c =
-      let x = c .before .before .before .before .before .before .before .before .before .before .args in
-      wrote-as (c .before .before .put-negation .ensures) (ap textOf (tree-read (now (x .nodes)) (x .n) (c .before .before .before .before .before .before .before .node-at .ensures) (c .before .before .before .before .before .node6 .given .1)))
-
-  put-tree-returns-7 : put-tree-lts.Need-returns-7 (put-tree-calls t) (put-tree-at t) put-tree.Post
-  put-tree-returns-7 c =
-      let x = c .before .before .before .before .before .before .before .before .before .before .args in
-      wrote-as (c .before .before .put-binary3 .ensures) (ap textOf (tree-read (now (x .nodes)) (x .n) (c .before .before .before .before .before .before .before .node-at .ensures) (c .before .before .before .before .before .node7 .given .1)))
-
-  put-tree-returns-8 : put-tree-lts.Need-returns-8 (put-tree-calls t) (put-tree-at t) put-tree.Post
-  put-tree-returns-8 c =
-      let x = c .before .before .before .before .before .before .before .before .before .before .args in
-      wrote-as (c .before .before .put-binary4 .ensures) (ap textOf (tree-read (now (x .nodes)) (x .n) (c .before .before .before .before .before .before .before .node-at .ensures) (c .before .before .before .before .before .node8 .given .1)))
-
-  put-tree-returns-9 : put-tree-lts.Need-returns-9 (put-tree-calls t) (put-tree-at t) put-tree.Post
-  put-tree-returns-9 c =
-      let x = c .before .before .before .before .before .before .before .before .before .before .args in
-      wrote-as (c .before .before .put-text .ensures) (zero-line ∙ ap textOf (tree-read (now (x .nodes)) (x .n) (c .before .before .before .before .before .before .before .node-at .ensures) (c .before .before .before .before .before .enum-told .given .1)))
+      let x = c .before .before .before .before .before .before .before .before .before .before .before .args in
+      let f = c .before .before .before .before .before .before .before .before .fields-at in
+      let q = node-by-level (now (x .nodes)) (x .n) (f .result) (f .ensures) in
+      let l : 1 < codeLevel (f .result .code) = omega (arith, c .before .before .before .before .before .before .before .level .ensures, c .before .before .before .before .before .before .if1 .left, c .before .before .before .before .before .if2 .left) in
+      let h : codeLevel (f .result .code) < 7 = let m = level-most (treeOf (nodeAt (now (x .nodes))) (x .n)) in omega (arith, c .before .before .before .before .before .before .before .level .ensures, c .before .before .before .before .if3 .left, q .same) in
+      wrote-as (c .before .before .put-binary .ensures) (ap textOf (q .is-binary l h))
 
 pub +put-binary+put-choice+put-negation+put-operand+put-tree-spec : {M : Type 1} → statement M
 +put-binary+put-choice+put-negation+put-operand+put-tree-spec =
@@ -398,53 +368,31 @@ pub +put-binary+put-choice+put-negation+put-operand+put-tree-spec : {M : Type 1}
     (λ c. search needs)
     (put-operand-returns t)
     (λ c κs. search needs)
-    (λ c κs. search needs)
-    (put-operand-put-tree-requires t)
+    (put-operand-put-leaf-requires t)
     (λ c. search needs)
     (put-operand-returns-2 t)
+    (put-operand-put-tree-requires t)
+    (λ c. search needs)
+    (put-operand-returns-3 t)
     (λ c. search needs)
     (λ c κs. search needs)
     (put-operand-put-tree-requires-2 t)
     (λ c. search needs)
     (put-operand-put-text-requires-3 t)
     (λ c. search needs)
-    (put-operand-returns-3 t))
+    (put-operand-returns-4 t))
     λ t. put-tree-lts.spec (put-tree-calls t) (put-tree-at t) put-tree.Post
     (λ c κs. search needs)
+    (λ c κs. search needs)
+    (put-tree-put-leaf-requires t)
     (λ c. search needs)
-    (put-tree-put-constant-requires t)
-    (λ c. search needs)
-    (put-tree-put-variable-requires t)
-    (λ c. search needs)
-    (put-tree-put-binary-requires t)
-    (λ c. search needs)
-    (put-tree-put-choice-requires t)
-    (λ c. search needs)
-    (put-tree-put-binary-requires-2 t)
     (λ c. search needs)
     (put-tree-put-negation-requires t)
     (λ c. search needs)
-    (put-tree-put-binary-requires-3 t)
-    (λ c. search needs)
-    (put-tree-put-binary-requires-4 t)
-    (λ c. search needs)
-    (λ c. search needs)
-    (λ c κs. search needs)
-    (λ c. search needs)
-    (put-tree-returns t)
-    (λ c. search needs)
     (put-tree-returns-2 t)
+    (put-tree-put-choice-requires t)
     (λ c. search needs)
     (put-tree-returns-3 t)
+    (put-tree-put-binary-requires t)
     (λ c. search needs)
     (put-tree-returns-4 t)
-    (λ c. search needs)
-    (put-tree-returns-5 t)
-    (λ c. search needs)
-    (put-tree-returns-6 t)
-    (λ c. search needs)
-    (put-tree-returns-7 t)
-    (λ c. search needs)
-    (put-tree-returns-8 t)
-    (λ c. search needs)
-    (put-tree-returns-9 t)

@@ -1,5 +1,5 @@
 -- `guard_lines::guard_read` meets its contract, by that of the reader. Assumes nothing.
-use mathlib.Core.Path.{_≡_, sym, ap, _∙_}
+use mathlib.Core.Path.{_≡_, ap, _∙_}
 use mir.Syntax.{w32}
 use mir.Val.{toZ, ofZ}
 use Rattle.model.specs.Calls.{numbered}

@@ -1,6 +1,5 @@
 -- `guard_lines::guard_write` meets its contract, by that of the writer; a line's length is told in 32 bits. Assumes nothing.
 use mathlib.Core.Path.{_≡_, sym, ap, _∙_}
-use Prim.Native.Nat.{_≤_}
 use native.Mathlib.Omega.{arith}
 use mir.Syntax.{w32}
 use mir.Val.{toZ, ofZ}
