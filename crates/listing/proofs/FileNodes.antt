@@ -6,7 +6,7 @@ use mathlib.Core.List.{List, map}
 use Prim.Native.Nat.{ℕ, _≤_, _<_}
 use native.Mathlib.Omega.{arith}
 use borrow.Author.Tests.{ltb-true, ltb-false}
-use lib.Dec.{T, leb, ltb, leb→le}
+use lib.Dec.{leb, ltb, leb→le}
 use lib.IntN.{pos}
 use lib.ListN.{length, List·getD-eq-default}
 use Rattle.prelude.specs.Lists.{all, gather, upto}
@@ -17,7 +17,7 @@ use Rattle.records.specs.Bytes.{byte}
 use Rattle.expressions.specs.Nodes.{Node, unknown, nodeOf, nodeAt}
 use Rattle.expressions.specs.Sorts.{sortOf, isNumber, isTruth, operandsFit, operandUses}
 use Rattle.model.specs.ChartSet.{readCharts}
-use Rattle.model.specs.ChartFile.{chartsRefusal, guardNodes, assignedNodes}
+use Rattle.model.specs.ChartFile.{guardNodes, assignedNodes}
 use Rattle.model.specs.AutomataTable.{readAutomata}
 use Rattle.model.specs.AutomataFile.{automataRefusal, tableTests, tableNodesFit}
 use Rattle.model.specs.Replay.{Replay}
