@@ -42,6 +42,10 @@ module _ {text : List ℕ} {at size : ℕ} {before after : List ℕ} {t : Tree} 
   pub tree-few : length text ≤ 256 → size ≤ at → p .size ≤ 256
   tree-few s e = let f : p .size + at ≤ p .next + size = h .few in let i : p .next ≤ length text = h .inside in omega arith
 
+  -- what is told of it goes into one number
+  pub tree-packs : length text ≤ 256 → size ≤ at → (0 < p .next) × (p .next ≤ 256) × (p .size ≤ 256)
+  tree-packs s e = let o : at < p .next = h .onward in let i : p .next ≤ length text = h .inside in (omega arith, omega arith, tree-few s e)
+
 one-record : (x : Node) → recordsOf (x ∷ []) ≡ nodeRecord x
 one-record x = gather-one nodeRecord x
 

@@ -10,7 +10,7 @@ use Rattle.records.specs.Refusal.{Out, _>>=_}
 use Rattle.guards.specs.Trees.{Tree, negation, binary, choice}
 use Rattle.guards.specs.Grammar.{Read, read, outside, operatorAt, past, choiceAt, binaryAt, goOn, operandAt}
 use Rattle.guard_reader.specs.Places.{Skipped, marked, MarkAt, SignIs}
-use Rattle.guard_reader.specs.Parts.{leafAt, HasTree, ReadTree, Reads, NegationIs, JoinIs, ChoiceIs, operandDepth, binaryDepth, choiceDepth}
+use Rattle.guard_reader.specs.Parts.{leafAt, HasTree, ReadTree, ReadsAs, parsedOf, Reads, NegationIs, JoinIs, ChoiceIs, operandDepth, binaryDepth, choiceDepth}
 use Rattle.guard_reader.specs.declared.lexemes.Sign.{Sign}
 use Rattle.guard_reader.specs.declared.trees.Part.{Part}
 use Rattle.guard_reader.specs.declared.rules.Parsed.{Parsed}
@@ -77,13 +77,16 @@ module _ {text : List ℕ} {at i : ℕ} (s : Skipped text at i) where
           has = negation-tree at (omega arith) (r .has) n;
         }
 
-  pub leaf-read : (size : ℕ) (before after : List ℕ) → (byte text i ≡ 40 → ⊥) → (byte text i ≡ 33 → ⊥) → (r : Parsed) → Reads text i size before after 0 (λ d. leafAt (drop i text)) r → Reads text at size before after (operandDepth (length text - at)) (λ d. operandAt d (drop at text)) r
-  leaf-read size before after n m (parsed.Tree p) r = record {
+  leaf-as : (size : ℕ) (before after : List ℕ) → (byte text i ≡ 40 → ⊥) → (byte text i ≡ 33 → ⊥) → (r : Parsed) → ReadsAs text i size before after 0 (λ d. leafAt (drop i text)) r → ReadsAs text at size before after (operandDepth (length text - at)) (λ d. operandAt d (drop at text)) r
+  leaf-as size before after n m (parsed.Tree p) r = record {
     tree = r .tree;
     same = deeper (λ d. operandAt d (drop at text) ≡ read (r .tree) (drop (p .next) text)) (3 * (length text - at)) (λ d h. operand-leaf d s n m ∙ r .same d (omega arith));
     has = has-from at (s .onward) (r .has);
   }
-  leaf-read size before after n m parsed.Outside r = deeper (λ d. operandAt d (drop at text) ≡ outside) (3 * (length text - at)) (λ d h. operand-leaf d s n m ∙ r d (omega arith))
+  leaf-as size before after n m parsed.Outside r = deeper (λ d. operandAt d (drop at text) ≡ outside) (3 * (length text - at)) (λ d h. operand-leaf d s n m ∙ r d (omega arith))
+
+  pub leaf-read : (size : ℕ) (before after : List ℕ) → (byte text i ≡ 40 → ⊥) → (byte text i ≡ 33 → ⊥) → (r : ℕ) → Reads text i size before after 0 (λ d. leafAt (drop i text)) r → Reads text at size before after (operandDepth (length text - at)) (λ d. operandAt d (drop at text)) r
+  leaf-read size before after n m r h = leaf-as size before after n m (parsedOf r) h
 
 -- ---- operators of levels up to k: the tree so far, and the rule that goes on behind it
 

@@ -1,10 +1,10 @@
 -- Of the code: nodes written one behind the other, and trees that were read. Assumes nothing: these are definitions.
 use mathlib.Core.Path.{_≡_}
-use mathlib.Core.Bool.{true, false, _&&_}
+use mathlib.Core.Bool.{Bool, true, false, cond, _&&_}
 use mathlib.Core.List.{List, [], _∷_, _++_}
-use Prim.Native.Nat.{ℕ, _+_, _*_, _-_, _≤_, _<_}
+use Prim.Native.Nat.{ℕ, _+_, _*_, _-_, _/_, _%_, _≤_, _<_}
 use Prim.Native.Char.{code}
-use lib.Dec.{leb}
+use lib.Dec.{leb, eqb}
 use lib.ListN.{length, drop}
 use lib.Seq.{sets}
 use Rattle.prelude.specs.Lists.{caseOf}
@@ -77,9 +77,19 @@ pub record ReadTree (text : List ℕ) (at size : ℕ) (before after : List ℕ) 
   pub same : (d : ℕ) → least ≤ d → rule d ≡ read tree (drop (p .next) text)
   pub has : HasTree text at size before after tree p
 
-abbrev pub Reads : List ℕ → ℕ → ℕ → List ℕ → List ℕ → ℕ → (ℕ → Out (Read Tree)) → Parsed → Type 0
-Reads text at size before after least rule (parsed.Tree p) = ReadTree text at size before after least rule p
-Reads text at size before after least rule parsed.Outside = (d : ℕ) → least ≤ d → rule d ≡ outside
+abbrev pub ReadsAs : List ℕ → ℕ → ℕ → List ℕ → List ℕ → ℕ → (ℕ → Out (Read Tree)) → Parsed → Type 0
+ReadsAs text at size before after least rule (parsed.Tree p) = ReadTree text at size before after least rule p
+ReadsAs text at size before after least rule parsed.Outside = (d : ℕ) → least ≤ d → rule d ≡ outside
+
+-- what a rule came to, from the one number that it answers
+abbrev pub flag : Bool → ℕ
+flag b = cond b 1 0
+
+unfoldable pub parsedOf : ℕ → Parsed
+parsedOf r = cond (eqb r 0) parsed.Outside (parsed.Tree (record { next = r % 512; size = r / 512 % 512; fits = eqb (r / 262144 % 2) 1; truth = eqb (r / 524288 % 2) 1 }))
+
+abbrev pub Reads : List ℕ → ℕ → ℕ → List ℕ → List ℕ → ℕ → (ℕ → Out (Read Tree)) → ℕ → Type 0
+Reads text at size before after least rule r = ReadsAs text at size before after least rule (parsedOf r)
 
 -- depths that are enough for a rule with so many bytes to go
 abbrev pub operandDepth : ℕ → ℕ

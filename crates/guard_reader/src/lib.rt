@@ -14,6 +14,7 @@ use lexemes::skip;
 use records::refusals::Refusal;
 use rules::Parsed;
 use rules::choice;
+use rules::unpacked;
 
 // "a line has 1 to 256 ASCII bytes", and no more nodes than bytes, of 16 bytes each.
 const LONGEST_LINE: usize = 256;
@@ -38,7 +39,7 @@ fn line(text: &[u8], nodes: &mut [u8]) -> Parsed
     if (n == 0) | (LONGEST_LINE < n) {
         return Parsed::Outside;
     }
-    let Parsed::Tree(t) = choice(text, 0, nodes, 0) else {
+    let Parsed::Tree(t) = unpacked(choice(text, 0, nodes, 0)) else {
         return Parsed::Outside;
     };
     if skip(text, t.next) < n {
