@@ -1,20 +1,20 @@
 -- Trees of nodes by the codes of their records. Assumes nothing.
 use mathlib.Core.Path.{_≡_, refl, sym, ap, _∙_, subst}
-use mathlib.Core.Bool.{Bool, true, false, cond}
+use mathlib.Core.Bool.{Bool, true, false, cond, _&&_, _||_}
 use mathlib.Core.List.{List, [], _∷_}
 use Prim.Native.Nat.{ℕ, _+_, _*_, _≤_, _<_}
 use native.Mathlib.Omega.{arith}
 use borrow.Author.Tests.{eqb-true, ne-eqb}
-use lib.Dec.{eqb}
+use lib.Dec.{ltb, leb, eqb}
 use lib.IntN.{ℤ, pos}
 use Rattle.prelude.specs.Lists.{caseOf}
 use Rattle.records.specs.Bytes.{byte, two, four±}
 use Rattle.expressions.specs.Nodes.{Node, nodeBy, nodeAt}
-use Rattle.expressions.specs.Uses.{operandNumbers}
+use Rattle.expressions.specs.Sorts.{a-number, a-truth, sortOf, isNumber, isTruth, sameSort, operands, variablesOf}
 use Rattle.expressions.specs.Coded.{HasFields, codedNode}
 use Rattle.expressions.specs.declared.nodes.Fields.{Fields}
 use Rattle.expressions.proofs.Codes.{Other, by-code}
-use Rattle.expressions.proofs.Fields.{coded-at}
+use Rattle.expressions.proofs.Fields.{coded-at, number-at, truth-at}
 use Rattle.guards.specs.Trees.{Tree, constant, variable, negation, binary, choice, binaryLevel, level}
 use Rattle.guards.specs.Texts.{sign}
 use Rattle.guards.specs.Lists.{treeBy, treeOf}
@@ -95,38 +95,56 @@ module _ (tree : ℕ → Tree) (a b c : ℕ) (z : ℤ) where
         is-binary = λ p q. absurd (omega (arith, other-level k o));
       })
 
--- the operands of a node by its level
-pub record Uses (a b c code : ℕ) (x : Node) : Type 0 where
-  pub one : codeLevel code ≡ 1 → operandNumbers x ≡ a ∷ []
-  pub two : 1 < codeLevel code → codeLevel code < 7 → operandNumbers x ≡ a ∷ b ∷ []
-  pub three : codeLevel code ≡ 7 → operandNumbers x ≡ a ∷ b ∷ c ∷ []
+-- what a code tells of a node's operands, of its variable and of its sort
+pub record Told (a b c code : ℕ) (x : Node) : Type 0 where
+  pub none : codeLevel code ≡ 0 → operands x ≡ []
+  pub one : codeLevel code ≡ 1 → operands x ≡ (a, a-truth) ∷ []
+  pub both : 1 < codeLevel code → codeLevel code < 7 → operands x ≡ (a, cond (ltb 19 code) a-truth a-number) ∷ (b, cond (ltb 19 code) a-truth a-number) ∷ []
+  pub three : codeLevel code ≡ 7 → operands x ≡ (a, a-truth) ∷ (b, a-number) ∷ (c, a-number) ∷ []
+  pub its-variable : code ≡ 2 → variablesOf x ≡ a ∷ []
+  pub no-variable : (code ≡ 2 → ⊥) → variablesOf x ≡ []
+  pub known : (codeLevel code ≡ 0 → (code ≡ 2 → ⊥) → code ≡ 1) → (isNumber (sortOf x) || isTruth (sortOf x)) ≡ true
 
 module _ (a b c : ℕ) (z : ℤ) where
-  no-uses : (k : ℕ) (x : Node) → codeLevel k ≡ 0 → Uses a b c k x
-  no-uses k x e = record { one = λ d. absurd (omega arith); two = λ p q. absurd (omega arith); three = λ d. absurd (omega arith) }
+  told-two : (k : ℕ) (x : Node) → 1 < codeLevel k → codeLevel k < 7 → (k ≡ 2 → ⊥) → operands x ≡ (a, cond (ltb 19 k) a-truth a-number) ∷ (b, cond (ltb 19 k) a-truth a-number) ∷ [] → variablesOf x ≡ [] →
+      (isNumber (sortOf x) || isTruth (sortOf x)) ≡ true → Told a b c k x
+  told-two k x l h n e v s = record {
+    none = λ d. absurd (omega arith);
+    one = λ d. absurd (omega arith);
+    both = λ p q. e;
+    three = λ d. absurd (omega arith);
+    its-variable = λ d. absurd (n d);
+    no-variable = λ d. v;
+    known = λ d. s;
+  }
 
-  uses-two : (k : ℕ) (x : Node) → 1 < codeLevel k → codeLevel k < 7 → operandNumbers x ≡ a ∷ b ∷ [] → Uses a b c k x
-  uses-two k x l h e = record { one = λ d. absurd (omega arith); two = λ p q. e; three = λ d. absurd (omega arith) }
-
-  uses-by : (code : ℕ) → Uses a b c code (nodeBy code a b c z)
+  told-by : (code : ℕ) → Told a b c code (nodeBy code a b c z)
   unfolding caseOf
-  uses-by =
-      by-code (Uses a b c) a b c z
-      (no-uses 1 _ refl)
-      (no-uses 2 _ refl)
-      (uses-two 3 _ (omega arith) (omega arith) refl)
-      (uses-two 4 _ (omega arith) (omega arith) refl)
-      (uses-two 5 _ (omega arith) (omega arith) refl)
-      (uses-two 6 _ (omega arith) (omega arith) refl)
-      (uses-two 7 _ (omega arith) (omega arith) refl)
-      (record { one = λ d. absurd (omega arith); two = λ p q. absurd (omega arith); three = λ d. refl })
-      (uses-two 16 _ (omega arith) (omega arith) refl)
-      (uses-two 17 _ (omega arith) (omega arith) refl)
-      (uses-two 18 _ (omega arith) (omega arith) refl)
-      (record { one = λ d. refl; two = λ p q. absurd (omega arith); three = λ d. absurd (omega arith) })
-      (uses-two 20 _ (omega arith) (omega arith) refl)
-      (uses-two 21 _ (omega arith) (omega arith) refl)
-      (λ k o. no-uses k _ (other-level k o))
+  told-by =
+      by-code (Told a b c) a b c z
+      (record { none = λ d. refl; one = λ d. absurd (omega arith); both = λ p q. absurd (omega arith); three = λ d. absurd (omega arith); its-variable = λ d. absurd (omega arith); no-variable = λ d. refl; known = λ d. refl })
+      (record { none = λ d. refl; one = λ d. absurd (omega arith); both = λ p q. absurd (omega arith); three = λ d. absurd (omega arith); its-variable = λ d. refl; no-variable = λ d. absurd (d refl); known = λ d. refl })
+      (told-two 3 _ (omega arith) (omega arith) (λ e. omega arith) refl refl refl)
+      (told-two 4 _ (omega arith) (omega arith) (λ e. omega arith) refl refl refl)
+      (told-two 5 _ (omega arith) (omega arith) (λ e. omega arith) refl refl refl)
+      (told-two 6 _ (omega arith) (omega arith) (λ e. omega arith) refl refl refl)
+      (told-two 7 _ (omega arith) (omega arith) (λ e. omega arith) refl refl refl)
+      (record { none = λ d. absurd (omega arith); one = λ d. absurd (omega arith); both = λ p q. absurd (omega arith); three = λ d. refl; its-variable = λ d. absurd (omega arith); no-variable = λ d. refl; known = λ d. refl })
+      (told-two 16 _ (omega arith) (omega arith) (λ e. omega arith) refl refl refl)
+      (told-two 17 _ (omega arith) (omega arith) (λ e. omega arith) refl refl refl)
+      (told-two 18 _ (omega arith) (omega arith) (λ e. omega arith) refl refl refl)
+      (record { none = λ d. absurd (omega arith); one = λ d. refl; both = λ p q. absurd (omega arith); three = λ d. absurd (omega arith); its-variable = λ d. absurd (omega arith); no-variable = λ d. refl; known = λ d. refl })
+      (told-two 20 _ (omega arith) (omega arith) (λ e. omega arith) refl refl refl)
+      (told-two 21 _ (omega arith) (omega arith) (λ e. omega arith) refl refl refl)
+      (λ k o. record {
+        none = λ d. refl;
+        one = λ d. absurd (omega (arith, other-level k o));
+        both = λ p q. absurd (omega (arith, other-level k o));
+        three = λ d. absurd (omega (arith, other-level k o));
+        its-variable = λ e. absurd (o .0 (omega arith) (omega arith));
+        no-variable = λ d. refl;
+        known = λ f. let e : k ≡ 1 = f (other-level k o) (λ d. o .0 (omega arith) (omega arith)) in absurd (o .0 (omega arith) (omega arith));
+      })
 
 -- node n, whose record has the fields f
 module _ (s : List ℕ) (n : ℕ) (f : Fields) (h : HasFields s n f) where
@@ -136,8 +154,8 @@ module _ (s : List ℕ) (n : ℕ) (f : Fields) (h : HasFields s n f) where
   pub node-by-level : ByLevel (operandTree (nodeAt s) n) (f .a) (f .b) (f .c) (four± s (16 * n + 8)) (f .code) (treeOf (nodeAt s) n)
   node-by-level = rw (← tree-coded) (by-level (operandTree (nodeAt s) n) (f .a) (f .b) (f .c) (four± s (16 * n + 8)) (f .code))
 
-  pub node-uses : Uses (f .a) (f .b) (f .c) (f .code) (nodeAt s n)
-  node-uses = rw (← coded-at s n f h) (uses-by (f .a) (f .b) (f .c) (four± s (16 * n + 8)) (f .code))
+  pub node-told : Told (f .a) (f .b) (f .c) (f .code) (nodeAt s n)
+  node-told = rw (← coded-at s n f h) (told-by (f .a) (f .b) (f .c) (four± s (16 * n + 8)) (f .code))
 
 -- by the bytes of its record
 abbrev pub fields : List ℕ → ℕ → Fields
@@ -145,6 +163,14 @@ fields s n = record { code = byte s (16 * n + 1); a = two s (16 * n + 2); b = tw
 
 pub record-by-level : (s : List ℕ) (n : ℕ) → ByLevel (operandTree (nodeAt s) n) (two s (16 * n + 2)) (two s (16 * n + 4)) (two s (16 * n + 6)) (four± s (16 * n + 8)) (byte s (16 * n + 1)) (treeOf (nodeAt s) n)
 record-by-level s n = node-by-level s n (fields s n) (record { code = refl; a = refl; b = refl; c = refl })
+
+pub record-told : (s : List ℕ) (n : ℕ) → Told (two s (16 * n + 2)) (two s (16 * n + 4)) (two s (16 * n + 6)) (byte s (16 * n + 1)) (nodeAt s n)
+record-told s n = node-told s n (fields s n) (record { code = refl; a = refl; b = refl; c = refl })
+
+-- the sort that is asked for, by the code
+pub sort-told : (s : List ℕ) (n : ℕ) (truth : Bool) → cond truth (leb 16 (byte s (16 * n + 1)) && leb (byte s (16 * n + 1)) 21) (leb 1 (byte s (16 * n + 1)) && leb (byte s (16 * n + 1)) 8) ≡ sameSort (cond truth a-truth a-number) (sortOf (nodeAt s n))
+sort-told s n true = truth-at s n
+sort-told s n false = number-at s n
 
 -- ---- signs
 

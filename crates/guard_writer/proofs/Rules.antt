@@ -32,7 +32,7 @@ module _ (node : ℕ → Node) where
   unfolding treeAt
   tree-rule n = λ i. treeBy (λ a. below-same (treeAt node n) (treeOf node) n a (λ l. deep n (suc a) a l (omega arith)) i) (node n)
 
-  lower-operand : (n a : ℕ) → a < n → treeOf node a ≡ operandTree node n a
+  pub lower-operand : (n a : ℕ) → a < n → treeOf node a ≡ operandTree node n a
   lower-operand n a h = sym (ap (λ t. cond t (treeOf node a) (constant (pos 0))) (lt-ltb a n h))
 
   pub no-operand : (n a : ℕ) → n ≤ a → constant (pos 0) ≡ operandTree node n a

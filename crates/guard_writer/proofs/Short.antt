@@ -115,7 +115,7 @@ module _ (f : ℕ → ℕ) where
 
 -- ---- one node
 
-placed-short : (k l : ℕ) (text : List ℕ) → length (placed k l text) ≤ 2 + length text
+pub placed-short : (k l : ℕ) (text : List ℕ) → length (placed k l text) ≤ 2 + length text
 placed-short k l text = go (leb l k)
   where
     go : (t : Bool) → length (cond t text (40 ∷ text ++ (41 ∷ []))) ≤ 2 + length text

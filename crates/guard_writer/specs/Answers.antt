@@ -23,11 +23,6 @@ pub record IsListed (nodes : List ℕ) (r : Listed) : Type 0 where
   pub answer : listedOf r ≡ listRefusal (nodeAt nodes) (length nodes / 16)
   pub root : (n : ℕ) → r ≡ listed.Tree n → n ≡ length nodes / 16 - 1
 
--- an accepted list, and its root
-pub record IsLine (nodes : List ℕ) (root : ℕ) : Type 0 where
-  pub accepted : none ≡ listRefusal (nodeAt nodes) (length nodes / 16)
-  pub last : root ≡ length nodes / 16 - 1
-
 abbrev pub answerOf : Written → Out ℕ
 answerOf (Line n) = val n
 answerOf (Refused w) = fault (refusalOf w)

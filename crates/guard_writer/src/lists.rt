@@ -62,7 +62,7 @@ fn all_due(uses: &[u8], size: u16) -> bool
 }
 
 // 8, by what `test_nodes` found of the nodes.
-fn one_tree(nodes: &[u8], size: u16, found: u8, uses: &[u8]) -> bool
+pub fn one_tree(nodes: &[u8], size: u16, found: u8, uses: &[u8]) -> bool
     requires { ⌜ (size ≤ mostNodes) × (found ≡ verdictOf (nodeAt (now nodes)) size mostVariables) × (now uses ≡ addUses (replicate mostNodes 0) (allOperands (nodeAt (now nodes)) size)) ⌝ }
     ensures { λ r. ⌜ r ≡ isOneTree (nodeAt (now (nodes .entry))) size ⌝ }
 {

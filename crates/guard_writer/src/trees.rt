@@ -2,17 +2,16 @@
 // written, so a text must end near enough for its place not to wrap. An operand is lower than its node, so the node's number bounds the calls.
 ghost use mathlib.Core.Path.{_≡_};
 ghost use mathlib.Core.List.{[], _∷_};
-ghost use Prim.Native.Nat.{_<_, _^_};
+ghost use Prim.Native.Nat.{_≤_, _<_, _^_};
 ghost use Rattle.records.specs.Wrote.{Wrote};
 ghost use Rattle.model.specs.Replay.{decimal};
 ghost use Rattle.expressions.specs.Nodes.{nodeAt};
 ghost use Rattle.guards.specs.Trees.{constant, variable, negation, binary, choice, binaryLevel, level as levelOf};
 ghost use Rattle.guards.specs.Texts.{sign, textOf, textIn};
 ghost use Rattle.guards.specs.Lists.{treeOf};
-ghost use Rattle.guard_writer.specs.Codes.{codeLevel, codeBinary};
+ghost use Rattle.guard_writer.specs.Codes.{codeBinary};
 ghost use Rattle.guard_writer.specs.Operands.{operandTree, Near};
 use super::operators::first_byte;
-use super::operators::level;
 use super::operators::level_at;
 use super::operators::second_byte;
 use expressions::nodes::fields_at;
@@ -105,10 +104,10 @@ fn put_operand(nodes: &[u8], n: u16, k: u8, a: u16, out: &mut [u8], at: usize) -
         return put_leaf(nodes, a, out, at);
     }
     if own <= k {
-        return put_tree(nodes, a, out, at);
+        return put_node(nodes, a, own, out, at);
     }
     let inside = put_text(out, at, b"(");
-    let behind = put_tree(nodes, a, out, inside);
+    let behind = put_node(nodes, a, own, out, inside);
     put_text(out, behind, b")")
 }
 
@@ -121,11 +120,19 @@ fn put_negation(nodes: &[u8], n: u16, a: u16, out: &mut [u8], at: usize) -> usiz
 }
 
 // Equal levels group to the left, so the right operand binds tighter than its operator.
-fn put_binary(nodes: &[u8], n: u16, code: u8, a: u16, b: u16, out: &mut [u8], at: usize) -> usize
-    requires { ⌜ (codeLevel code ≡ binaryLevel (codeBinary code)) × Near at (textOf (binary (codeBinary code) (operandTree (nodeAt (now nodes)) n a) (operandTree (nodeAt (now nodes)) n b))) ⌝ }
+fn put_binary(
+    nodes: &[u8],
+    n: u16,
+    code: u8,
+    k: u8,
+    a: u16,
+    b: u16,
+    out: &mut [u8],
+    at: usize,
+) -> usize
+    requires { ⌜ (k ≡ binaryLevel (codeBinary code)) × Near at (textOf (binary (codeBinary code) (operandTree (nodeAt (now nodes)) n a) (operandTree (nodeAt (now nodes)) n b))) ⌝ }
     ensures { λ r. ⌜ Wrote (now (out .entry)) at (textOf (binary (codeBinary code) (operandTree (nodeAt (now (nodes .entry))) n a) (operandTree (nodeAt (now (nodes .entry))) n b))) (now (out .exit)) r ⌝ }
 {
-    let k = level(code);
     let sign_at = put_operand(nodes, n, k, a, out, at);
     let right_at = put_sign(code, out, sign_at);
     put_operand(nodes, n, k - 1, b, out, right_at)
@@ -143,21 +150,28 @@ fn put_choice(nodes: &[u8], n: u16, t: u16, a: u16, b: u16, out: &mut [u8], at: 
     put_operand(nodes, n, 7, b, out, second_at)
 }
 
-// By the operator's level: 0 none, 1 a negation, 7 a choice, and between them two operands.
-pub fn put_tree(nodes: &[u8], n: u16, out: &mut [u8], at: usize) -> usize
-    requires { ⌜ Near at (textOf (treeOf (nodeAt (now nodes)) n)) ⌝ }
+// A node that has an operator, of level k: 1 a negation, 7 a choice, and between them two operands.
+fn put_node(nodes: &[u8], n: u16, k: u8, out: &mut [u8], at: usize) -> usize
+    requires { ⌜ (k ≡ levelOf (treeOf (nodeAt (now nodes)) n)) × (1 ≤ k) × Near at (textOf (treeOf (nodeAt (now nodes)) n)) ⌝ }
     ensures { λ r. ⌜ Wrote (now (out .entry)) at (textOf (treeOf (nodeAt (now (nodes .entry))) n)) (now (out .exit)) r ⌝ }
 {
     let f = fields_at(nodes, n);
-    let k = level(f.code);
-    if k == 0 {
-        return put_leaf(nodes, n, out, at);
-    }
     if k == 1 {
         return put_negation(nodes, n, f.a, out, at);
     }
     if k == 7 {
         return put_choice(nodes, n, f.a, f.b, f.c, out, at);
     }
-    put_binary(nodes, n, f.code, f.a, f.b, out, at)
+    put_binary(nodes, n, f.code, k, f.a, f.b, out, at)
+}
+
+pub fn put_tree(nodes: &[u8], n: u16, out: &mut [u8], at: usize) -> usize
+    requires { ⌜ Near at (textOf (treeOf (nodeAt (now nodes)) n)) ⌝ }
+    ensures { λ r. ⌜ Wrote (now (out .entry)) at (textOf (treeOf (nodeAt (now (nodes .entry))) n)) (now (out .exit)) r ⌝ }
+{
+    let k = level_at(nodes, n);
+    if k == 0 {
+        return put_leaf(nodes, n, out, at);
+    }
+    put_node(nodes, n, k, out, at)
 }

@@ -1,4 +1,4 @@
--- The proof of the cycle of calls of `trees::put_tree`. Each member's measure comes from its node: an operand's is below it, and a member that writes operands of
+-- The proof of the cycle of calls of `trees::put_node`. Each member's measure comes from its node: an operand's is below it, and a member that writes operands of
 -- node n stands between node n and its operands. Assumes nothing.
 use mathlib.Core.Path.{_≡_, sym, ap, _∙_}
 use mathlib.Core.List.{[], _∷_, _++_}
@@ -20,27 +20,26 @@ use Rattle.guard_writer.proofs.Rules.{no-operand, bare-operand, enclose
 use Rattle.guard_writer.proofs.Codes.{node-by-level}
 use Rattle.guard_writer.proofs.trees.put_binary.Reads as put-binary
 use Rattle.guard_writer.proofs.trees.put_binary.Kinds as put-binary-kinds
-use Rattle.guard_writer.proofs.trees.+put_binary+put_choice+put_negation+put_operand+put_tree.Lts-put_binary as put-binary-lts
+use Rattle.guard_writer.proofs.trees.+put_binary+put_choice+put_negation+put_node+put_operand.Lts-put_binary as put-binary-lts
 use Rattle.guard_writer.proofs.trees.put_choice.Reads as put-choice
 use Rattle.guard_writer.proofs.trees.put_choice.Kinds as put-choice-kinds
-use Rattle.guard_writer.proofs.trees.+put_binary+put_choice+put_negation+put_operand+put_tree.Lts-put_choice as put-choice-lts
+use Rattle.guard_writer.proofs.trees.+put_binary+put_choice+put_negation+put_node+put_operand.Lts-put_choice as put-choice-lts
 use Rattle.guard_writer.proofs.trees.put_negation.Reads as put-negation
 use Rattle.guard_writer.proofs.trees.put_negation.Kinds as put-negation-kinds
-use Rattle.guard_writer.proofs.trees.+put_binary+put_choice+put_negation+put_operand+put_tree.Lts-put_negation as put-negation-lts
+use Rattle.guard_writer.proofs.trees.+put_binary+put_choice+put_negation+put_node+put_operand.Lts-put_negation as put-negation-lts
 use Rattle.guard_writer.proofs.trees.put_operand.Reads as put-operand
 use Rattle.guard_writer.proofs.trees.put_operand.Kinds as put-operand-kinds
-use Rattle.guard_writer.proofs.trees.+put_binary+put_choice+put_negation+put_operand+put_tree.Lts-put_operand as put-operand-lts
-use Rattle.guard_writer.proofs.trees.put_tree.Reads as put-tree
-use Rattle.guard_writer.proofs.trees.put_tree.Kinds as put-tree-kinds
-use Rattle.guard_writer.proofs.trees.+put_binary+put_choice+put_negation+put_operand+put_tree.Lts-put_tree as put-tree-lts
+use Rattle.guard_writer.proofs.trees.+put_binary+put_choice+put_negation+put_node+put_operand.Lts-put_operand as put-operand-lts
+use Rattle.guard_writer.proofs.trees.put_node.Reads as put-node
+use Rattle.guard_writer.proofs.trees.put_node.Kinds as put-node-kinds
+use Rattle.guard_writer.proofs.trees.+put_binary+put_choice+put_negation+put_node+put_operand.Lts-put_node as put-node-lts
 use Rattle.expressions.proofs.nodes.fields_at.Reads as fields-at-reads
-use Rattle.guard_writer.proofs.operators.level.Reads as level-reads
 use Rattle.guard_writer.proofs.operators.level_at.Reads as level-at-reads
 use Rattle.guard_writer.proofs.trees.put_leaf.Reads as put-leaf-reads
 use Rattle.guard_writer.proofs.trees.put_sign.Reads as put-sign-reads
 use Rattle.lines.proofs.put_text.Reads as put-text-reads
-use Rattle.guard_writer.proofs.trees.+put_binary+put_choice+put_negation+put_operand+put_tree.{statement}
-use Rattle.guard_writer.proofs.trees.+put_binary+put_choice+put_negation+put_operand+put_tree.Tie.{close}
+use Rattle.guard_writer.proofs.trees.+put_binary+put_choice+put_negation+put_node+put_operand.{statement}
+use Rattle.guard_writer.proofs.trees.+put_binary+put_choice+put_negation+put_node+put_operand.Tie.{close}
 
 abbrev μ-put-binary : Measures 2 put-binary-kinds.ps ℕ
 μ-put-binary κs a = 3 * a .1 .0 + 1
@@ -54,8 +53,8 @@ abbrev μ-put-negation : Measures 2 put-negation-kinds.ps ℕ
 abbrev μ-put-operand : Measures 2 put-operand-kinds.ps ℕ
 μ-put-operand κs a = 3 * a .1 .0
 
-abbrev μ-put-tree : Measures 2 put-tree-kinds.ps ℕ
-μ-put-tree κs a = 3 * a .1 .0 + 2
+abbrev μ-put-node : Measures 2 put-node-kinds.ps ℕ
+μ-put-node κs a = 3 * a .1 .0 + 2
 
 -- what each is given at the measure t, and what a call of it asks below t
 abbrev put-binary-at : ℕ → In 2 put-binary-kinds.ps
@@ -82,15 +81,15 @@ put-operand-at t = and 2 put-operand-kinds.ps (is 2 put-operand-kinds.ps μ-put-
 abbrev put-operand-below : ℕ → In 2 put-operand-kinds.ps
 put-operand-below t = and 2 put-operand-kinds.ps (falls 2 put-operand-kinds.ps _<_ μ-put-operand t) put-operand.Pre
 
-abbrev put-tree-at : ℕ → In 2 put-tree-kinds.ps
-put-tree-at t = and 2 put-tree-kinds.ps (is 2 put-tree-kinds.ps μ-put-tree t) put-tree.Pre
+abbrev put-node-at : ℕ → In 2 put-node-kinds.ps
+put-node-at t = and 2 put-node-kinds.ps (is 2 put-node-kinds.ps μ-put-node t) put-node.Pre
 
-abbrev put-tree-below : ℕ → In 2 put-tree-kinds.ps
-put-tree-below t = and 2 put-tree-kinds.ps (falls 2 put-tree-kinds.ps _<_ μ-put-tree t) put-tree.Pre
+abbrev put-node-below : ℕ → In 2 put-node-kinds.ps
+put-node-below t = and 2 put-node-kinds.ps (falls 2 put-node-kinds.ps _<_ μ-put-node t) put-node.Pre
 
 -- what the calls of each ask and ensure
 abbrev put-binary-calls : ℕ → put-binary-lts.Claims
-put-binary-calls t = (level-reads.Asked, level-reads.Learnt, put-operand-below t, put-operand.Post, put-sign-reads.Asked, put-sign-reads.Learnt)
+put-binary-calls t = (put-operand-below t, put-operand.Post, put-sign-reads.Asked, put-sign-reads.Learnt)
 
 abbrev put-choice-calls : ℕ → put-choice-lts.Claims
 put-choice-calls t = (put-operand-below t, put-operand.Post, put-text-reads.Asked, put-text-reads.Learnt)
@@ -99,55 +98,55 @@ abbrev put-negation-calls : ℕ → put-negation-lts.Claims
 put-negation-calls t = (put-text-reads.Asked, put-text-reads.Learnt, put-operand-below t, put-operand.Post)
 
 abbrev put-operand-calls : ℕ → put-operand-lts.Claims
-put-operand-calls t = (put-text-reads.Asked, put-text-reads.Learnt, level-at-reads.Asked, level-at-reads.Learnt, put-leaf-reads.Asked, put-leaf-reads.Learnt, put-tree-below t, put-tree.Post)
+put-operand-calls t = (put-text-reads.Asked, put-text-reads.Learnt, level-at-reads.Asked, level-at-reads.Learnt, put-leaf-reads.Asked, put-leaf-reads.Learnt, put-node-below t, put-node.Post)
 
-abbrev put-tree-calls : ℕ → put-tree-lts.Claims
-put-tree-calls t = (fields-at-reads.Asked, fields-at-reads.Learnt, level-reads.Asked, level-reads.Learnt, put-leaf-reads.Asked, put-leaf-reads.Learnt, put-negation-below t, put-negation.Post, put-choice-below t, put-choice.Post, put-binary-below t, put-binary.Post)
+abbrev put-node-calls : ℕ → put-node-lts.Claims
+put-node-calls t = (fields-at-reads.Asked, fields-at-reads.Learnt, put-negation-below t, put-negation.Post, put-choice-below t, put-choice.Post, put-binary-below t, put-binary.Post)
 
 module _ (t : ℕ) where
   put-binary-put-operand-requires : put-binary-lts.Need-put-operand-requires (put-binary-calls t) (put-binary-at t) put-binary.Post
   unfolding textOf
   put-binary-put-operand-requires c κs =
-      let x = c .before .before .before .before .args in
-      let k = c .before .level .ensures ∙ c .before .before .before .before .pre .1 .0 in
+      let x = c .before .before .before .args in
+      let k = c .before .before .before .pre .1 .0 in
       let o = codeBinary (x .code) in
       let A = operandTree (nodeAt (now (x .nodes))) (x .n) (x .a) in
       let C = operandTree (nodeAt (now (x .nodes))) (x .n) (x .b) in
-      let n = near-left (textIn (binaryLevel o) A ++ sign o) (textIn (binaryLevel o - 1) C) (c .before .before .before .before .pre .1 .1) in
-      (omega (arith, c .before .before .before .before .pre .0), near-as (near-left (textIn (binaryLevel o) A) (sign o) n) (ap (λ j. textIn j A) (sym (k))))
+      let n = near-left (textIn (binaryLevel o) A ++ sign o) (textIn (binaryLevel o - 1) C) (c .before .before .before .pre .1 .1) in
+      (omega (arith, c .before .before .before .pre .0), near-as (near-left (textIn (binaryLevel o) A) (sign o) n) (ap (λ j. textIn j A) (sym (k))))
 
   put-binary-put-sign-requires : put-binary-lts.Need-put-sign-requires (put-binary-calls t) (put-binary-at t) put-binary.Post
   unfolding textOf
   put-binary-put-sign-requires c κs =
-      let x = c .before .before .before .before .before .before .before .before .args in
-      let k = c .before .before .before .before .before .level .ensures ∙ c .before .before .before .before .before .before .before .before .pre .1 .0 in
+      let x = c .before .before .before .before .before .before .before .args in
+      let k = c .before .before .before .before .before .before .before .pre .1 .0 in
       let o = codeBinary (x .code) in
       let A = operandTree (nodeAt (now (x .nodes))) (x .n) (x .a) in
       let C = operandTree (nodeAt (now (x .nodes))) (x .n) (x .b) in
-      let n = near-left (textIn (binaryLevel o) A ++ sign o) (textIn (binaryLevel o - 1) C) (c .before .before .before .before .before .before .before .before .pre .1 .1) in
+      let n = near-left (textIn (binaryLevel o) A ++ sign o) (textIn (binaryLevel o - 1) C) (c .before .before .before .before .before .before .before .pre .1 .1) in
       let w = wrote-as (c .before .before .before .put-operand .ensures) (ap (λ j. textIn j A) (k)) in
       near-then (sign o) n w
 
   put-binary-sub-put-operand : put-binary-lts.Need-sub-put-operand (put-binary-calls t) (put-binary-at t) put-binary.Post
-  put-binary-sub-put-operand c = omega (arith, c .before .before .before .before .before .before .before .before .level .ensures, c .before .before .before .before .before .before .before .before .before .before .before .pre .1 .0, levels (codeBinary (c .before .before .before .before .before .before .before .before .before .before .before .args .code)) .0)
+  put-binary-sub-put-operand c = omega (arith, c .before .before .before .before .before .before .before .before .before .before .pre .1 .0, levels (codeBinary (c .before .before .before .before .before .before .before .before .before .before .args .code)) .0)
 
   put-binary-put-operand-requires-2 : put-binary-lts.Need-put-operand-requires-2 (put-binary-calls t) (put-binary-at t) put-binary.Post
   unfolding textOf
   put-binary-put-operand-requires-2 c κs =
-      let x = c .before .before .before .before .before .before .before .before .before .before .before .before .args in
-      let k = c .before .before .before .before .before .before .before .before .before .level .ensures ∙ c .before .before .before .before .before .before .before .before .before .before .before .before .pre .1 .0 in
+      let x = c .before .before .before .before .before .before .before .before .before .before .before .args in
+      let k = c .before .before .before .before .before .before .before .before .before .before .before .pre .1 .0 in
       let o = codeBinary (x .code) in
       let A = operandTree (nodeAt (now (x .nodes))) (x .n) (x .a) in
       let C = operandTree (nodeAt (now (x .nodes))) (x .n) (x .b) in
-      let n = near-left (textIn (binaryLevel o) A ++ sign o) (textIn (binaryLevel o - 1) C) (c .before .before .before .before .before .before .before .before .before .before .before .before .pre .1 .1) in
+      let n = near-left (textIn (binaryLevel o) A ++ sign o) (textIn (binaryLevel o - 1) C) (c .before .before .before .before .before .before .before .before .before .before .before .pre .1 .1) in
       let w = wrote-as (c .before .before .before .before .before .before .before .put-operand .ensures) (ap (λ j. textIn j A) (k)) in
-      (omega (arith, c .before .before .before .before .before .before .before .before .before .before .before .before .pre .0), near-as (near-then (textIn (binaryLevel o - 1) C) (c .before .before .before .before .before .before .before .before .before .before .before .before .pre .1 .1) (wrote-then w (c .before .before .before .put-sign .ensures))) (ap (λ j. textIn (j - 1) C) (sym (k))))
+      (omega (arith, c .before .before .before .before .before .before .before .before .before .before .before .pre .0), near-as (near-then (textIn (binaryLevel o - 1) C) (c .before .before .before .before .before .before .before .before .before .before .before .pre .1 .1) (wrote-then w (c .before .before .before .put-sign .ensures))) (ap (λ j. textIn (j - 1) C) (sym (k))))
 
   put-binary-returns : put-binary-lts.Need-returns (put-binary-calls t) (put-binary-at t) put-binary.Post
   unfolding textOf
   put-binary-returns c =
-      let x = c .before .before .before .before .before .before .before .before .before .before .before .before .before .before .before .args in
-      let k = c .before .before .before .before .before .before .before .before .before .before .before .before .level .ensures ∙ c .before .before .before .before .before .before .before .before .before .before .before .before .before .before .before .pre .1 .0 in
+      let x = c .before .before .before .before .before .before .before .before .before .before .before .before .before .before .args in
+      let k = c .before .before .before .before .before .before .before .before .before .before .before .before .before .before .pre .1 .0 in
       let o = codeBinary (x .code) in
       let A = operandTree (nodeAt (now (x .nodes))) (x .n) (x .a) in
       let C = operandTree (nodeAt (now (x .nodes))) (x .n) (x .b) in
@@ -244,102 +243,103 @@ module _ (t : ℕ) where
       let l : level (treeOf (nodeAt s) (x .a)) ≡ 0 = sym (c .before .before .before .before .before .level-at .ensures) ∙ c .before .before .before .before .if2 .taken in
       wrote-as (c .before .before .put-leaf .ensures) (bare-operand (nodeAt s) (x .n) (x .k) (x .a) (c .before .before .before .before .before .before .if1 .left) (omega arith))
 
-  put-operand-put-tree-requires : put-operand-lts.Need-put-tree-requires (put-operand-calls t) (put-operand-at t) put-operand.Post
-  put-operand-put-tree-requires c κs =
+  put-operand-put-node-requires : put-operand-lts.Need-put-node-requires (put-operand-calls t) (put-operand-at t) put-operand.Post
+  put-operand-put-node-requires c κs =
       let x = c .before .before .before .before .before .before .before .args in
       let s = now (x .nodes) in
       let e = bare-operand (nodeAt s) (x .n) (x .k) (x .a) (c .before .before .before .before .if1 .left) (omega (arith, c .before .before .before .level-at .ensures, c .before .if3 .taken)) in
-      (omega (arith, c .before .before .before .before .before .before .before .pre .0, c .before .before .before .before .if1 .left), near-as (c .before .before .before .before .before .before .before .pre .1) (sym e))
+      (omega (arith, c .before .before .before .before .before .before .before .pre .0, c .before .before .before .before .if1 .left), (c .before .before .before .level-at .ensures, omega (arith, c .before .before .if2 .left), near-as (c .before .before .before .before .before .before .before .pre .1) (sym e)))
 
   put-operand-returns-3 : put-operand-lts.Need-returns-3 (put-operand-calls t) (put-operand-at t) put-operand.Post
   put-operand-returns-3 c =
       let x = c .before .before .before .before .before .before .before .before .before .before .args in
       let s = now (x .nodes) in
-      wrote-as (c .before .before .put-tree .ensures) (bare-operand (nodeAt s) (x .n) (x .k) (x .a) (c .before .before .before .before .before .before .before .if1 .left) (omega (arith, c .before .before .before .before .before .before .level-at .ensures, c .before .before .before .before .if3 .taken)))
+      wrote-as (c .before .before .put-node .ensures) (bare-operand (nodeAt s) (x .n) (x .k) (x .a) (c .before .before .before .before .before .before .before .if1 .left) (omega (arith, c .before .before .before .before .before .before .level-at .ensures, c .before .before .before .before .if3 .taken)))
 
-  put-operand-put-tree-requires-2 : put-operand-lts.Need-put-tree-requires-2 (put-operand-calls t) (put-operand-at t) put-operand.Post
-  put-operand-put-tree-requires-2 c κs =
+  put-operand-put-node-requires-2 : put-operand-lts.Need-put-node-requires-2 (put-operand-calls t) (put-operand-at t) put-operand.Post
+  put-operand-put-node-requires-2 c κs =
       let x = c .before .before .before .before .before .before .before .before .before .before .before .before .args in
       let s = now (x .nodes) in
       let text = textOf (treeOf (nodeAt s) (x .a)) in
       let e = enclosed-operand (nodeAt s) (x .n) (x .k) (x .a) (c .before .before .before .before .before .before .before .before .before .if1 .left) (omega (arith, c .before .before .before .before .before .before .before .before .level-at .ensures, c .before .before .before .before .before .before .if3 .left)) in
-      (omega (arith, c .before .before .before .before .before .before .before .before .before .before .before .before .pre .0, c .before .before .before .before .before .before .before .before .before .if1 .left), near-left text (41 ∷ []) (near-then (text ++ (41 ∷ [])) (near-as (c .before .before .before .before .before .before .before .before .before .before .before .before .pre .1) (sym e)) (c .before .before .before .put-text2 .ensures)))
+      (omega (arith, c .before .before .before .before .before .before .before .before .before .before .before .before .pre .0, c .before .before .before .before .before .before .before .before .before .if1 .left), (c .before .before .before .before .before .before .before .before .level-at .ensures, omega (arith, c .before .before .before .before .before .before .before .if2 .left), near-left text (41 ∷ []) (near-then (text ++ (41 ∷ [])) (near-as (c .before .before .before .before .before .before .before .before .before .before .before .before .pre .1) (sym e)) (c .before .before .before .put-text2 .ensures))))
 
   put-operand-put-text-requires-3 : put-operand-lts.Need-put-text-requires-3 (put-operand-calls t) (put-operand-at t) put-operand.Post
   put-operand-put-text-requires-3 c κs =
       let x = c .before .before .before .before .before .before .before .before .before .before .before .before .before .before .before .before .before .args in
       let s = now (x .nodes) in
       let e = enclosed-operand (nodeAt s) (x .n) (x .k) (x .a) (c .before .before .before .before .before .before .before .before .before .before .before .before .before .before .if1 .left) (omega (arith, c .before .before .before .before .before .before .before .before .before .before .before .before .before .level-at .ensures, c .before .before .before .before .before .before .before .before .before .before .before .if3 .left)) in
-      omega (arith, near-then (41 ∷ []) (near-as (c .before .before .before .before .before .before .before .before .before .before .before .before .before .before .before .before .before .pre .1) (sym e)) (wrote-then (c .before .before .before .before .before .before .before .before .put-text2 .ensures) (c .before .before .before .before .put-tree2 .ensures)) .near)
+      omega (arith, near-then (41 ∷ []) (near-as (c .before .before .before .before .before .before .before .before .before .before .before .before .before .before .before .before .before .pre .1) (sym e)) (wrote-then (c .before .before .before .before .before .before .before .before .put-text2 .ensures) (c .before .before .before .before .put-node2 .ensures)) .near)
 
   put-operand-returns-4 : put-operand-lts.Need-returns-4 (put-operand-calls t) (put-operand-at t) put-operand.Post
   put-operand-returns-4 c =
       let x = c .before .before .before .before .before .before .before .before .before .before .before .before .before .before .before .before .before .before .before .before .args in
       let s = now (x .nodes) in
       let e = enclosed-operand (nodeAt s) (x .n) (x .k) (x .a) (c .before .before .before .before .before .before .before .before .before .before .before .before .before .before .before .before .before .if1 .left) (omega (arith, c .before .before .before .before .before .before .before .before .before .before .before .before .before .before .before .before .level-at .ensures, c .before .before .before .before .before .before .before .before .before .before .before .before .before .before .if3 .left)) in
-      wrote-as (wrote-then (wrote-then (c .before .before .before .before .before .before .before .before .before .before .before .put-text2 .ensures) (c .before .before .before .before .before .before .before .put-tree2 .ensures)) (c .before .before .put-text3 .ensures)) e
+      wrote-as (wrote-then (wrote-then (c .before .before .before .before .before .before .before .before .before .before .before .put-text2 .ensures) (c .before .before .before .before .before .before .before .put-node2 .ensures)) (c .before .before .put-text3 .ensures)) e
 
-  put-tree-put-leaf-requires : put-tree-lts.Need-put-leaf-requires (put-tree-calls t) (put-tree-at t) put-tree.Post
-  put-tree-put-leaf-requires c κs =
+  put-node-put-negation-requires : put-node-lts.Need-put-negation-requires (put-node-calls t) (put-node-at t) put-node.Post
+  put-node-put-negation-requires c κs =
+      let x = c .before .before .before .before .before .args in
+      let p = c .before .before .before .before .before .pre in
+      let f = c .before .before .fields-at in
+      let q = node-by-level (now (x .nodes)) (x .n) (f .result) (f .ensures) in
+      (omega (arith, p .0), near-as (p .1 .2) (sym (ap textOf (q .is-negation (q .same ∙ sym (p .1 .0) ∙ c .before .if1 .taken)))))
+
+  put-node-returns : put-node-lts.Need-returns (put-node-calls t) (put-node-at t) put-node.Post
+  put-node-returns c =
+      let x = c .before .before .before .before .before .before .before .before .args in
+      let f = c .before .before .before .before .before .fields-at in
+      let q = node-by-level (now (x .nodes)) (x .n) (f .result) (f .ensures) in
+      wrote-as (c .before .before .put-negation .ensures) (ap textOf (q .is-negation (q .same ∙ sym (c .before .before .before .before .before .before .before .before .pre .1 .0) ∙ c .before .before .before .before .if1 .taken)))
+
+  put-node-put-choice-requires : put-node-lts.Need-put-choice-requires (put-node-calls t) (put-node-at t) put-node.Post
+  put-node-put-choice-requires c κs =
       let x = c .before .before .before .before .before .before .args in
+      let p = c .before .before .before .before .before .before .pre in
       let f = c .before .before .before .fields-at in
-      (sym (node-by-level (now (x .nodes)) (x .n) (f .result) (f .ensures) .same) ∙ sym (c .before .before .level .ensures) ∙ c .before .if1 .taken, c .before .before .before .before .before .before .pre .1)
-
-  put-tree-put-negation-requires : put-tree-lts.Need-put-negation-requires (put-tree-calls t) (put-tree-at t) put-tree.Post
-  put-tree-put-negation-requires c κs =
-      let x = c .before .before .before .before .before .before .before .args in
-      let f = c .before .before .before .before .fields-at in
-      let e = node-by-level (now (x .nodes)) (x .n) (f .result) (f .ensures) .is-negation (sym (c .before .before .before .level .ensures) ∙ c .before .if2 .taken) in
-      (omega (arith, c .before .before .before .before .before .before .before .pre .0), near-as (c .before .before .before .before .before .before .before .pre .1) (sym (ap textOf e)))
-
-  put-tree-returns-2 : put-tree-lts.Need-returns-2 (put-tree-calls t) (put-tree-at t) put-tree.Post
-  put-tree-returns-2 c =
-      let x = c .before .before .before .before .before .before .before .before .before .before .args in
-      let f = c .before .before .before .before .before .before .before .fields-at in
-      wrote-as (c .before .before .put-negation .ensures) (ap textOf (node-by-level (now (x .nodes)) (x .n) (f .result) (f .ensures) .is-negation (sym (c .before .before .before .before .before .before .level .ensures) ∙ c .before .before .before .before .if2 .taken)))
-
-  put-tree-put-choice-requires : put-tree-lts.Need-put-choice-requires (put-tree-calls t) (put-tree-at t) put-tree.Post
-  put-tree-put-choice-requires c κs =
-      let x = c .before .before .before .before .before .before .before .before .args in
-      let f = c .before .before .before .before .before .fields-at in
-      let e = node-by-level (now (x .nodes)) (x .n) (f .result) (f .ensures) .is-choice (sym (c .before .before .before .before .level .ensures) ∙ c .before .if3 .taken) in
-      (omega (arith, c .before .before .before .before .before .before .before .before .pre .0), near-as (c .before .before .before .before .before .before .before .before .pre .1) (sym (ap textOf e)))
-
-  put-tree-returns-3 : put-tree-lts.Need-returns-3 (put-tree-calls t) (put-tree-at t) put-tree.Post
-  put-tree-returns-3 c =
-      let x = c .before .before .before .before .before .before .before .before .before .before .before .args in
-      let f = c .before .before .before .before .before .before .before .before .fields-at in
-      wrote-as (c .before .before .put-choice .ensures) (ap textOf (node-by-level (now (x .nodes)) (x .n) (f .result) (f .ensures) .is-choice (sym (c .before .before .before .before .before .before .before .level .ensures) ∙ c .before .before .before .before .if3 .taken)))
-
-  put-tree-put-binary-requires : put-tree-lts.Need-put-binary-requires (put-tree-calls t) (put-tree-at t) put-tree.Post
-  put-tree-put-binary-requires c κs =
-      let x = c .before .before .before .before .before .before .before .before .args in
-      let f = c .before .before .before .before .before .fields-at in
       let q = node-by-level (now (x .nodes)) (x .n) (f .result) (f .ensures) in
-      let l : 1 < codeLevel (f .result .code) = omega (arith, c .before .before .before .before .level .ensures, c .before .before .before .if1 .left, c .before .before .if2 .left) in
-      let h : codeLevel (f .result .code) < 7 = let m = level-most (treeOf (nodeAt (now (x .nodes))) (x .n)) in omega (arith, c .before .before .before .before .level .ensures, c .before .if3 .left, q .same) in
+      (omega (arith, p .0), near-as (p .1 .2) (sym (ap textOf (q .is-choice (q .same ∙ sym (p .1 .0) ∙ c .before .if2 .taken)))))
+
+  put-node-returns-2 : put-node-lts.Need-returns-2 (put-node-calls t) (put-node-at t) put-node.Post
+  put-node-returns-2 c =
+      let x = c .before .before .before .before .before .before .before .before .before .args in
+      let f = c .before .before .before .before .before .before .fields-at in
+      let q = node-by-level (now (x .nodes)) (x .n) (f .result) (f .ensures) in
+      wrote-as (c .before .before .put-choice .ensures) (ap textOf (q .is-choice (q .same ∙ sym (c .before .before .before .before .before .before .before .before .before .pre .1 .0) ∙ c .before .before .before .before .if2 .taken)))
+
+  put-node-put-binary-requires : put-node-lts.Need-put-binary-requires (put-node-calls t) (put-node-at t) put-node.Post
+  put-node-put-binary-requires c κs =
+      let x = c .before .before .before .before .before .before .args in
+      let p = c .before .before .before .before .before .before .pre in
+      let f = c .before .before .before .fields-at in
+      let q = node-by-level (now (x .nodes)) (x .n) (f .result) (f .ensures) in
+      let m = level-most (treeOf (nodeAt (now (x .nodes))) (x .n)) in
+      let l : 1 < codeLevel (f .result .code) = omega (arith, p .1 .0, p .1 .1, c .before .before .if1 .left, q .same) in
+      let h : codeLevel (f .result .code) < 7 = omega (arith, p .1 .0, c .before .if2 .left, q .same) in
       let e = q .is-binary l h in
-      (omega (arith, c .before .before .before .before .before .before .before .before .pre .0), (q .same ∙ sym (ap level e), near-as (c .before .before .before .before .before .before .before .before .pre .1) (sym (ap textOf e))))
+      (omega (arith, p .0), (p .1 .0 ∙ sym (ap level e), near-as (p .1 .2) (sym (ap textOf e))))
 
-  put-tree-returns-4 : put-tree-lts.Need-returns-4 (put-tree-calls t) (put-tree-at t) put-tree.Post
-  put-tree-returns-4 c =
-      let x = c .before .before .before .before .before .before .before .before .before .before .before .args in
-      let f = c .before .before .before .before .before .before .before .before .fields-at in
+  put-node-returns-3 : put-node-lts.Need-returns-3 (put-node-calls t) (put-node-at t) put-node.Post
+  put-node-returns-3 c =
+      let x = c .before .before .before .before .before .before .before .before .before .args in
+      let p = c .before .before .before .before .before .before .before .before .before .pre in
+      let f = c .before .before .before .before .before .before .fields-at in
       let q = node-by-level (now (x .nodes)) (x .n) (f .result) (f .ensures) in
-      let l : 1 < codeLevel (f .result .code) = omega (arith, c .before .before .before .before .before .before .before .level .ensures, c .before .before .before .before .before .before .if1 .left, c .before .before .before .before .before .if2 .left) in
-      let h : codeLevel (f .result .code) < 7 = let m = level-most (treeOf (nodeAt (now (x .nodes))) (x .n)) in omega (arith, c .before .before .before .before .before .before .before .level .ensures, c .before .before .before .before .if3 .left, q .same) in
+      let m = level-most (treeOf (nodeAt (now (x .nodes))) (x .n)) in
+      let l : 1 < codeLevel (f .result .code) = omega (arith, p .1 .0, p .1 .1, c .before .before .before .before .before .if1 .left, q .same) in
+      let h : codeLevel (f .result .code) < 7 = omega (arith, p .1 .0, c .before .before .before .before .if2 .left, q .same) in
       wrote-as (c .before .before .put-binary .ensures) (ap textOf (q .is-binary l h))
 
-pub +put-binary+put-choice+put-negation+put-operand+put-tree-spec : {M : Type 1} → statement M
-+put-binary+put-choice+put-negation+put-operand+put-tree-spec =
+pub +put-binary+put-choice+put-negation+put-node+put-operand-spec : {M : Type 1} → statement M
++put-binary+put-choice+put-negation+put-node+put-operand-spec =
     close
     μ-put-binary
     μ-put-choice
     μ-put-negation
+    μ-put-node
     μ-put-operand
-    μ-put-tree
     (λ t. put-binary-lts.spec (put-binary-calls t) (put-binary-at t) put-binary.Post
-    (λ c κs. search needs)
     (put-binary-put-operand-requires t)
     (put-binary-put-sign-requires t)
     (put-binary-sub-put-operand t)
@@ -362,7 +362,18 @@ pub +put-binary+put-choice+put-negation+put-operand+put-tree-spec : {M : Type 1}
     (put-negation-put-operand-requires t)
     (λ c. search needs)
     (put-negation-returns t))
-    (λ t. put-operand-lts.spec (put-operand-calls t) (put-operand-at t) put-operand.Post
+    (λ t. put-node-lts.spec (put-node-calls t) (put-node-at t) put-node.Post
+    (λ c κs. search needs)
+    (put-node-put-negation-requires t)
+    (λ c. search needs)
+    (put-node-returns t)
+    (put-node-put-choice-requires t)
+    (λ c. search needs)
+    (put-node-returns-2 t)
+    (put-node-put-binary-requires t)
+    (λ c. search needs)
+    (put-node-returns-3 t))
+    λ t. put-operand-lts.spec (put-operand-calls t) (put-operand-at t) put-operand.Post
     (λ c. search needs)
     (λ c κs. search needs)
     (λ c. search needs)
@@ -371,28 +382,13 @@ pub +put-binary+put-choice+put-negation+put-operand+put-tree-spec : {M : Type 1}
     (put-operand-put-leaf-requires t)
     (λ c. search needs)
     (put-operand-returns-2 t)
-    (put-operand-put-tree-requires t)
+    (put-operand-put-node-requires t)
     (λ c. search needs)
     (put-operand-returns-3 t)
     (λ c. search needs)
     (λ c κs. search needs)
-    (put-operand-put-tree-requires-2 t)
+    (put-operand-put-node-requires-2 t)
     (λ c. search needs)
     (put-operand-put-text-requires-3 t)
     (λ c. search needs)
-    (put-operand-returns-4 t))
-    λ t. put-tree-lts.spec (put-tree-calls t) (put-tree-at t) put-tree.Post
-    (λ c κs. search needs)
-    (λ c κs. search needs)
-    (put-tree-put-leaf-requires t)
-    (λ c. search needs)
-    (λ c. search needs)
-    (put-tree-put-negation-requires t)
-    (λ c. search needs)
-    (put-tree-returns-2 t)
-    (put-tree-put-choice-requires t)
-    (λ c. search needs)
-    (put-tree-returns-3 t)
-    (put-tree-put-binary-requires t)
-    (λ c. search needs)
-    (put-tree-returns-4 t)
+    (put-operand-returns-4 t)
