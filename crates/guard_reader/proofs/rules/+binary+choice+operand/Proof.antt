@@ -1,18 +1,18 @@
 -- The proof of the cycle of calls of `rules::operand`, `rules::binary` and `rules::choice`: each goes on from a place behind the one before it, or goes down a rule
 -- at its own. Assumes nothing.
-use mathlib.Core.Path.{_≡_, refl, sym, ap, _∙_}
+use mathlib.Core.Path.{_≡_, sym, _∙_}
 use mathlib.Core.List.{List}
 use Prim.Native.Nat.{ℕ, _+_, _-_, _*_, _≤_, _<_}
 use native.Mathlib.Omega.{arith}
 use borrow.Author.Needs.{needs}
-use lib.ListN.{length, drop}
+use lib.ListN.{length}
 use Rattle.records.specs.Bytes.{byte}
 use Rattle.guards.specs.Trees.{binaryLevel}
 use Rattle.guards.proofs.Steps.{binaryLevel-within}
 use Rattle.guard_reader.proofs.FromPlace.{byte-inside}
 use Rattle.guard_reader.proofs.PartTrees.{tree-length, tree-positive, tree-few, tree-packs}
 use Rattle.guard_reader.proofs.PackedParts.{parsedOf-zero}
-use Rattle.guard_reader.proofs.GrammarSteps.{SignAt, sign-found}
+use Rattle.guard_reader.proofs.GrammarSteps.{sign-found}
 use Rattle.guard_reader.proofs.Readings.{Reading, enclosed-outside, enclosed-open, enclosed-read, negated-outside, negated-read, leaf-read, first-outside, first-read, level-ends, right-outside, right-read, bare-outside, bare-read, second-outside, colon-missing, third-outside, third-read}
 use borrow.Fn.Kinds.{In}
 use borrow.Fn.PlainCycle.{Measures, is, falls, and}

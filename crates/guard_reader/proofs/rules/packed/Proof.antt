@@ -1,5 +1,5 @@
 -- `rules::packed` meets its contract: next below 512, size below 512, and a bit for each answer. Assumes nothing.
-use mathlib.Core.Path.{_≡_, _∙_}
+use mathlib.Core.Path.{_∙_}
 use Prim.Native.Nat.{_+_, _*_}
 use native.Mathlib.Omega.{arith}
 use borrow.Author.Needs.{needs}
