@@ -84,7 +84,7 @@ fn operand(text: &[u8], at: usize, nodes: &mut [u8], size: u32) -> u32
     let i = skip(text, at);
     let b = byte_at(text, i);
     if b == 40 {
-        let Parsed::Tree(t) = unpacked(choice(text, i + 1, nodes, size)) else {
+        let Parsed::Tree(t) = unpacked(choice(&*text, i + 1, nodes, size)) else {
             return 0;
         };
         let Place::At(next) = past(text, t.next, 41) else {
@@ -98,12 +98,12 @@ fn operand(text: &[u8], at: usize, nodes: &mut [u8], size: u32) -> u32
         });
     }
     if b == 33 {
-        let Parsed::Tree(t) = unpacked(operand(text, i + 1, nodes, size)) else {
+        let Parsed::Tree(t) = unpacked(operand(&*text, i + 1, nodes, size)) else {
             return 0;
         };
         return packed(negated(nodes, t));
     }
-    leaf(text, i, nodes, size)
+    leaf(&*text, i, nodes, size)
 }
 
 // Operators of levels up to k with their operands.
@@ -111,7 +111,7 @@ fn binary(text: &[u8], at: usize, k: u8, nodes: &mut [u8], size: u32) -> u32
     requires { ⌜ Placed (now text) at size × (k ≤ 7) ⌝ }
     ensures { λ r. ⌜ Reads (now (text .entry)) at size (now (nodes .entry)) (now (nodes .exit)) (binaryDepth (length (now (text .entry)) - at)) (λ d. binaryAt d k (drop at (now (text .entry)))) r ⌝ }
 {
-    let Parsed::Tree(first) = unpacked(operand(text, at, nodes, size)) else {
+    let Parsed::Tree(first) = unpacked(operand(&*text, at, nodes, size)) else {
         return 0;
     };
     let mut left = first;
@@ -121,7 +121,7 @@ fn binary(text: &[u8], at: usize, k: u8, nodes: &mut [u8], size: u32) -> u32
         if k < s.level {
             return packed(left);
         }
-        let Parsed::Tree(right) = unpacked(binary(text, s.next, s.level - 1, nodes, left.size))
+        let Parsed::Tree(right) = unpacked(binary(&*text, s.next, s.level - 1, nodes, left.size))
         else {
             return 0;
         };
@@ -133,19 +133,19 @@ pub fn choice(text: &[u8], at: usize, nodes: &mut [u8], size: u32) -> u32
     requires { ⌜ Placed (now text) at size ⌝ }
     ensures { λ r. ⌜ Reads (now (text .entry)) at size (now (nodes .entry)) (now (nodes .exit)) (choiceDepth (length (now (text .entry)) - at)) (λ d. choiceAt d (drop at (now (text .entry)))) r ⌝ }
 {
-    let Parsed::Tree(t) = unpacked(binary(text, at, 6, nodes, size)) else {
+    let Parsed::Tree(t) = unpacked(binary(&*text, at, 6, nodes, size)) else {
         return 0;
     };
     let Place::At(i) = past(text, t.next, 63) else {
         return packed(t);
     };
-    let Parsed::Tree(a) = unpacked(choice(text, i, nodes, t.size)) else {
+    let Parsed::Tree(a) = unpacked(choice(&*text, i, nodes, t.size)) else {
         return 0;
     };
     let Place::At(j) = past(text, a.next, 58) else {
         return 0;
     };
-    let Parsed::Tree(b) = unpacked(choice(text, j, nodes, a.size)) else {
+    let Parsed::Tree(b) = unpacked(choice(&*text, j, nodes, a.size)) else {
         return 0;
     };
     packed(chosen(nodes, t, a, b))
