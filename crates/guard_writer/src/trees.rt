@@ -101,13 +101,13 @@ fn put_operand(nodes: &[u8], n: u16, k: u8, a: u16, out: &mut [u8], at: usize) -
     }
     let own = level_at(nodes, a);
     if own == 0 {
-        return put_leaf(nodes, a, out, at);
+        return put_leaf(&*nodes, a, out, at);
     }
     if own <= k {
-        return put_node(nodes, a, own, out, at);
+        return put_node(&*nodes, a, own, out, at);
     }
     let inside = put_text(out, at, b"(");
-    let behind = put_node(nodes, a, own, out, inside);
+    let behind = put_node(&*nodes, a, own, out, inside);
     put_text(out, behind, b")")
 }
 
