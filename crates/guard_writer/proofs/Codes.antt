@@ -16,11 +16,11 @@ use Rattle.expressions.specs.declared.nodes.Fields.{Fields}
 use Rattle.expressions.proofs.Codes.{Other, by-code}
 use Rattle.expressions.proofs.Fields.{coded-at, number-at, truth-at}
 use Rattle.guards.specs.Trees.{Tree, constant, variable, negation, binary, choice, binaryLevel, level}
-use Rattle.guards.specs.Texts.{sign}
+use Rattle.guards.specs.Texts.{sign, textOf, textIn}
 use Rattle.guards.specs.Lists.{treeBy, treeOf}
 use Rattle.guard_writer.specs.Codes.{codeLevel, codeBinary, firstByte, secondByte, signBytes}
 use Rattle.guard_writer.specs.Operands.{operandTree}
-use Rattle.guard_writer.proofs.Rules.{tree-rule}
+use Rattle.guard_writer.proofs.Rules.{tree-rule, bare-operand}
 
 -- a code that no entry has is of no level
 other-level : (k : ℕ) → Other k → codeLevel k ≡ 0
@@ -171,6 +171,13 @@ record-told s n = node-told s n (fields s n) (record { code = refl; a = refl; b 
 pub sort-told : (s : List ℕ) (n : ℕ) (truth : Bool) → cond truth (leb 16 (byte s (16 * n + 1)) && leb (byte s (16 * n + 1)) 21) (leb 1 (byte s (16 * n + 1)) && leb (byte s (16 * n + 1)) 8) ≡ sameSort (cond truth a-truth a-number) (sortOf (nodeAt s n))
 sort-told s n true = truth-at s n
 sort-told s n false = number-at s n
+
+-- the text of an operand that is a negation, where a negation takes it
+pub negated-operand : (s : List ℕ) (n a : ℕ) → a < n → byte s (16 * a + 1) ≡ 19 → textOf (negation (operandTree (nodeAt s) a (two s (16 * a + 2)))) ≡ textIn 1 (operandTree (nodeAt s) n a)
+unfolding caseOf
+negated-operand s n a h e =
+    let t = record-by-level s a .is-negation (ap codeLevel e) in
+    ap textOf t ∙ bare-operand (nodeAt s) n 1 a h (omega (arith, ap level t))
 
 -- ---- signs
 

@@ -1,8 +1,10 @@
 // The text of a tree, written into a lent buffer from a place on; each function answers the place behind what it wrote. Bytes past the end are counted and not
 // written, so a text must end near enough for its place not to wrap. An operand is lower than its node, so the node's number bounds the calls.
 ghost use mathlib.Core.Path.{_≡_};
+ghost use mathlib.Core.Bool.{true};
 ghost use mathlib.Core.List.{[], _∷_};
-ghost use Prim.Native.Nat.{_≤_, _<_, _^_};
+ghost use Prim.Native.Nat.{_+_, _*_, _≤_, _<_, _^_};
+ghost use Rattle.records.specs.Bytes.{byte};
 ghost use Rattle.records.specs.Wrote.{Wrote};
 ghost use Rattle.model.specs.Replay.{decimal};
 ghost use Rattle.expressions.specs.Nodes.{nodeAt};
@@ -91,7 +93,7 @@ fn put_leaf(nodes: &[u8], n: u16, out: &mut [u8], at: usize) -> usize
     put_text(out, at, b"0")
 }
 
-// Operand a of node n, in a place that takes levels up to k; one that is not lower is 0. A leaf is written without a call more.
+// Operand a of node n, in a place that takes levels up to k; one that is not lower is 0. `nodes` is lent anew to each call, which keeps it in registers.
 fn put_operand(nodes: &[u8], n: u16, k: u8, a: u16, out: &mut [u8], at: usize) -> usize
     requires { ⌜ Near at (textIn k (operandTree (nodeAt (now nodes)) n a)) ⌝ }
     ensures { λ r. ⌜ Wrote (now (out .entry)) at (textIn k (operandTree (nodeAt (now (nodes .entry))) n a)) (now (out .exit)) r ⌝ }
@@ -101,21 +103,35 @@ fn put_operand(nodes: &[u8], n: u16, k: u8, a: u16, out: &mut [u8], at: usize) -
     }
     let own = level_at(nodes, a);
     if own == 0 {
-        return put_leaf(nodes, a, out, at);
+        return put_leaf(&*nodes, a, out, at);
     }
     if own <= k {
-        return put_node(nodes, a, own, out, at);
+        return put_node(&*nodes, a, own, out, at);
     }
     let inside = put_text(out, at, b"(");
-    let behind = put_node(nodes, a, own, out, inside);
+    let behind = put_node(&*nodes, a, own, out, inside);
     put_text(out, behind, b")")
 }
 
+// Whether operand a of node n is lower, and a negation.
+fn is_negation(nodes: &[u8], n: u16, a: u16) -> bool
+    ensures { λ r. ⌜ (r ≡ true → (a < n) × (byte (now (nodes .entry)) (16 * a + 1) ≡ 19)) ⌝ }
+{
+    if n <= a {
+        return false;
+    }
+    byte_at(nodes, 16 * (a as usize) + 1) == 19
+}
+
+// Negations alone nest in as many levels as there are nodes, so that one of another takes no frames of `put_node` and `put_operand`.
 fn put_negation(nodes: &[u8], n: u16, a: u16, out: &mut [u8], at: usize) -> usize
     requires { ⌜ Near at (textOf (negation (operandTree (nodeAt (now nodes)) n a))) ⌝ }
     ensures { λ r. ⌜ Wrote (now (out .entry)) at (textOf (negation (operandTree (nodeAt (now (nodes .entry))) n a))) (now (out .exit)) r ⌝ }
 {
     let next = put_text(out, at, b"!");
+    if is_negation(nodes, n, a) {
+        return put_negation(nodes, a, u16_at(nodes, 16 * (a as usize) + 2), out, next);
+    }
     put_operand(nodes, n, 1, a, out, next)
 }
 
@@ -157,7 +173,7 @@ fn put_node(nodes: &[u8], n: u16, k: u8, out: &mut [u8], at: usize) -> usize
 {
     let f = fields_at(nodes, n);
     if k == 1 {
-        return put_negation(nodes, n, f.a, out, at);
+        return put_negation(&*nodes, n, f.a, out, at);
     }
     if k == 7 {
         return put_choice(nodes, n, f.a, f.b, f.c, out, at);

@@ -10,14 +10,14 @@ use borrow.Fn.PlainCycle.{Measures, is, falls, and}
 use denote.Ref.{now}
 use Rattle.records.proofs.Wrote.{wrote-then}
 use Rattle.expressions.specs.Nodes.{nodeAt}
-use Rattle.guards.specs.Trees.{binaryLevel, level}
+use Rattle.guards.specs.Trees.{negation, binaryLevel, level}
 use Rattle.guards.specs.Texts.{sign, textOf, textIn}
 use Rattle.guards.specs.Lists.{treeOf}
 use Rattle.guard_writer.specs.Codes.{codeLevel, codeBinary}
 use Rattle.guard_writer.specs.Operands.{operandTree}
 use Rattle.guard_writer.proofs.Texts.{near-left, near-then, near-as, wrote-as, levels, level-most, anywhere, zero-text}
 use Rattle.guard_writer.proofs.Rules.{no-operand, bare-operand, enclosed-operand}
-use Rattle.guard_writer.proofs.Codes.{node-by-level}
+use Rattle.guard_writer.proofs.Codes.{node-by-level, negated-operand}
 use Rattle.guard_writer.proofs.trees.put_binary.Reads as put-binary
 use Rattle.guard_writer.proofs.trees.put_binary.Kinds as put-binary-kinds
 use Rattle.guard_writer.proofs.trees.+put_binary+put_choice+put_negation+put_node+put_operand.Lts-put_binary as put-binary-lts
@@ -35,9 +35,11 @@ use Rattle.guard_writer.proofs.trees.put_node.Kinds as put-node-kinds
 use Rattle.guard_writer.proofs.trees.+put_binary+put_choice+put_negation+put_node+put_operand.Lts-put_node as put-node-lts
 use Rattle.expressions.proofs.nodes.fields_at.Reads as fields-at-reads
 use Rattle.guard_writer.proofs.operators.level_at.Reads as level-at-reads
+use Rattle.guard_writer.proofs.trees.is_negation.Reads as is-negation-reads
 use Rattle.guard_writer.proofs.trees.put_leaf.Reads as put-leaf-reads
 use Rattle.guard_writer.proofs.trees.put_sign.Reads as put-sign-reads
 use Rattle.lines.proofs.put_text.Reads as put-text-reads
+use Rattle.records.proofs.u16_at.Reads as u16-at-reads
 use Rattle.guard_writer.proofs.trees.+put_binary+put_choice+put_negation+put_node+put_operand.{statement}
 use Rattle.guard_writer.proofs.trees.+put_binary+put_choice+put_negation+put_node+put_operand.Tie.{close}
 
@@ -95,7 +97,7 @@ abbrev put-choice-calls : ℕ → put-choice-lts.Claims
 put-choice-calls t = (put-operand-below t, put-operand.Post, put-text-reads.Asked, put-text-reads.Learnt)
 
 abbrev put-negation-calls : ℕ → put-negation-lts.Claims
-put-negation-calls t = (put-text-reads.Asked, put-text-reads.Learnt, put-operand-below t, put-operand.Post)
+put-negation-calls t = (put-text-reads.Asked, put-text-reads.Learnt, is-negation-reads.Asked, is-negation-reads.Learnt, u16-at-reads.Asked, u16-at-reads.Learnt, put-negation-below t, put-negation.Post, put-operand-below t, put-operand.Post)
 
 abbrev put-operand-calls : ℕ → put-operand-lts.Claims
 put-operand-calls t = (put-text-reads.Asked, put-text-reads.Learnt, level-at-reads.Asked, level-at-reads.Learnt, put-leaf-reads.Asked, put-leaf-reads.Learnt, put-node-below t, put-node.Post)
@@ -213,15 +215,34 @@ module _ (t : ℕ) where
       let w = wrote-then (c .before .before .before .before .before .before .before .before .before .before .before .before .before .before .before .before .before .before .before .before .put-operand .ensures) (wrote-then (c .before .before .before .before .before .before .before .before .before .before .before .before .before .before .before .put-text .ensures) (wrote-as (c .before .before .before .before .before .before .before .before .before .before .before .put-operand2 .ensures) (anywhere A))) in
       wrote-then w (wrote-then (c .before .before .before .before .before .before .put-text2 .ensures) (wrote-as (c .before .before .put-operand3 .ensures) (anywhere C)))
 
-  put-negation-put-operand-requires : put-negation-lts.Need-put-operand-requires (put-negation-calls t) (put-negation-at t) put-negation.Post
+  put-negation-put-negation-requires : put-negation-lts.Need-put-negation-requires (put-negation-calls t) (put-negation-at t) put-negation.Post
   unfolding textOf
-  put-negation-put-operand-requires c κs =
-      let x = c .before .before .before .before .before .before .before .before .args in
-      (omega (arith, c .before .before .before .before .before .before .before .before .pre .0), near-then (textIn 1 (operandTree (nodeAt (now (x .nodes))) (x .n) (x .a))) (c .before .before .before .before .before .before .before .before .pre .1) (c .before .before .before .put-text .ensures))
+  put-negation-put-negation-requires c κs =
+      let x = c .before .before .before .before .before .before .before .before .before .before .before .args in
+      let p = c .before .before .before .before .before .before .before .before .before .before .before .pre in
+      let s = now (x .nodes) in
+      let is = c .before .before .before .is-negation .ensures (c .before .before .if1 .taken) in
+      let e = ap (λ j. textOf (negation (operandTree (nodeAt s) (x .a) j))) (c .before .u16-at .ensures) ∙ negated-operand s (x .n) (x .a) (is .0) (is .1) in
+      (omega (arith, p .0, is .0), near-as (near-then (textIn 1 (operandTree (nodeAt s) (x .n) (x .a))) (p .1) (c .before .before .before .before .before .before .put-text .ensures)) (sym e))
 
   put-negation-returns : put-negation-lts.Need-returns (put-negation-calls t) (put-negation-at t) put-negation.Post
   unfolding textOf
-  put-negation-returns c = wrote-then (c .before .before .before .before .before .before .put-text .ensures) (c .before .before .put-operand .ensures)
+  put-negation-returns c =
+      let x = c .before .before .before .before .before .before .before .before .before .before .before .before .before .before .args in
+      let s = now (x .nodes) in
+      let is = c .before .before .before .before .before .before .is-negation .ensures (c .before .before .before .before .before .if1 .taken) in
+      let e = ap (λ j. textOf (negation (operandTree (nodeAt s) (x .a) j))) (c .before .before .before .before .u16-at .ensures) ∙ negated-operand s (x .n) (x .a) (is .0) (is .1) in
+      wrote-then (c .before .before .before .before .before .before .before .before .before .put-text .ensures) (wrote-as (c .before .before .put-negation .ensures) e)
+
+  put-negation-put-operand-requires : put-negation-lts.Need-put-operand-requires (put-negation-calls t) (put-negation-at t) put-negation.Post
+  unfolding textOf
+  put-negation-put-operand-requires c κs =
+      let x = c .before .before .before .before .before .before .before .before .before .before .args in
+      (omega (arith, c .before .before .before .before .before .before .before .before .before .before .pre .0), near-then (textIn 1 (operandTree (nodeAt (now (x .nodes))) (x .n) (x .a))) (c .before .before .before .before .before .before .before .before .before .before .pre .1) (c .before .before .before .before .before .put-text .ensures))
+
+  put-negation-returns-2 : put-negation-lts.Need-returns-2 (put-negation-calls t) (put-negation-at t) put-negation.Post
+  unfolding textOf
+  put-negation-returns-2 c = wrote-then (c .before .before .before .before .before .before .before .before .put-text .ensures) (c .before .before .put-operand .ensures)
 
   put-operand-returns : put-operand-lts.Need-returns (put-operand-calls t) (put-operand-at t) put-operand.Post
   put-operand-returns c =
@@ -359,9 +380,16 @@ pub +put-binary+put-choice+put-negation+put-node+put-operand-spec : {M : Type 1}
     (λ t. put-negation-lts.spec (put-negation-calls t) (put-negation-at t) put-negation.Post
     (λ c. search needs)
     (λ c κs. search needs)
+    (λ c κs. search needs)
+    (λ c. search needs)
+    (λ c. search needs)
+    (λ c κs. search needs)
+    (put-negation-put-negation-requires t)
+    (λ c. search needs)
+    (put-negation-returns t)
     (put-negation-put-operand-requires t)
     (λ c. search needs)
-    (put-negation-returns t))
+    (put-negation-returns-2 t))
     (λ t. put-node-lts.spec (put-node-calls t) (put-node-at t) put-node.Post
     (λ c κs. search needs)
     (put-node-put-negation-requires t)
