@@ -2,7 +2,7 @@
 use mathlib.Core.Path.{_≡_, refl, sym, ap, _∙_, subst}
 use mathlib.Core.Bool.{Bool, true, false, cond, _&&_, _||_}
 use mathlib.Core.List.{List, [], _∷_}
-use Prim.Native.Nat.{ℕ, _+_, _*_, _≤_, _<_}
+use Prim.Native.Nat.{ℕ, _+_, _*_, _<_}
 use native.Mathlib.Omega.{arith}
 use borrow.Author.Tests.{eqb-true, ne-eqb}
 use lib.Dec.{ltb, leb, eqb}
@@ -15,7 +15,7 @@ use Rattle.expressions.specs.Coded.{HasFields, codedNode}
 use Rattle.expressions.specs.declared.nodes.Fields.{Fields}
 use Rattle.expressions.proofs.Codes.{Other, by-code}
 use Rattle.expressions.proofs.Fields.{coded-at, number-at, truth-at}
-use Rattle.guards.specs.Trees.{Tree, constant, variable, negation, binary, choice, binaryLevel, level}
+use Rattle.guards.specs.Trees.{Tree, constant, variable, negation, binary, choice, level}
 use Rattle.guards.specs.Texts.{sign, textOf, textIn}
 use Rattle.guards.specs.Lists.{treeBy, treeOf}
 use Rattle.guard_writer.specs.Codes.{codeLevel, codeBinary, firstByte, secondByte, signBytes}

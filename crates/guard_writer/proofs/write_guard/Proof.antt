@@ -1,5 +1,4 @@
 -- `write_guard` meets its contract: the line of a list that is one tree is written where it has room, and all else is done over again. Assumes nothing.
-use mathlib.Core.Path.{_≡_, refl}
 use native.Mathlib.Omega.{arith}
 use borrow.Author.Needs.{needs}
 use denote.Ref.{now}

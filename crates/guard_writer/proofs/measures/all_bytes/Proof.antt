@@ -1,10 +1,9 @@
 -- `measures::all_bytes` meets its contract: the invariant is that the nodes below n are measured, tested and counted. Assumes nothing.
 use mathlib.Core.Path.{_≡_, subst}
-use Prim.Native.Nat.{ℕ, _+_, _-_, _≤_, _<_}
+use Prim.Native.Nat.{ℕ, _-_, _<_}
 use native.Mathlib.Numerals.{add-one}
 use native.Mathlib.Omega.{arith}
 use borrow.Author.Count.{below-more}
-use borrow.Author.Needs.{needs}
 use denote.Ref.{now}
 use Rattle.expressions.specs.Nodes.{nodeAt}
 use Rattle.expressions.proofs.Uses.{Counted, counted-none, counted-more, counted-all}

@@ -1,7 +1,6 @@
 -- `measures::is_sort` meets its contract: the codes of each sort are a range. Assumes nothing.
 use mathlib.Core.Path.{sym, ap}
 use mathlib.Core.Bool.{cond, _&&_}
-use borrow.Author.Needs.{needs}
 use lib.Dec.{leb}
 use Rattle.guard_writer.proofs.measures.is_sort.Statement.{statement}
 use Rattle.guard_writer.proofs.measures.is_sort.Tie as tie

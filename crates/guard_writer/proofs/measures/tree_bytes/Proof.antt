@@ -1,5 +1,5 @@
 -- `measures::tree_bytes` meets its contract: a list whose nodes all pass, and that is one tree, is accepted. Assumes nothing.
-use mathlib.Core.Path.{_≡_, sym, ap, _∙_}
+use mathlib.Core.Path.{_≡_, sym, _∙_}
 use mathlib.Core.Bool.{true}
 use mathlib.Core.Option.{none}
 use mathlib.Core.List.{List}
