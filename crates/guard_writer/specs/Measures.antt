@@ -11,7 +11,8 @@ use Rattle.expressions.specs.Nodes.{Node, nodeAt}
 use Rattle.expressions.specs.Sorts.{Sort, sortOf, isNumber, isTruth, variablesOf, operandFits, nodeFits}
 use Rattle.expressions.specs.Uses.{operandNumbers, allOperands}
 use Rattle.guards.specs.Texts.{textOf, textIn}
-use Rattle.guards.specs.Lists.{mostVariables, listRefusal, treeOf}
+use Rattle.model.specs.Limits.{mostVariables}
+use Rattle.guards.specs.Lists.{listRefusal, treeOf}
 use Rattle.guards.specs.Calls.{writtenLine}
 use Rattle.guard_writer.specs.Operands.{operandTree}
 

@@ -18,7 +18,8 @@ use Rattle.expressions.specs.Nodes.{Node, nodeAt}
 use Rattle.expressions.specs.Sorts as S
 use Rattle.expressions.specs.Sorts.{Sort, a-number, a-truth, neither, sortOf, sameSort, operands, variablesOf, operandFits, nodeFits, nodeNamed, nodesNamed, operandsFit}
 use Rattle.guards.specs.Trees.{Binary, arithmetic, comparison, both, either, Tree, binary, givesTruth, takesTruths, isTruth, pairFits, fits, isWritable}
-use Rattle.guards.specs.Lists.{mostNodes, mostVariables, isKnown, usedRightly, isOneTree, listRefusal, treeBy, treeAt, treeOf}
+use Rattle.model.specs.Limits.{mostNodes, mostVariables}
+use Rattle.guards.specs.Lists.{isKnown, usedRightly, isOneTree, listRefusal, treeBy, treeAt, treeOf}
 use Rattle.guards.proofs.NodeRecords.{Recordable, nodeAt-recordable}
 use Rattle.guards.proofs.NodeTrees.{operandTree, operandTree-lower}
 

@@ -16,7 +16,8 @@ use Rattle.expressions.specs.Nodes.{Node}
 use Rattle.expressions.specs.Sorts as S
 use Rattle.expressions.specs.Sorts.{Sort, a-number, a-truth, sortOf, isNumber, operands, variablesOf, operandFits}
 use Rattle.guards.specs.Trees.{Binary, arithmetic, comparison, both, either, Tree, constant, variable, negation, binary, choice, nodeCount, binaryNode, takesTruths, isTruth, pairFits, fits, isWritable}
-use Rattle.guards.specs.Lists.{treeBy, treeAt, mostVariables}
+use Rattle.model.specs.Limits.{mostVariables}
+use Rattle.guards.specs.Lists.{treeBy, treeAt}
 use Rattle.guards.proofs.NodeTrees.{operandTree, operandTree-lower, treeAt-node}
 use Rattle.guards.proofs.Numbering.{Placed, nodeCount-some}
 

@@ -20,7 +20,8 @@ use Rattle.expressions.specs.Sorts as S
 use Rattle.expressions.specs.Sorts.{a-number, a-truth, sortOf, operands, variablesOf, operandFits, nodeFits, nodeNamed, nodesNamed, operandsFit, operandUses}
 use Rattle.expressions.proofs.Uses.{times}
 use Rattle.guards.specs.Trees.{Tree, nodeCount, nodesFrom, recordsOf, isTruth, fits, isWritable}
-use Rattle.guards.specs.Lists.{mostNodes, mostVariables, isKnown, usedRightly, isOneTree, listRefusal, treeOf}
+use Rattle.model.specs.Limits.{mostNodes, mostVariables}
+use Rattle.guards.specs.Lists.{isKnown, usedRightly, isOneTree, listRefusal, treeOf}
 use Rattle.guards.proofs.NodeRecords.{nodeAt-records}
 use Rattle.guards.proofs.Numbering.{Placed, nodeCount-some, nodesFrom-recordable, nodesFrom-placed}
 use Rattle.guards.proofs.PlacedTrees.{passes, placed-tree, placed-sort, placed-passes}

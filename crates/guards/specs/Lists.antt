@@ -7,17 +7,11 @@ use lib.Dec.{ltb, eqb}
 use lib.IntN.{pos}
 use Rattle.prelude.specs.Lists.{all, upto, Lists}
 use Rattle.records.specs.Refusal.{Refusal, wrong-amounts, broken-code, dangling-number, broken-node, lowest}
+use Rattle.model.specs.Limits.{mostVariables, mostNodes}
 use Rattle.expressions.specs.Nodes as N
 use Rattle.expressions.specs.Nodes.{Node}
 use Rattle.expressions.specs.Sorts.{sortOf, isNumber, isTruth, nodesNamed, operandsFit, operandUses, Sorts}
 use Rattle.guards.specs.Trees.{Tree, arithmetic, comparison, both, either, constant, variable, negation, binary, choice}
-
--- more than any set holds
-abbrev pub mostNodes : ℕ
-mostNodes = 1024
-
-abbrev pub mostVariables : ℕ
-mostVariables = 64
 
 -- ---- "The writer's 5, 6, 8 are asked of the whole list, lowest number first."
 
