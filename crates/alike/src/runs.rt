@@ -63,7 +63,7 @@ fn clock_for(after: bool, ticks: u16, age: u32) -> u32
     ensures { λ r. ⌜ r ≡ clockFor (timingIf after) ticks age ⌝ }
 {
     if after {
-        let top = top(after, ticks);
+        let top = top(ticks) as u32;
         return if age <= top { age } else { top };
     }
     if age == 0 {

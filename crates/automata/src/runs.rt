@@ -91,7 +91,7 @@ fn clock_possible(s: &[u8], shape: Shape, k: u16, x: u16) -> bool
     requires { ⌜ IsShape (now s) shape × (k < shape .clocks) ⌝ }
     ensures { λ r. ⌜ r ≡ leb x (topAt (now (s .entry)) shape k) ⌝ }
 {
-    (x as u32) <= top(is_after(s, shape, k), ticks_of(s, shape, k))
+    x <= top(ticks_of(s, shape, k))
 }
 
 // No clock is over its top. All are read, without a way out of the loop.

@@ -214,9 +214,9 @@ checks =
     ∷ (holding (pos 1 ∷ negsuc 100 ∷ []), negsuc 11)
     ∷ (holding (pos 1 ∷ pos 0 ∷ []), negsuc 11)
     -- clocks at their tops and over them, after and every; the last unused one; the second variable
-    ∷ (twinTurn (6 ∷ 36_000 ∷ []) (negsuc 0), pos 3)
-    ∷ (twinTurn (7 ∷ 36_000 ∷ []) (negsuc 0), negsuc 11)
-    ∷ (twinTurn (6 ∷ 36_001 ∷ []) (negsuc 0), negsuc 11)
+    ∷ (twinTurn (5 ∷ 36_000 ∷ []) (negsuc 0), pos 3)
+    ∷ (twinTurn (6 ∷ 36_000 ∷ []) (negsuc 0), negsuc 11)
+    ∷ (twinTurn (5 ∷ 36_001 ∷ []) (negsuc 0), negsuc 11)
     ∷ (twinTurn (replicate 255 0 ++ (1 ∷ [])) (negsuc 0), negsuc 11)
     ∷ (twinTurn [] (negsuc 9), pos 6)
     ∷ (twinTurn [] (negsuc 10), negsuc 11)
@@ -226,6 +226,18 @@ checks =
 check-rows : Agree checks
 unfolding PathBack AutomataFile
 check-rows = (refl, (refl, (refl, (refl, (refl, (refl, (refl, (refl, (refl, (refl, (refl, (refl, (refl, (refl, (refl, (refl, (refl, (refl, (refl, (refl, (refl, (refl, (refl, tt)))))))))))))))))))))))
+
+-- ---- after: state 2 of `waiting` is left after 3 ticks
+
+abbrev aged : (age : ℕ) → ℤ
+aged age = turn (waiting 300) (run (2 ∷ []) (age ∷ []) [] 0 1 36_000)
+
+abbrev dues : List (ℤ × ℤ)
+dues = (aged 2, pos 65534) ∷ (aged 3, pos 2) ∷ (aged 4, pos 2) ∷ (aged 36_000, pos 2) ∷ []
+
+due-rows : Agree dues
+unfolding PathBack AutomataFile
+due-rows = (refl, (refl, (refl, (refl, tt))))
 
 -- ---- 20: the path's 1,000,000 cycles
 

@@ -29,7 +29,7 @@ replays =
     (printed grouped (0 ∷ 16 ∷ 0 ∷ []), lines 0 "0 0 0 1 1\n1 0 2 1 2\n2 0 1 2 27\n")
     -- an event raised twice is that event, for later charts of the same cycle alone
     ∷ (printed raising (0 ∷ 0 ∷ 0 ∷ []), lines 0 "0 0 0 1\n0 1 2 4\n1 0 1 2\n1 1 3 5\n2 0 - 2\n2 1 - 5\n")
-    -- every holds at multiples, after once; milliseconds have four bytes
+    -- every holds at multiples; milliseconds have four bytes
     ∷ (
       printed timing (0 ∷ 0 ∷ 0 ∷ 0 ∷ 0 ∷ 0 ∷ 0 ∷ 0 ∷ []),
       lines 0

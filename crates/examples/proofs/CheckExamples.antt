@@ -75,10 +75,10 @@ twinTurn r = numbered answerCode (turnCall automataTables (twinBytes (waiting 30
 
 abbrev clocks : List (ℤ × ℤ)
 clocks =
-    -- at ticks the edge opens, past it the idle edge does, over its top the run is impossible, and so is a clock that is not in use
-    (twinTurn (clocked 3), pos 2)
-    ∷ (twinTurn (clocked 4), pos 5)
-    ∷ (twinTurn (clocked 5), negsuc 11)
+    -- below ticks the idle edge opens, at ticks, its top, the other; over it the run is impossible, and so it is with a clock that is not in use
+    (twinTurn (clocked 2), pos 5)
+    ∷ (twinTurn (clocked 3), pos 2)
+    ∷ (twinTurn (clocked 4), negsuc 11)
     ∷ (twinTurn (record { at = clocked 0 .at; timers = set (clocked 0 .timers) 1 1; world = clocked 0 .world }), negsuc 11)
     ∷ []
 

@@ -102,6 +102,15 @@ timing =
     ++ (constant 3 ++ read 0 ++ binary 18 0 1) ++ (read 0 ++ constant 1 ++ binary 3 3 4)
     ++ action 3 4 1 0 5
 
+-- Two charts: the first is as `waiting` for 300 ms, but goes on to 3 only where v is 1; the second sets v to 1 on event 1.
+abbrev pub heldBack : List ℕ
+heldBack =
+    chart 0 ++ chart 4 ++ state 0 ++ state 0 ++ state 0 ++ state 0 ++ state 1 ++ state 1
+    ++ freely 1 0 1 ++ onEvent 1 1 2 0 ++ transition 1 2 3 2 0 300 2 ++ freely 1 4 5 ++ onEvent 1 5 5 1
+    ++ variable 0 1 0
+    ++ (read 0 ++ constant 1 ++ binary 16 0 1) ++ constant 1
+    ++ action 3 4 1 0 3
+
 -- on event 0, a guard that divides by v, which is 0
 abbrev pub dividing : List ℕ
 dividing =

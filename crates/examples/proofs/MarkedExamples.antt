@@ -1,4 +1,5 @@
--- The marked examples of document 01 as one table, each row what the definitions give and what the paper says, and one theorem. Assumes nothing.
+-- The marked examples of document 01, as the requests of document 02 changed them, as one table, each row what the definitions give and what the paper says, and
+-- one theorem. Assumes nothing.
 use mathlib.Core.Path.{refl}
 use mathlib.Core.List.{List, [], _∷_, _++_, map}
 use Prim.Native.Nat.{ℕ}
@@ -14,7 +15,7 @@ use Rattle.model.specs.Calls.{chartSets, check, startCall, turnCall, numbered, 
 use Rattle.model.specs.Replay.{replay, Replay}
 use Rattle.records.proofs.Tables.{Agree}
 use Rattle.expressions.proofs.ExampleNodes.{constant, binary}
-use Rattle.examples.proofs.ExampleSets.{ascii, inputOf, blank, zeroWatch, waiting, assigning}
+use Rattle.examples.proofs.ExampleSets.{ascii, inputOf, blank, zeroWatch, waiting, heldBack, assigning}
 
 abbrev text : List ℕ → List ℤ
 text bytes = map pos bytes
@@ -42,10 +43,17 @@ table =
       lines (waiting 300) (0 ∷ 0 ∷ 0 ∷ 0 ∷ 1 ∷ 0 ∷ 0 ∷ 0 ∷ 0 ∷ []),
       text (ascii "0 0 0 1\n1 0 - 1\n2 0 - 1\n3 0 - 1\n4 0 1 2\n5 0 - 2\n6 0 - 2\n7 0 2 3\n8 0 - 3\n"),
     )
+    -- request 2: a guard false at age 3 and true at age 4 fires in cycle 8
+    ∷ (
+      lines heldBack (0 ∷ 0 ∷ 0 ∷ 0 ∷ 1 ∷ 0 ∷ 0 ∷ 2 ∷ 0 ∷ []),
+      text
+          (ascii
+          "0 0 0 1 0\n0 1 3 5 0\n1 0 - 1 0\n1 1 - 5 0\n2 0 - 1 0\n2 1 - 5 0\n3 0 - 1 0\n3 1 - 5 0\n4 0 1 2 0\n4 1 - 5 0\n5 0 - 2 0\n5 1 - 5 0\n6 0 - 2 0\n6 1 - 5 0\n7 0 - 2 0\n7 1 4 5 1\n8 0 2 3 1\n8 1 - 5 1\n"),
+    )
     ∷ (value (number (nodeAt (constant 0xffff_fffd ++ constant 2 ++ binary 6 0 1)) [] 2), negsuc 0 ∷ [])
     ∷ (numbered answerCode (turnCall chartSets (assigning 0xffff_fffe) 0 (startCall chartSets (assigning 0xffff_fffe) blank .lent) .answer) ∷ [], negsuc 16 ∷ [])
     ∷ []
 
 marked : Agree table
 unfolding Replay Translation
-marked = (refl, (refl, (refl, (refl, (refl, (refl, (refl, (refl, (refl, tt)))))))))
+marked = (refl, (refl, (refl, (refl, (refl, (refl, (refl, (refl, (refl, (refl, tt))))))))))

@@ -11,7 +11,7 @@ use Rattle.model.specs.AutomataFile.{AutomataFile}
 use Rattle.model.specs.Calls.{chartSets, automataTables, startCall, cycleCall, numbered}
 use Rattle.model.specs.TakenPath.{takenPath, takenRows, TakenPath}
 use Rattle.records.proofs.Tables.{Agree}
-use Rattle.examples.proofs.ExampleSets.{blank, zeroWatch, waiting, raising}
+use Rattle.examples.proofs.ExampleSets.{blank, zeroWatch, waiting, heldBack, raising}
 
 -- ---- the twin's own path, and the set's rows
 
@@ -43,15 +43,20 @@ paths =
       pathOf (waiting 300) (0 ∷ 0 ∷ 0 ∷ 0 ∷ 1 ∷ 0 ∷ 0 ∷ 0 ∷ []),
       0 ∷ 65535 ∷ 4 ∷ 65535 ∷ 4 ∷ 65535 ∷ 4 ∷ 65535 ∷ 1 ∷ 65535 ∷ 5 ∷ 65535 ∷ 5 ∷ 65535 ∷ 2 ∷ 65535 ∷ [],
     )
-    -- its clock grows up to 4, is set to 0 where state 2 is entered, and grows by 1 at the cycle's end
+    -- with a guard that is false then and true one cycle later it fires in cycle 8
+    ∷ (
+      pathOf heldBack (0 ∷ 0 ∷ 0 ∷ 0 ∷ 1 ∷ 0 ∷ 0 ∷ 2 ∷ 0 ∷ []),
+      0 ∷ 3 ∷ 65535 ∷ 6 ∷ 10 ∷ 65535 ∷ 6 ∷ 10 ∷ 65535 ∷ 6 ∷ 10 ∷ 65535 ∷ 1 ∷ 10 ∷ 65535 ∷ 7 ∷ 10 ∷ 65535 ∷ 7 ∷ 10 ∷ 65535 ∷ 7 ∷ 4 ∷ 65535 ∷ 2 ∷ 10 ∷ 65535 ∷ [],
+    )
+    -- its clock grows up to 3, is set to 0 where state 2 is entered, and grows by 1 at the cycle's end
     ∷ (clock (waiting 300) (0 ∷ 0 ∷ []), 2 ∷ [])
-    ∷ (clock (waiting 300) (0 ∷ 0 ∷ 0 ∷ 0 ∷ 0 ∷ 0 ∷ []), 4 ∷ [])
+    ∷ (clock (waiting 300) (0 ∷ 0 ∷ 0 ∷ 0 ∷ 0 ∷ 0 ∷ []), 3 ∷ [])
     ∷ (clock (waiting 300) (0 ∷ 0 ∷ 0 ∷ 0 ∷ 1 ∷ []), 1 ∷ [])
     ∷ []
 
 twin-examples : Agree paths
 unfolding PathBack TakenPath AutomataFile
-twin-examples = (refl, (refl, (refl, (refl, (refl, tt)))))
+twin-examples = (refl, (refl, (refl, (refl, (refl, (refl, tt))))))
 
 abbrev rows : List (List ℕ × List ℕ)
 rows =

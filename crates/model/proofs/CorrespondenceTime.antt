@@ -4,7 +4,8 @@ use mathlib.Core.Bool.{Bool, true, false, cond}
 use Prim.Native.Nat.{ℕ, zero, suc, _+_, _-_, _%_, _≤_, _<_, min}
 use native.Mathlib.Nat.{suc-mod, mod-lt, mod-self, mod-eq-of-lt, zero-mod}
 use native.Mathlib.Omega.{arith}
-use lib.Dec.{ltb, eqb, eqb→eq, lt→ltb}
+use borrow.Author.Tests.{leb-true, leb-false, eq-eqb, ne-eqb}
+use lib.Dec.{leb, ltb, eqb, eqb→eq, lt→ltb}
 use Rattle.model.specs.Charts.{afterHolds, everyHolds}
 use Rattle.model.specs.AutomataTable.{Timing, after, every}
 use Rattle.model.specs.Automata.{top, grown}
@@ -18,10 +19,14 @@ timingHolds every d age = everyHolds d age
 
 -- ---- after
 
-after-holds : (d age : ℕ) → eqb (min age (d + 1)) d ≡ eqb age d
-after-holds d age = eqb-iff (min age (d + 1)) d age d (λ e. omega arith) (λ e. omega arith)
+after-holds : (d age : ℕ) → eqb (clockFor after d age) d ≡ afterHolds d age
+after-holds d age = go (leb d age) refl
+  where
+    go : (p : Bool) → leb d age ≡ p → eqb (min age d) d ≡ p
+    go true q = eq-eqb (min age d) d (omega (arith, leb-true d age q))
+    go false q = ne-eqb (min age d) d (λ e. omega (arith, leb-false d age q))
 
-after-grown : (d age : ℕ) → min (min age (d + 1) + 1) (d + 1) ≡ min (age + 1) (d + 1)
+after-grown : (d age : ℕ) → grown after d (clockFor after d age) ≡ clockFor after d (age + 1)
 after-grown d age = omega arith
 
 -- ---- every

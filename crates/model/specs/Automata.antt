@@ -13,12 +13,12 @@ use Rattle.model.specs.AutomataTable.{LiteralTrigger, always, event, clo
 
 -- ---- time
 
--- "an after-clock .. up to ticks + 1, its top; an every-clock at ticks, its top"
+-- of after: "its clock stops at its ticks" (request 2); "an every-clock at ticks, its top"
 abbrev pub top : Timing → ℕ → ℕ
-top after d = d + 1
+top after d = d
 top every d = d
 
--- "an after-clock grows by 1 up to ticks + 1; an every-clock at ticks goes to 1, else grows by 1"
+-- an after-clock grows by 1 up to its top; "an every-clock at ticks, its top, goes to 1, else grows by 1"
 abbrev pub grown : Timing → ℕ → ℕ → ℕ
 grown after d x = min (x + 1) (top after d)
 grown every d x = cond (eqb x (top every d)) 1 (x + 1)

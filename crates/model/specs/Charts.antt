@@ -18,9 +18,9 @@ use Rattle.model.specs.ChartSet.{Trigger, always, event, after, every, C
 abbrev pub ticks : ℕ → ℕ
 ticks ms = (ms + 50) / 100
 
--- "After d holds at age d exactly; every d at positive multiples of d."
+-- "After d now holds at age d and at every later age until the state is left" (request 2); "every d at positive multiples of d."
 abbrev pub afterHolds : ℕ → ℕ → Bool
-afterHolds d age = eqb age d
+afterHolds d age = leb d age
 
 abbrev pub everyHolds : ℕ → ℕ → Bool
 everyHolds d age = ltb 0 age && eqb (age % d) 0

@@ -12,7 +12,7 @@ timingIf b = cond b after every
 
 -- no clock's top is above this
 abbrev pub mostTop : ℕ
-mostTop = mostTicks + 1
+mostTop = mostTicks
 
 abbrev pub turnFor : Timing → ℕ → ℕ
 turnFor after d = 65535

@@ -1,8 +1,8 @@
 // Time: the ticks of milliseconds, when timing triggers hold, how far clocks grow. What the code knows of these stands here alone.
 ghost use mathlib.Core.Path.{_≡_};
 ghost use Prim.Native.Nat.{_≤_, _<_};
-ghost use Rattle.model.specs.Limits.{mostTicks};
 ghost use Rattle.model.specs.Charts.{ticks, afterHolds, everyHolds};
+ghost use Rattle.model.specs.AutomataTable.{Timing};
 ghost use Rattle.model.specs.Automata.{top};
 ghost use Rattle.timings.specs.Growth.{timingIf, mostTop, turnFor, capFor, grownTo};
 
@@ -15,11 +15,11 @@ pub fn ticks(ms: u32) -> u64
     ((ms as u64) + 50) / 100
 }
 
-// At age d exactly.
+// From age d on.
 pub fn after_holds(d: u64, age: u32) -> bool
     ensures { λ r. ⌜ r ≡ afterHolds d age ⌝ }
 {
-    (age as u64) == d
+    (age as u64) >= d
 }
 
 // At the positive multiples of d.
@@ -32,15 +32,11 @@ pub fn every_holds(d: u64, age: u32) -> bool
 
 // ---- clocks
 
-// The highest that a clock comes to.
-pub fn top(after: bool, ticks: u16) -> u32
-    ensures { λ r. ⌜ r ≡ top (timingIf after) ticks ⌝ }
+// The highest that a clock of either kind comes to.
+pub fn top(ticks: u16) -> u16
+    ensures { λ r. ⌜ ((k : Timing) → r ≡ top k ticks) ⌝ }
 {
-    if after {
-        (ticks as u32) + 1
-    } else {
-        ticks as u32
-    }
+    ticks
 }
 
 // How a clock grows is told by two limits, so that long runs read them once. Where it goes back to 1: an every-clock at its top, an after-clock nowhere, as none
@@ -53,14 +49,9 @@ pub fn turn_for(after: bool, ticks: u16) -> u16
 
 // The most that a clock grows to: an after-clock's top.
 pub fn cap_for(after: bool, ticks: u16) -> u16
-    requires { ⌜ ticks ≤ mostTicks ⌝ }
     ensures { λ r. ⌜ r ≡ capFor (timingIf after) ticks ⌝ }
 {
-    if after {
-        top(after, ticks) as u16
-    } else {
-        65535
-    }
+    if after { top(ticks) } else { 65535 }
 }
 
 pub fn grown_to(turn: u16, cap: u16, x: u16) -> u16

@@ -25,21 +25,17 @@ every-new d age h = sym (ap (λ b. cond b 0 ((age - 1) % d + 1)) (eq-eqb age 0 h
 every-old : (d age : ℕ) → (age ≡ 0 → ⊥) → (age - 1) % d + 1 ≡ clockFor every d age
 every-old d age h = sym (ap (λ b. cond b 0 ((age - 1) % d + 1)) (ne-eqb age 0 h))
 
--- an after-clock's top
-high : (c : tie.After-top) → let a = c .before .before .args in c .top .result ≡ top after (a .ticks)
-high c = c .top .ensures ∙ ap (λ b. top (timingIf b) (c .before .before .args .ticks)) (c .before .if1 .taken)
-
 returns : tie.Need-returns
 returns c =
     let a = c .before .before .before .args in
-    after-young (a .ticks) (a .age) (omega (arith, c .if2 .taken, high (c .before)))
+    after-young (a .ticks) (a .age) (omega (arith, c .if2 .taken, c .before .top .ensures after))
     ∙ ap (λ b. clockFor (timingIf b) (a .ticks) (a .age)) (sym (c .before .before .if1 .taken))
 
 returns-2 : tie.Need-returns-2
 returns-2 c =
     let a = c .before .before .before .args in
-    high (c .before)
-    ∙ after-old (a .ticks) (a .age) (omega (arith, c .if2 .left, high (c .before)))
+    c .before .top .ensures after
+    ∙ after-old (a .ticks) (a .age) (omega (arith, c .if2 .left, c .before .top .ensures after))
     ∙ ap (λ b. clockFor (timingIf b) (a .ticks) (a .age)) (sym (c .before .before .if1 .taken))
 
 returns-3 : tie.Need-returns-3
@@ -63,4 +59,4 @@ returns-4 c =
 pub clock-for-spec : {M : Type 1} → statement M
 clock-for-spec =
     tie.close
-    (tie.spec (λ c κs. search needs) returns returns-2 returns-3 (λ c. search needs) (λ c. search needs) add-result returns-4)
+    (tie.spec (λ c κs. search needs) (λ c. search needs) returns returns-2 returns-3 (λ c. search needs) (λ c. search needs) add-result returns-4)

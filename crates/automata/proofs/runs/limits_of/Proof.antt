@@ -8,7 +8,6 @@ use denote.Ref.{now}
 use Rattle.automata_records.specs.declared.Shape.{Shape}
 use Rattle.automata_records.specs.Places.{clockAt}
 use Rattle.automata_records.proofs.PlacesRead.{most-clocks}
-use Rattle.automata_records.proofs.NamedThings.{ticks-known}
 use Rattle.prelude.proofs.Filled.{Filled, filled-none, filled-more, filled-mapped}
 use Rattle.timings.specs.Growth.{turnFor, capFor}
 use Rattle.automata.proofs.runs.limits_of.Statement.{statement}
@@ -42,11 +41,6 @@ mul-turn c = omega (arith, few (c .before .before .before))
 
 element-write-turn : tie.Need-element-write-turn Inv-loop μ-loop
 element-write-turn c = omega (arith, few (c .before .before .before))
-
-cap-for-requires : tie.Need-cap-for-requires Inv-loop μ-loop
-cap-for-requires c κs =
-    let b = c .before .before .before .before .before .before .before .before .before in
-    omega (arith, c .ticks-of2 .ensures, ticks-known (now (b .args .s)) (b .args .shape) (b .pre .0 .shape) (b .pre .0 .unrefused) (c .before .before .before .before .before .before .before .loop .k) (c .before .before .before .before .before .if1 .taken) .1)
 
 mul-cap : tie.Need-mul-cap Inv-loop μ-loop
 mul-cap c = omega (arith, few (c .before .before .before .before .before .before))
@@ -96,7 +90,7 @@ limits-of-spec =
     element-write-turn
     (λ c κs. search needs)
     (λ c κs. search needs)
-    cap-for-requires
+    (λ c κs. search needs)
     mul-cap
     element-write-cap
     add-k
