@@ -120,6 +120,26 @@ pub fn winch() -> Vec<u8> {
     .bytes()
 }
 
+/// State 1 is left for state 2 by event 0, and state 2 for state 3 after 3 ticks where the variable is
+/// 1, which chart 1, later in the cycle, sets at event 1: a due time that may have to wait.
+pub fn held_back() -> Vec<u8> {
+    SetParts {
+        charts: vec![chart(0), chart(4)],
+        states: vec![state(0), state(0), state(0), state(0), state(1), state(1)],
+        transitions: vec![
+            transition(1, 0, 1),
+            on_event(transition(1, 1, 2), 0),
+            guarded(after(transition(1, 2, 3), 300), 2),
+            transition(1, 4, 5),
+            on_event(transition(1, 5, 5), 1),
+        ],
+        variables: vec![Variable { lowest: 0, highest: 1, start: 0 }],
+        nodes: vec![variable_value(0), constant(1), operation(EQUAL, &[0, 1]), constant(1)],
+        actions: vec![action(ON_TRANSITION, 4, Deed::Assign { variable: 0, node: 3 })],
+    }
+    .bytes()
+}
+
 /// Chart 0 raises event 5 whenever event 0 comes; chart 1, later in the cycle, answers it by
 /// raising event 6, which chart 0 waits for in vain: an event lasts for later charts only.
 pub fn relay() -> Vec<u8> {
@@ -221,6 +241,7 @@ pub fn all() -> Vec<(&'static str, Vec<u8>)> {
         ("smallest", smallest()),
         ("one_after", one_after(300)),
         ("winch", winch()),
+        ("held_back", held_back()),
         ("relay", relay()),
         ("action_order", action_order()),
         ("guarded_division", guarded_division()),

@@ -29,10 +29,11 @@ pub fn ticks(milliseconds: u32) -> u32 {
     (milliseconds + TICK_MILLISECONDS / 2) / TICK_MILLISECONDS
 }
 
-/// After d holds at age d exactly; every d at positive multiples of d.
+/// After d holds at age d and at every later age until the state is left; every d at positive
+/// multiples of d.
 pub fn timing_holds(timing: Timing, age: u32, ticks: u32) -> bool {
     match timing {
-        Timing::After => age == ticks,
+        Timing::After => age >= ticks,
         Timing::Every => age > 0 && age.is_multiple_of(ticks),
     }
 }
@@ -44,12 +45,9 @@ pub struct Clock {
 }
 
 impl Clock {
-    /// The highest value a clock takes.
+    /// The highest value a clock takes: an after-clock stops at its ticks, an every-clock turns there.
     pub fn top(&self) -> u16 {
-        match self.timing {
-            Timing::After => self.ticks + 1,
-            Timing::Every => self.ticks,
-        }
+        self.ticks
     }
 
     /// A clock trigger holds at clock = ticks.

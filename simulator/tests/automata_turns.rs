@@ -108,12 +108,12 @@ fn updates_in_file_order_then_resets() {
     let updates = [assign(0, 0), assign(1, 4), assign(0, 3), update(0, Deed::Raise { event: 9 })];
     let table = table(&edges, &[], &numbers, &updates, &[reset(0, 1)]);
     let mut run = AutomataRun { clocks: [0; 256], ..table.start() };
-    run.clocks[0] = 3;
+    run.clocks[0] = 2;
     run.clocks[1] = 2;
     assert_eq!(table.turn(&mut run, 1), Ok(Answer::Taken(0)));
-    assert_eq!((run.variables[0], run.events, run.clocks[0], run.clocks[1]), (7, 1 << 9 | 1, 3, 0));
+    assert_eq!((run.variables[0], run.events, run.clocks[0], run.clocks[1]), (7, 1 << 9 | 1, 2, 0));
     assert_eq!(table.turn(&mut run, 0), Ok(Answer::Time));
-    assert_eq!((run.events, run.cycles, run.clocks[0], run.clocks[1]), (0, 1, 3, 1));
+    assert_eq!((run.events, run.cycles, run.clocks[0], run.clocks[1]), (0, 1, 2, 1));
     // Location 1's idle edge assigns 10, above the highest.
     run.locations[0] = 1;
     let before = run;
@@ -130,7 +130,7 @@ fn clocks_grow_to_their_tops() {
         table.cycle(&mut run, 0).unwrap();
         seen.push((run.clocks[0], run.clocks[1]));
     }
-    assert_eq!(seen, [(1, 1), (2, 2), (3, 1), (3, 2), (3, 1), (3, 2)]);
+    assert_eq!(seen, [(1, 1), (2, 2), (2, 1), (2, 2), (2, 1), (2, 2)]);
 }
 
 #[test]
@@ -139,10 +139,10 @@ fn a_clock_trigger_holds_at_its_ticks() {
     let on = reads_clock(literal(MUST_HOLD, 0, NONE), 0);
     let off = reads_clock(literal(MUST_NOT, 1, NONE), 0);
     let table = table(&edges, &[on, off], &[], &[], &[]);
-    for (clock, taken) in [(0, 1), (1, 1), (2, 0), (3, 1)] {
+    for (clock, answer) in [(0, Ok(1)), (1, Ok(1)), (2, Ok(0)), (3, Err(12))] {
         let mut run = table.start();
         run.clocks[0] = clock;
-        assert_eq!(table.turn(&mut run, 0), Ok(Answer::Taken(taken)), "clock {clock}");
+        assert_eq!(table.turn(&mut run, 0), answer.map(Answer::Taken), "clock {clock}");
     }
 }
 

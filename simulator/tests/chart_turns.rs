@@ -71,22 +71,44 @@ fn every_comes_again_where_the_guard_held_it_back() {
 }
 
 #[test]
-fn after_holds_at_one_age_only() {
+fn after_holds_from_its_age_on() {
+    // State 2 is entered in cycle 1, so its age is 3 in cycle 4; the guard is true from the cycle after event 1 on.
+    for (set_in, taken_in) in [(2, 4), (3, 4), (4, 5), (5, 6), (40, 41)] {
+        let mut masks = [0; 50];
+        masks[1] = 1;
+        masks[set_in] |= 2;
+        let taken = first_charts(&held_back(), &masks);
+        assert_eq!(taken.iter().position(|answer| *answer == Taken(2)), Some(taken_in), "set in {set_in}");
+    }
+}
+
+/// State 1 is left by event 0 and entered again by event 1: a due time that passed in an earlier stay is none in the next.
+#[test]
+fn after_begins_anew_with_each_stay() {
     let parts = SetParts {
         charts: vec![chart(0)],
         states: vec![state(0), state(0), state(0)],
-        transitions: vec![transition(1, 0, 1), guarded(after(transition(1, 1, 2), 200), 2)],
+        transitions: vec![
+            transition(1, 0, 1),
+            on_event(transition(1, 1, 2), 0),
+            guarded(after(transition(2, 1, 1), 200), 2),
+            on_event(transition(1, 2, 1), 1),
+        ],
         variables: vec![Variable { lowest: 0, highest: 1, start: 0 }],
         nodes: vec![variable_value(0), constant(1), operation(EQUAL, &[0, 1])],
         actions: Vec::new(),
     };
     let set = ChartSet::read(&parts.bytes()).unwrap();
     let mut run = set.start();
-    assert_eq!(set.play(&mut run, &[0; 3]), Ok(3));
-    // The age was 2 in cycle 2 with the guard false; a guard true from now on comes too late.
+    assert_eq!(set.play(&mut run, &[0, 0, 0, 0, 0, 1, 2]), Ok(7));
     run.variables[0] = 1;
-    assert_eq!(set.play(&mut run, &[0; 50]), Ok(50));
-    assert_eq!(run.states[0], 1);
+    let ages = [1, 2, 1, 2].map(|age| {
+        let before = run.ages[0];
+        set.cycle(&mut run, 0).unwrap();
+        assert_eq!(before, age, "entered in cycle 6, and by itself at age 2");
+        run.ages[0]
+    });
+    assert_eq!(ages, [2, 1, 2, 1]);
 }
 
 #[test]

@@ -76,7 +76,7 @@ fn twelve_for_clocks() {
         run.clocks[clock] = value;
         automata::turn(&table, &run, 0).err().unwrap_or(0)
     };
-    assert_eq!((with(0, 4), with(0, 5)), (0, 12), "ticks + 1 is an after-clock's top");
+    assert_eq!((with(0, 3), with(0, 4)), (0, 12), "ticks is an after-clock's top");
     assert_eq!((with(1, 2), with(1, 3)), (0, 12), "ticks is an every-clock's top");
     assert_eq!((with(2, 0), with(2, 1), with(255, 1)), (0, 12, 12), "unused clocks");
 }

@@ -6,6 +6,7 @@ use simulator::correspondence::correspond;
 use simulator::generate::calls::{call_list, events_of_set, Call, CallAnswer};
 use simulator::generate::sets::{valid_set, Size};
 use simulator::generate::states::late_count;
+use simulator::generate::waiting_sets::waiting_set;
 use simulator::runs::{Answer, AutomataRun, ChartsRun};
 use simulator::timing::Timing;
 use simulator::translation::twin;
@@ -16,7 +17,8 @@ use std::collections::BTreeMap;
 /// How often each outcome came up.
 type Tally = BTreeMap<String, usize>;
 
-const TAKEN: [&str; 4] = ["taken without trigger", "taken by event", "taken after", "taken every"];
+const TAKEN: [&str; 4] =
+    ["taken without trigger", "taken by event", "taken after, at its ticks", "taken every"];
 
 fn count(tally: &mut Tally, what: impl ToString) {
     *tally.entry(what.to_string()).or_default() += 1;
@@ -79,12 +81,14 @@ impl Pair {
             (Ok(Turn(Answer::Taken(transition))), Ok(Turn(Answer::Taken(edge)))) => {
                 assert_eq!(transition, edge, "{place}");
                 count(tally, "taken");
+                let age = before.ages[usize::try_from(before.position).expect("small") - 1];
                 count(
                     tally,
                     match self.set.transitions[usize::from(transition)].trigger {
                         Trigger::None => "taken without trigger",
                         Trigger::Event(_) => "taken by event",
-                        Trigger::Timed(Timing::After, _) => "taken after",
+                        Trigger::Timed(Timing::After, ticks) if age == ticks => "taken after, at its ticks",
+                        Trigger::Timed(Timing::After, _) => "taken after, later",
                         Trigger::Timed(Timing::Every, _) => "taken every",
                     },
                 );
@@ -156,6 +160,19 @@ fn largest_sets_go_with_their_twins() {
     }
     assert_reached(&tally, &["taken", "idle", "time", "done", "13", "14", "17"]);
     assert_reached(&tally, &TAKEN);
+}
+
+#[test]
+fn due_times_that_wait_go_with_their_twins() {
+    let mut tally = Tally::new();
+    for seed in 0..2_000 {
+        let mut random = Random::new(30_000 + seed);
+        let mut pair = Pair::new(&waiting_set(&mut random));
+        let calls = call_list(&mut random, pair.set.charts(), events_of_set(&pair.set), 60);
+        pair.follow(&calls, &mut tally, &format!("waiting set {seed}"));
+    }
+    assert_reached(&tally, &TAKEN);
+    assert!(tally["taken after, later"] > 500, "{tally:?}");
 }
 
 #[test]

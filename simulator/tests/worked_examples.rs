@@ -1,7 +1,7 @@
 //! The worked examples of the scope paper.
 
 use simulator::assemble::{constant, operation};
-use simulator::chart_sets::{one_after, one_assignment, one_expression, zero_watch};
+use simulator::chart_sets::{held_back, one_after, one_assignment, one_expression, zero_watch};
 use simulator::charts::ChartSet;
 use simulator::operators::{LESS, QUOTIENT, REMAINDER};
 use simulator::records::*;
@@ -179,6 +179,11 @@ fn entered_in_cycle_four_after_three_fires_in_cycle_seven() {
     expected[0] = Some(0);
     expected[4] = Some(1);
     expected[7] = Some(2);
+    assert_eq!(taken, expected);
+    // With a guard that is false at age 3 and true at age 4 it fires in cycle 8.
+    let taken = transitions(&held_back(), &[0, 0, 0, 0, 1, 0, 0, 2, 0, 0]);
+    expected[7] = None;
+    expected[8] = Some(2);
     assert_eq!(taken, expected);
     // 249 ms is 2 ticks and 250 is 3.
     assert_eq!(transitions(&one_after(249), &[0, 0, 0, 0, 1, 0, 0, 0])[6], Some(2));

@@ -444,7 +444,7 @@ static bool clocks_correspond(const charts_run *c, const automata_run *a)
             continue;
         }
         uint32_t ticks = (four_at(work.bytes, at + 8) + 50) / 100, age = c->ages[chart];
-        uint32_t as_after = age < ticks + 1 ? age : ticks + 1, as_every = age == 0 ? 0 : (age - 1) % ticks + 1;
+        uint32_t as_after = age < ticks ? age : ticks, as_every = age == 0 ? 0 : (age - 1) % ticks + 1;
         if (c->states[chart] == source && a->clocks[clock] != (trigger == AFTER ? as_after : as_every)) {
             return false;
         }

@@ -390,7 +390,7 @@ static const poke automata_pokes[] = {
     {"a location of another automaton", PLACE(automata_run, locations[0]), 4},
     {"a location that is not there", PLACE(automata_run, locations[1]), 5},
     {"an unused location", PLACE(automata_run, locations[2]), 1},
-    {"an after-clock over its top", PLACE(automata_run, clocks[0]), 5},
+    {"an after-clock over its top", PLACE(automata_run, clocks[0]), 4},
     {"an every-clock over its top", PLACE(automata_run, clocks[1]), 3},
     {"an unused clock", PLACE(automata_run, clocks[2]), 1},
     {"the last clock", PLACE(automata_run, clocks[255]), 65535},
@@ -425,6 +425,10 @@ static void impossible_runs(void)
         moves_refuse(true, 0, 12, automata_pokes[i].what);
         moves_refuse(true, 8, 12, "an impossible run and events");
     }
+    fresh_runs();
+    given.automata.clocks[0] = 3;
+    given.automata.clocks[1] = 2;
+    must(automata_cycle(table.bytes, table.len, &given.automata, 0) == 0, "clocks at their tops");
 }
 
 /* Both runs at a position and a count. */

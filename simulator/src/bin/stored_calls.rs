@@ -351,6 +351,7 @@ fn twin_calls() -> Vec<Call> {
         call("refused_table", damaged_twin(2, 3), &watched),
         call("none_open", damaged_twin(4 * 16 + 2, 1), &watched),
         call("two_open", damaged_twin(16 * 16 + 1, 1), &watched),
+        call("due_late", twin_of(&chart_sets::held_back()), &masks(&[0, 0, 0, 0, 1, 0, 0, 2, 0, 0])),
     ];
     calls.extend(chart_sets::all().into_iter().map(|(name, set)| {
         call(&name.replace(' ', "_"), twin_of(&set), &masks(&[0, 1, 3, 64, 32, 33, 2, 1, 0]))

@@ -138,6 +138,7 @@ fn sets() -> Vec<(&'static str, Vec<u8>, Vec<u8>)> {
         ("raised_events", chart_sets::relay(), masks(&[0, 1, 1, 64, 32, 33, 0])),
         ("three_charts", three_charts(), masks(&events)),
         ("timers", chart_sets::winch(), masks(&[0, 0, 0, 0, 0, 0, 0, 0, 2, 0, 1, 0, 0, 0, 0, 0, 0, 3, 0])),
+        ("due_late", chart_sets::held_back(), masks(&[0, 0, 0, 0, 1, 0, 0, 2, 0, 0])),
         ("widest_lines", widest(), masks(&[0, 0, 0])),
         ("fault_in_cycle", fault_in_cycle(), masks(&[0; 9])),
         ("zero_divisor", chart_sets::guarded_division(), masks(&[0, 1, 1, 0, 1])),

@@ -20,4 +20,5 @@ pub mod table_damage;
 pub mod table_forms;
 pub mod table_states;
 pub mod tables;
+pub mod waiting_sets;
 pub mod ways;

@@ -1,6 +1,7 @@
 //! Valid chart sets: tiny, middling, and of the largest sizes.
 
 use super::expressions::{number_size_possible, number_within, renumber, Grower, Style};
+use super::waiting_sets::waiting_set;
 use crate::assemble::*;
 use crate::chart_sets::SetParts;
 use crate::deeds::Deed;
@@ -71,12 +72,13 @@ pub fn valid_set(random: &mut Random, size: Size) -> Vec<u8> {
     maker.parts.bytes()
 }
 
-/// An accepted set of any size, the largest seldom.
+/// An accepted set of any size, the largest seldom, or one with due times that wait.
 pub fn any_valid_set(random: &mut Random) -> Vec<u8> {
     let size = match random.below(40) {
         0 => Size::Largest,
         1..=19 => Size::Middling,
-        _ => Size::Tiny,
+        20..=35 => Size::Tiny,
+        _ => return waiting_set(random),
     };
     valid_set(random, size)
 }

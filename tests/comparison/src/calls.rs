@@ -167,7 +167,7 @@ fn clause_of(corruption: &str) -> &str {
 pub fn runs_corrupted_by_one_clause_of_12<S: Side>(seed: u64) {
     let mut random = Random::new(seed);
     let mut met = Met::default();
-    for _ in 0..3_000 {
+    for _ in 0..3_500 {
         let file = File::<S>::any_valid(&mut random);
         let read = file.accepted();
         for corruption in S::CORRUPTIONS {

@@ -1,14 +1,29 @@
 //! Runs of chart sets.
 
 use comparison::calls::{self, File};
+use comparison::met::Met;
 use simulator::chart_sets::{ring, zero_watch};
+use simulator::charts::Trigger;
 use simulator::generate::calls::Call;
 use simulator::generate::sets::{valid_set, Size};
+use simulator::timing::Timing;
 use simulator::{ChartSet, ChartsRun, Random};
+
+const IDLE: i32 = 65_534;
+
+/// Of a turn that took a transition with `after`: whether it was due just then, or had to wait.
+fn note_due(met: &mut Met, set: &ChartSet, before: &ChartsRun, call: Call, answer: i32) {
+    let (Call::Turn(_), 0..IDLE) = (call, answer) else { return };
+    let age = before.ages[before.position as usize - 1];
+    if let Trigger::Timed(Timing::After, ticks) = set.transitions[answer as usize].trigger {
+        met.add(if age == ticks { "after: at its ticks" } else { "after: later" });
+    }
+}
 
 #[test]
 fn call_lists() {
-    let met = calls::call_lists::<ChartSet>(21, |_, _, _, _, _| {});
+    let met = calls::call_lists(21, note_due);
+    met.at_least(100, &["after: at its ticks", "after: later"]);
     met.at_least(2_000, &["turn: idle"]);
     met.at_least(500, &["cycle: the last"]);
 }

@@ -6,6 +6,7 @@ use simulator::correspondence::correspond;
 use simulator::generate::calls::{call_list, events_of_set, Call};
 use simulator::generate::sets::{valid_set, Size};
 use simulator::generate::states::late_count;
+use simulator::generate::waiting_sets::waiting_set;
 use simulator::{AutomataRun, AutomataTable, ChartSet, ChartsRun, Random};
 
 const IDLE: i32 = 65_534;
@@ -77,12 +78,13 @@ fn sets_go_with_their_twins() {
     let mut random = Random::new(71);
     let mut met = Met::default();
     for round in 0..4_000 {
-        let size = match round % 100 {
-            0 => Size::Largest,
-            other if other % 2 == 0 => Size::Middling,
-            _ => Size::Tiny,
+        let bytes = match round % 100 {
+            0 => valid_set(&mut random, Size::Largest),
+            other if other % 10 == 5 => waiting_set(&mut random),
+            other if other % 2 == 0 => valid_set(&mut random, Size::Middling),
+            _ => valid_set(&mut random, Size::Tiny),
         };
-        let mut pair = Pair::of(valid_set(&mut random, size));
+        let mut pair = Pair::of(bytes);
         let set = ChartSet::read(&pair.set).expect("an accepted set");
         let known = events_of_set(&set);
         let calls = call_list(&mut random, set.charts(), known, 40);

@@ -23,10 +23,9 @@ struct Literal {
     must: bool,
 }
 
-/// Of each clock its ticks, its top, and where it goes from its top; 0 where there is none.
+/// Of each clock its ticks, which are its top, and where it goes from there; 0 where there is none.
 struct Clocks {
     ticks: [u16; CLOCKS],
-    top: [u16; CLOCKS],
     past_top: [u16; CLOCKS],
     count: usize,
 }
@@ -35,16 +34,14 @@ impl Clocks {
     /// The clocks, and whether a record is wrong.
     fn read(section: &[u8]) -> (Clocks, bool) {
         let none = [0; CLOCKS];
-        let mut clocks = Clocks { ticks: none, top: none, past_top: none, count: section.len() / 16 };
+        let mut clocks = Clocks { ticks: none, past_top: none, count: section.len() / 16 };
         let mut wrong = false;
         for (clock, record) in records(section).enumerate() {
             let (timing, ticks, clock) = (record.byte(1), record.u16(2), clock & 255);
             wrong |=
                 record.strays(span(0, 3)) || !(2..=3).contains(&timing) || ticks.wrapping_sub(1) >= 36_000;
-            let after = ticks.wrapping_add(1);
             clocks.ticks[clock] = ticks;
-            (clocks.top[clock], clocks.past_top[clock]) =
-                if timing == 2 { (after, after) } else { (ticks, 1) };
+            clocks.past_top[clock] = if timing == 2 { ticks } else { 1 };
         }
         (clocks, wrong)
     }
@@ -298,7 +295,7 @@ impl Machine for Table {
     fn places_possible(&self, run: &AutomataRun) -> bool {
         let mut over = 0u16;
         for clock in 0..CLOCKS {
-            over |= run.clocks[clock].saturating_sub(self.clocks.top[clock]);
+            over |= run.clocks[clock].saturating_sub(self.clocks.ticks[clock]);
         }
         (over == 0)
             & homes_possible(&self.homes, self.automata, &run.locations)
@@ -322,7 +319,7 @@ impl Machine for Table {
     #[inline(always)]
     fn grow(&self, run: &mut AutomataRun) {
         let used = self.clocks.count.next_multiple_of(16).min(CLOCKS);
-        let (top, past_top) = (&self.clocks.top[..used], &self.clocks.past_top[..used]);
+        let (top, past_top) = (&self.clocks.ticks[..used], &self.clocks.past_top[..used]);
         let clocks = &mut run.clocks[..used];
         for clock in 0..used {
             let x = clocks[clock];

@@ -250,7 +250,7 @@ impl Set {
         let triggered = match transition.trigger {
             ALWAYS => true,
             EVENT => run.events & transition.mask != 0,
-            AFTER => age == transition.ticks,
+            AFTER => age >= transition.ticks,
             _ => age >= transition.ticks && age.is_multiple_of(transition.ticks),
         };
         Ok(triggered && (transition.guard == NONE || self.nodes.truth(&run.variables, transition.guard)?))
