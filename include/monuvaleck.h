@@ -22,6 +22,7 @@
  *
  * TIME. Turns are taken in file order of the charts, at the positions 1 to n of a cycle for n charts; at position n + 1 time passes. A cycle is 100 ms.
  * Time empties the events, adds 1 to the ages and to the cycle count, and lets clocks grow; then the position is 1 again.
+ * A transition after d ticks is due at age d and at every later age until its state is left, one every d ticks at the ages d, 2 d, 3 d, .. alone.
  *
  * EVENTS. The events given at position 1 are present for all charts of that cycle. An event that a chart raises is present for the later charts of the same cycle
  * only: not for those before it, and not in the next cycle. A cycle ends with time, so one that is done leaves no events: after charts_cycle run.events is 0, whatever
@@ -115,7 +116,7 @@ typedef struct {
 /* A run of an automata table. Places past the table's own automata, clocks and variables are 0. */
 typedef struct {
     uint16_t locations[8]; /* of each automaton its present location */
-    uint16_t clocks[256];  /* the clocks, in ticks */
+    uint16_t clocks[256];  /* the clocks, in ticks, none above its own */
     int16_t variables[64];
     uint32_t events;
     uint32_t position;
