@@ -2,7 +2,7 @@
 //! and on refused files. After each call the answer and the whole run are compared with the simulator's.
 
 use crate::met::Met;
-use crate::monuvaleck::Stepped;
+use crate::monuvaleck::{Stepped, IDLE, TIME};
 use crate::sides::{Places, Side};
 use simulator::generate::calls::{call_list, mask, Call};
 use simulator::{Answer, Random};
@@ -83,8 +83,8 @@ impl<S: Side> File<S> {
 /// What a call met, by its answer.
 fn note(met: &mut Met, call: Call, answer: i32) {
     met.add(match (call, answer) {
-        (Call::Turn(_), 65_534) => "turn: idle".to_string(),
-        (Call::Turn(_), 65_535) => "turn: time".to_string(),
+        (Call::Turn(_), IDLE) => "turn: idle".to_string(),
+        (Call::Turn(_), TIME) => "turn: time".to_string(),
         (Call::Turn(_), 0..) => "turn: taken".to_string(),
         (Call::Cycle(_), 0..) => "cycle: done".to_string(),
         (Call::Turn(_), number) => format!("turn: {}", -number),
@@ -140,7 +140,7 @@ pub fn call_lists<S: Side>(seed: u64, also: impl Fn(&mut Met, &S, &S::Run, Call,
                     }
                     (Call::Cycle(_), 0) if within => met.add("cycle: from within"),
                     (Call::Cycle(_), 0) if last => met.add("cycle: the last"),
-                    (Call::Turn(_), 65_535) if last => met.add("turn: the last"),
+                    (Call::Turn(_), TIME) if last => met.add("turn: the last"),
                     _ => {}
                 }
             }

@@ -2,6 +2,10 @@
 
 use simulator::{AutomataRun, ChartsRun};
 
+/// What a turn answers where a chart idles, and where time passes.
+pub const IDLE: i32 = 65_534;
+pub const TIME: i32 = 65_535;
+
 mod exported {
     use simulator::{AutomataRun, ChartsRun};
 

@@ -2,14 +2,13 @@
 
 use comparison::calls::{self, File};
 use comparison::met::Met;
+use comparison::monuvaleck::{IDLE, TIME};
 use simulator::chart_sets::{ring, zero_watch};
 use simulator::charts::Trigger;
 use simulator::generate::calls::Call;
 use simulator::generate::sets::{valid_set, Size};
 use simulator::timing::Timing;
 use simulator::{ChartSet, ChartsRun, Random};
-
-const IDLE: i32 = 65_534;
 
 /// Of a turn that took a transition with `after`: whether it was due just then, or had to wait.
 fn note_due(met: &mut Met, set: &ChartSet, before: &ChartsRun, call: Call, answer: i32) {
@@ -65,7 +64,7 @@ fn few_and_many_states() {
             }
             let last = i32::from(2 * (states - 2) + 1);
             assert_eq!(file.call(&mut run, Call::Turn(1)), last, "by the event, to state 1");
-            assert_eq!((run.states[0], file.call(&mut run, Call::Turn(0))), (1, 65_535));
+            assert_eq!((run.states[0], file.call(&mut run, Call::Turn(0))), (1, TIME));
         }
     }
 }

@@ -1,16 +1,13 @@
 //! Sets beside their twins, through the proved code alone: the same calls, and after each the runs correspond.
 
 use comparison::met::Met;
-use comparison::monuvaleck::{charts_translate, Stepped};
+use comparison::monuvaleck::{charts_translate, Stepped, IDLE, TIME};
 use simulator::correspondence::correspond;
 use simulator::generate::calls::{call_list, events_of_set, Call};
 use simulator::generate::sets::{valid_set, Size};
 use simulator::generate::states::late_count;
 use simulator::generate::waiting_sets::waiting_set;
 use simulator::{AutomataRun, AutomataTable, ChartSet, ChartsRun, Random};
-
-const IDLE: i32 = 65_534;
-const TIME: i32 = 65_535;
 
 /// A set and its twin, both as bytes that the proved code reads, with their runs.
 struct Pair {
