@@ -15,8 +15,10 @@ use Rattle.expressions.specs.Values.{number, truth}
 use Rattle.model.specs.Outcome.{Outcome}
 use Rattle.model.specs.Runs.{Run}
 use Rattle.model.specs.ChartSet.{readCharts}
+use Rattle.model.specs.Charts.{ticks}
+use Rattle.model.specs.AutomataTable.{readAutomata}
 use Rattle.model.specs.AutomataFile.{AutomataFile}
-use Rattle.model.specs.Translation.{twinBytes, translate}
+use Rattle.model.specs.Translation.{twinBytes, translate, Translation}
 use Rattle.model.specs.PathBack.{ledBack, PathBack}
 use Rattle.model.specs.Calls.{Format, chartSets, automataTables, startCall, turnCall, cycleCall, numbered, answerCode}
 use Rattle.model.specs.Replay.{Replayed, replay, Replay}
@@ -227,17 +229,50 @@ check-rows : Agree checks
 unfolding PathBack AutomataFile
 check-rows = (refl, (refl, (refl, (refl, (refl, (refl, (refl, (refl, (refl, (refl, (refl, (refl, (refl, (refl, (refl, (refl, (refl, (refl, (refl, (refl, (refl, (refl, (refl, tt)))))))))))))))))))))))
 
--- ---- after: state 2 of `waiting` is left after 3 ticks
+-- ---- after: state 2 of `waiting` is left after its milliseconds
 
-abbrev aged : (age : ℕ) → ℤ
-aged age = turn (waiting 300) (run (2 ∷ []) (age ∷ []) [] 0 1 36_000)
+abbrev aged : (ms age : ℕ) → ℤ
+aged ms age = turn (waiting ms) (run (2 ∷ []) (age ∷ []) [] 0 1 36_000)
 
 abbrev dues : List (ℤ × ℤ)
-dues = (aged 2, pos 65534) ∷ (aged 3, pos 2) ∷ (aged 4, pos 2) ∷ (aged 36_000, pos 2) ∷ []
+dues =
+    (aged 300 2, pos 65534)
+    ∷ (aged 300 3, pos 2)
+    ∷ (aged 300 4, pos 2)
+    ∷ (aged 300 36_000, pos 2)
+    -- exact halves: 2 ticks and 4
+    ∷ (aged 250 1, pos 65534)
+    ∷ (aged 250 2, pos 2)
+    ∷ (aged 350 3, pos 65534)
+    ∷ (aged 350 4, pos 2)
+    ∷ []
 
 due-rows : Agree dues
 unfolding PathBack AutomataFile
-due-rows = (refl, (refl, (refl, (refl, tt))))
+due-rows = (refl, (refl, (refl, (refl, (refl, (refl, (refl, (refl, tt))))))))
+
+-- ---- rounding: the ticks of a time, and those of the clock that the twin of `waiting` has for it
+
+abbrev twinTicks : (ms : ℕ) → List ℕ
+twinTicks ms = map (λ c. c .ticks) (readAutomata (twinBytes (waiting ms)) .clocks)
+
+abbrev rounded : List (List ℕ × List ℕ)
+rounded =
+    (ticks 50 ∷ [], 0 ∷ [])
+    ∷ (ticks 51 ∷ twinTicks 51, 1 ∷ 1 ∷ [])
+    ∷ (ticks 149 ∷ twinTicks 149, 1 ∷ 1 ∷ [])
+    ∷ (ticks 150 ∷ twinTicks 150, 2 ∷ 2 ∷ [])
+    ∷ (ticks 249 ∷ twinTicks 249, 2 ∷ 2 ∷ [])
+    ∷ (ticks 250 ∷ twinTicks 250, 2 ∷ 2 ∷ [])
+    ∷ (ticks 251 ∷ twinTicks 251, 3 ∷ 3 ∷ [])
+    ∷ (ticks 350 ∷ twinTicks 350, 4 ∷ 4 ∷ [])
+    ∷ (ticks 3_599_950 ∷ twinTicks 3_599_950, 36_000 ∷ 36_000 ∷ [])
+    ∷ (ticks 3_600_000 ∷ twinTicks 3_600_000, 36_000 ∷ 36_000 ∷ [])
+    ∷ []
+
+tick-rows : Agree rounded
+unfolding Translation
+tick-rows = (refl, (refl, (refl, (refl, (refl, (refl, (refl, (refl, (refl, (refl, tt))))))))))
 
 -- ---- 20: the path's 1,000,000 cycles
 

@@ -130,10 +130,13 @@ files =
     ∷ (refused (guardedBy 0 (constant 1)), 8)
     ∷ (refused (assigningNode 2 (constant 1 ++ constant 2 ++ binary 17 0 1)), 8)
     ∷ (refused (assigningNode 2 (constant 1 ++ constant 2 ++ binary 3 0 1)), 0)
-    -- 9: timing triggers of 0 ticks, after and every; 50 ms are one tick
+    -- 9: timing triggers of 0 ticks, after and every; 50 ms are an exact half, 51 are one tick
     ∷ (refused (waiting 49), 9)
     ∷ (refused (everyFew 49), 9)
-    ∷ (refused (waiting 50), 0)
+    ∷ (refused (waiting 50), 9)
+    ∷ (refused (everyFew 50), 9)
+    ∷ (refused (waiting 51), 0)
+    ∷ (refused (everyFew 51), 0)
     -- the lowest of two
     ∷ (refused (edited zeroWatch ((1, 1) ∷ (65, 0) ∷ [])), 4)
     ∷ (refused (edited zeroWatch ((65, 0) ∷ (2, 3) ∷ [])), 5)
@@ -147,7 +150,7 @@ files =
 file-examples : Agree files
 unfolding ChartFile
 file-examples =
-    (refl, (refl, (refl, (refl, (refl, (refl, (refl, (refl, (refl, (refl, (refl, (refl, (refl, (refl, (refl, (refl, (refl, (refl, (refl, (refl, (refl, (refl, (refl, (refl, (refl, (refl, (refl, (refl, (refl, (refl, (refl, (refl, (refl, (refl, (refl, (refl, (refl, (refl, (refl, (refl, (refl, (refl, (refl, (refl, (refl, (refl, (refl, (refl, (refl, (refl, (refl, (refl, (refl, (refl, (refl, (refl, (refl, (refl, (refl, (refl, (refl, (refl, (refl, (refl, (refl, (refl, (refl, (refl, (refl, (refl, (refl, (refl, (refl, (refl, (refl, (refl, (refl, (refl, (refl, (refl, (refl, (refl, (refl, (refl, (refl, (refl, (refl, (refl, (refl, (refl, (refl, (refl, (refl, (refl, tt))))))))))))))))))))))))))))))))))))))))))))))))))))))))))))))))))))))))))))))))))))))))))))))
+    (refl, (refl, (refl, (refl, (refl, (refl, (refl, (refl, (refl, (refl, (refl, (refl, (refl, (refl, (refl, (refl, (refl, (refl, (refl, (refl, (refl, (refl, (refl, (refl, (refl, (refl, (refl, (refl, (refl, (refl, (refl, (refl, (refl, (refl, (refl, (refl, (refl, (refl, (refl, (refl, (refl, (refl, (refl, (refl, (refl, (refl, (refl, (refl, (refl, (refl, (refl, (refl, (refl, (refl, (refl, (refl, (refl, (refl, (refl, (refl, (refl, (refl, (refl, (refl, (refl, (refl, (refl, (refl, (refl, (refl, (refl, (refl, (refl, (refl, (refl, (refl, (refl, (refl, (refl, (refl, (refl, (refl, (refl, (refl, (refl, (refl, (refl, (refl, (refl, (refl, (refl, (refl, (refl, (refl, (refl, (refl, (refl, tt)))))))))))))))))))))))))))))))))))))))))))))))))))))))))))))))))))))))))))))))))))))))))))))))))
 
 -- ---- automata files
 

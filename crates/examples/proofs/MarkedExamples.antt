@@ -37,8 +37,10 @@ table =
     ∷ (translated 480, pos 480 ∷ [])
     ∷ (translated 479, negsuc 9 ∷ [])
     ∷ (two± (0xfd ∷ 0xff ∷ []) 0 ∷ [], negsuc 2 ∷ [])
-    ∷ (pos (ticks 249) ∷ pos (ticks 250) ∷ [], pos 2 ∷ pos 3 ∷ [])
+    -- request 3: 250 ms are an exact half, and so are 50
+    ∷ (pos (ticks 249) ∷ pos (ticks 250) ∷ [], pos 2 ∷ pos 2 ∷ [])
     ∷ (numbered (λ _. 0) (check chartSets (waiting 49)) ∷ [], negsuc 8 ∷ [])
+    ∷ (numbered (λ _. 0) (check chartSets (waiting 50)) ∷ [], negsuc 8 ∷ [])
     ∷ (
       lines (waiting 300) (0 ∷ 0 ∷ 0 ∷ 0 ∷ 1 ∷ 0 ∷ 0 ∷ 0 ∷ 0 ∷ []),
       text (ascii "0 0 0 1\n1 0 - 1\n2 0 - 1\n3 0 - 1\n4 0 1 2\n5 0 - 2\n6 0 - 2\n7 0 2 3\n8 0 - 3\n"),
@@ -56,4 +58,4 @@ table =
 
 marked : Agree table
 unfolding Replay Translation
-marked = (refl, (refl, (refl, (refl, (refl, (refl, (refl, (refl, (refl, (refl, tt))))))))))
+marked = (refl, (refl, (refl, (refl, (refl, (refl, (refl, (refl, (refl, (refl, (refl, tt)))))))))))

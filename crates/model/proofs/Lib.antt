@@ -1,4 +1,5 @@
 pub mod ChartsRow
+pub mod ChartsTicks
 pub mod AutomataOpen
 pub mod CorrespondenceTime
 pub mod TranslationOrigins

@@ -24,6 +24,7 @@ use Rattle.model.specs.AutomataFile.{literalTriggerNamed, tableNamed, cl
 use Rattle.model.specs.Translation.{Origin, from-transition, from-idling, clocksOf, stateCount, transitionCount, edgeOf, clockOf, literalTriggerOf, literal, triedBefore, literalsOf, updatesOf, clocksLeaving, resetsOf, twin}
 use Rattle.prelude.proofs.Bools.{and-left, and-right, both-of, of-true, eq→eqb}
 use Rattle.prelude.proofs.Lists.{all-getD, all-getD-or, all-append, all-cons, all-nil, all-mapped, all-imp, all-keep, all-both, all-gather, all-upto, gather-all}
+use Rattle.model.proofs.ChartsTicks.{ticks-nearest}
 use Rattle.model.proofs.ChartFile.{codedTrigger, codedTransition, initial-named, homes-named, nodes-named, entries-named, exits-named, transition-actions-named, source-in, target-in, guard-in, transitions-coded, transition-same-chart, initial-home, operands-fit, guards-truths, assigned-numbers, used-once, triggers-tick}
 use Rattle.model.proofs.TranslationOrigins.{IsOrigin, all-edges, byEdge-all}
 use Rattle.model.proofs.TranslationClocks.{clockOf-in}
@@ -221,7 +222,7 @@ module _ (s : List ℕ) (ok : chartsRefusal s ≡ none) where
       of-duration ms d t =
           let l : ms ≤ 3_600_000 = leb→le ms 3_600_000 (and-right (leb 1 ms) (leb ms 3_600_000) d) in
           let m : 0 < ticks ms = ltb→lt 0 (ticks ms) t in
-          both-of (leb 1 (ticks ms)) (leb (ticks ms) 36_000) (le→leb 1 (ticks ms) (omega arith)) (le→leb (ticks ms) 36_000 (omega arith))
+          both-of (leb 1 (ticks ms)) (leb (ticks ms) 36_000) (le→leb 1 (ticks ms) m) (le→leb (ticks ms) 36_000 (omega (arith, l, ticks-nearest ms .0)))
 
       of-trigger : (g : Trigger) → T (codedTrigger g) → T (ticking g) → T (all ticks-fit (clocksOf g))
       of-trigger C.always d t = all-nil ticks-fit

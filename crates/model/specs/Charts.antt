@@ -14,9 +14,13 @@ use Rattle.model.specs.ChartSet.{Trigger, always, event, after, every, C
 
 -- ---- time
 
--- "A tick is one cycle, 100 ms; ticks are milliseconds / 100 to the nearest, halves up."
+-- of n and n + 1 the even one
+abbrev pub evenFrom : ℕ → ℕ
+evenFrom n = n + n % 2
+
+-- "A tick is one cycle, 100 ms; ticks are milliseconds / 100 to the nearest", "with exact halves to the even tick" (request 3).
 abbrev pub ticks : ℕ → ℕ
-ticks ms = (ms + 50) / 100
+ticks ms = cond (eqb (ms % 100) 50) (evenFrom (ms / 100)) ((ms + 50) / 100)
 
 -- "After d now holds at age d and at every later age until the state is left" (request 2); "every d at positive multiples of d."
 abbrev pub afterHolds : ℕ → ℕ → Bool

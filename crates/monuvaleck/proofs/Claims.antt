@@ -4,7 +4,7 @@ use mathlib.Core.Path.{_≡_, ap}
 use mathlib.Core.Option.{some, none}
 use mathlib.Core.Bool.{true, not, _&&_}
 use mathlib.Core.List.{List, _∷_, _++_}
-use Prim.Native.Nat.{ℕ, _-_, _/_, _≤_, _<_}
+use Prim.Native.Nat.{ℕ, _+_, _-_, _*_, _/_, _%_, _≤_, _<_}
 use Prim.Native.Char.{code}
 use lib.Dec.{T, ltb}
 use lib.ListN.{length, take}
@@ -15,7 +15,7 @@ use Rattle.expressions.specs.Nodes.{nodeAt}
 use Rattle.model.specs.Outcome.{settled}
 use Rattle.model.specs.Runs.{Run, Call, start, turn, cycle}
 use Rattle.model.specs.ChartSet.{readCharts}
-use Rattle.model.specs.Charts.{charts}
+use Rattle.model.specs.Charts.{ticks, charts}
 use Rattle.model.specs.ChartFile.{chartsRefusal}
 use Rattle.model.specs.AutomataTable.{readAutomata}
 use Rattle.model.specs.Automata.{automata}
@@ -25,6 +25,7 @@ use Rattle.model.specs.PathBack.{walkStart, ledBack, rowsWritten, pathBack}
 use Rattle.model.specs.Calls.{Format, startCall, turnCall, cycleCall}
 use Rattle.model.specs.Correspondence.{Demand₃}
 use Rattle.model.specs.TakenPath.{takenPath, takenRows}
+use Rattle.model.proofs.ChartsTicks.{ticks-nearest, ticks-only}
 use Rattle.model.proofs.CorrespondenceDemand3.{demand-3}
 use Rattle.model.proofs.TranslationWritten.{twin-back}
 use Rattle.model.proofs.TranslationAccepted.{twin-accepted}
@@ -156,3 +157,11 @@ reader-complete = lineTree-complete
 
 grammar-unambiguous : (t u : Tree) (s : List ℕ) → Line t s → Line u s → t ≡ u
 grammar-unambiguous = Line-unique
+
+-- ---- "to the nearest 100 ms with exact halves to the even tick": the ticks of a time are that, and nothing else is
+
+times-rounded : (ms : ℕ) → (100 * ticks ms ≤ ms + 50) × (ms ≤ 100 * ticks ms + 50) × (ms % 100 ≡ 50 → ticks ms % 2 ≡ 0)
+times-rounded = ticks-nearest
+
+rounding-unique : (ms t : ℕ) → 100 * t ≤ ms + 50 → ms ≤ 100 * t + 50 → (ms % 100 ≡ 50 → t % 2 ≡ 0) → t ≡ ticks ms
+rounding-unique ms t above below even = ticks-only ms t (above, below, even)

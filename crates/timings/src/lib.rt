@@ -8,11 +8,16 @@ ghost use Rattle.timings.specs.Growth.{timingIf, mostTop, turnFor, capFo
 
 // ---- charts
 
-// A tick is 100 milliseconds, to the nearest, halves up.
+// A tick is 100 milliseconds; to the nearest, an exact half to the even tick.
 pub fn ticks(ms: u32) -> u64
     ensures { λ r. ⌜ r ≡ ticks ms ⌝ }
 {
-    ((ms as u64) + 50) / 100
+    let down = (ms as u64) / 100;
+    let past = ms % 100;
+    if past < 50 {
+        return down;
+    }
+    if past > 50 { down + 1 } else { down + down % 2 }
 }
 
 // From age d on.
