@@ -140,6 +140,35 @@ pub fn held_back() -> Vec<u8> {
     .bytes()
 }
 
+/// Exact halves go to the even tick: 150 and 250 ms are 2 ticks, 350 and 450 ms are 4. Chart 0 goes round its
+/// states 1 to 4 by "after" with each of these times, chart 1 round its states 6 to 9 by "every". States 11 and 12
+/// of chart 2 are left by two times of as many ticks, the longer one first in priority, so the other is never taken.
+pub fn halves() -> Vec<u8> {
+    SetParts {
+        charts: vec![chart(0), chart(5), chart(10)],
+        states: [0, 0, 0, 0, 0, 1, 1, 1, 1, 1, 2, 2, 2].map(state).to_vec(),
+        transitions: vec![
+            transition(1, 0, 1),
+            after(transition(1, 1, 2), 150),
+            after(transition(1, 2, 3), 250),
+            after(transition(1, 3, 4), 350),
+            after(transition(1, 4, 1), 450),
+            transition(1, 5, 6),
+            every(transition(1, 6, 7), 150),
+            every(transition(1, 7, 8), 250),
+            every(transition(1, 8, 9), 350),
+            every(transition(1, 9, 6), 450),
+            transition(1, 10, 11),
+            after(transition(1, 11, 12), 250),
+            every(transition(2, 11, 11), 150),
+            every(transition(1, 12, 11), 450),
+            after(transition(2, 12, 12), 350),
+        ],
+        ..SetParts::default()
+    }
+    .bytes()
+}
+
 /// Chart 0 raises event 5 whenever event 0 comes; chart 1, later in the cycle, answers it by
 /// raising event 6, which chart 0 waits for in vain: an event lasts for later charts only.
 pub fn relay() -> Vec<u8> {
@@ -242,6 +271,7 @@ pub fn all() -> Vec<(&'static str, Vec<u8>)> {
         ("one_after", one_after(300)),
         ("winch", winch()),
         ("held_back", held_back()),
+        ("halves", halves()),
         ("relay", relay()),
         ("action_order", action_order()),
         ("guarded_division", guarded_division()),

@@ -1,9 +1,11 @@
 //! Ticks, the rules of after and every, and the clocks that stand for a state's age.
 
 use crate::records::AFTER;
+use std::cmp::Ordering;
 
 /// Milliseconds a tick, which is one cycle.
 pub const TICK_MILLISECONDS: u32 = 100;
+pub const HALF_TICK_MILLISECONDS: u32 = TICK_MILLISECONDS / 2;
 
 /// The cycles a run may do.
 pub const MOST_CYCLES: u32 = 1_000_000;
@@ -24,9 +26,15 @@ impl Timing {
     }
 }
 
-/// Milliseconds / 100 to the nearest, halves up.
+/// Milliseconds / 100 to the nearest, exact halves to the even tick.
 pub fn ticks(milliseconds: u32) -> u32 {
-    (milliseconds + TICK_MILLISECONDS / 2) / TICK_MILLISECONDS
+    let below = milliseconds / TICK_MILLISECONDS;
+    let past = milliseconds % TICK_MILLISECONDS;
+    match past.cmp(&HALF_TICK_MILLISECONDS) {
+        Ordering::Less => below,
+        Ordering::Equal if below.is_multiple_of(2) => below,
+        Ordering::Equal | Ordering::Greater => below + 1,
+    }
 }
 
 /// After d holds at age d and at every later age until the state is left; every d at positive

@@ -154,21 +154,27 @@ fn five_codes_and_ranges() {
     assert_eq!(changed(FIRST_VARIABLE, &[(6, 0x9B), (7, 0xFF)]), 5);
 }
 
-fn timed_set(milliseconds: u32) -> u32 {
-    let mut bytes = winch();
-    bytes[16 * 6 + 8..16 * 6 + 12].copy_from_slice(&milliseconds.to_le_bytes());
-    check(&bytes)
+/// The winch set with other milliseconds of its after and of its every, one at a time.
+fn timed_sets(milliseconds: u32) -> [u32; 2] {
+    [6, 8].map(|record| {
+        let mut bytes = winch();
+        bytes[16 * record + 8..16 * record + 12].copy_from_slice(&milliseconds.to_le_bytes());
+        check(&bytes)
+    })
 }
 
 #[test]
 fn five_and_nine_milliseconds() {
-    assert_eq!(timed_set(0), 5);
-    assert_eq!(timed_set(1), 9);
-    assert_eq!(timed_set(49), 9);
-    assert_eq!(timed_set(50), 0);
-    assert_eq!(timed_set(3_600_000), 0);
-    assert_eq!(timed_set(3_600_001), 5);
-    assert_eq!(timed_set(u32::MAX), 5);
+    assert_eq!(timed_sets(0), [5, 5]);
+    assert_eq!(timed_sets(1), [9, 9]);
+    assert_eq!(timed_sets(49), [9, 9]);
+    assert_eq!(timed_sets(50), [9, 9], "a half goes to the even 0");
+    assert_eq!(timed_sets(51), [0, 0]);
+    assert_eq!(timed_sets(3_600_000), [0, 0]);
+    assert_eq!(timed_sets(3_600_001), [5, 5]);
+    // Half a tick past the range is refused by 5, however it would be rounded.
+    assert_eq!(timed_sets(3_600_050), [5, 5]);
+    assert_eq!(timed_sets(u32::MAX), [5, 5]);
 }
 
 #[test]
@@ -317,7 +323,7 @@ fn a_choice_takes_a_truth_and_two_numbers() {
 fn the_lowest_number_is_given() {
     // 9 with 8: a node too many; with 7: equal priorities; and so on down.
     let mut parts = two_charts();
-    parts.transitions[1] = after(guarded(parts.transitions[1], 2), 49);
+    parts.transitions[1] = after(guarded(parts.transitions[1], 2), 50);
     assert_eq!(check(&parts.bytes()), 9);
     parts.nodes.push(constant(0));
     assert_eq!(check(&parts.bytes()), 8);

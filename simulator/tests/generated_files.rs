@@ -4,7 +4,9 @@
 use simulator::automata::{self, AutomataTable};
 use simulator::charts::{self, ChartSet, Trigger};
 use simulator::generate::buffers::{bytes, lengths, FILL};
+use simulator::generate::longest_twins::longest;
 use simulator::generate::sets::{any_valid_set, valid_set, Size};
+use simulator::generate::waiting_sets::waiting_set;
 use simulator::generate::{set_damage, table_damage, tables};
 use simulator::records::*;
 use simulator::translation::{translate, twin};
@@ -74,6 +76,34 @@ fn sets_have_what_they_are_made_for() {
     }
     for (what, times) in found {
         assert!(times >= 5, "{what}: {times} of 300");
+    }
+}
+
+/// The milliseconds of a set's timing triggers.
+fn times(set: &[u8]) -> Vec<u32> {
+    let timed = |record: &&Record| record[0] == TRANSITION && matches!(record[6], AFTER | EVERY);
+    whole_records(set).iter().filter(timed).map(|record| read_u32(record, 8)).collect()
+}
+
+type Make = fn(&mut Random) -> Vec<u8>;
+
+#[test]
+fn exact_halves_come_often_and_their_neighbours_at_times() {
+    let makes: [(&str, usize, Make); 5] = [
+        ("tiny", 2_000, |random| valid_set(random, Size::Tiny)),
+        ("middling", 400, |random| valid_set(random, Size::Middling)),
+        ("largest", 80, |random| valid_set(random, Size::Largest)),
+        ("waiting", 3_000, waiting_set),
+        ("longest", 20, longest),
+    ];
+    for (what, sets, make) in makes {
+        let mut random = Random::new(11);
+        let all: Vec<u32> = (0..sets).flat_map(|_| times(&make(&mut random))).collect();
+        let percent =
+            |past: u32, of: u32| 100 * all.iter().filter(|time| *time % of == past).count() / all.len();
+        assert!((25..=35).contains(&percent(50, 100)), "{what}: {} percent halves", percent(50, 100));
+        assert!(percent(50, 200) >= 9 && percent(150, 200) >= 9, "{what}: above even and odd ticks");
+        assert!(percent(49, 100) >= 5 && percent(51, 100) >= 5, "{what}: just below and above");
     }
 }
 

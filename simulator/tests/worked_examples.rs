@@ -1,13 +1,13 @@
-//! The worked examples of the scope paper.
+//! The worked examples of the scope paper, as the change requests done so far leave them.
 
-use simulator::assemble::{constant, operation};
-use simulator::chart_sets::{held_back, one_after, one_assignment, one_expression, zero_watch};
+use simulator::assemble::{constant, file, operation};
+use simulator::chart_sets::{halves, held_back, one_after, one_assignment, one_expression, zero_watch};
 use simulator::charts::ChartSet;
 use simulator::operators::{LESS, QUOTIENT, REMAINDER};
 use simulator::records::*;
 use simulator::replay::replay;
 use simulator::timing::ticks;
-use simulator::translation::translate;
+use simulator::translation::{translate, twin};
 use simulator::Machine;
 use simulator::{automata, charts, Answer, AutomataTable};
 
@@ -146,15 +146,37 @@ fn fd_ff_is_minus_three() {
     assert_eq!(charts::check(&one_assignment(-3, 5, 0, 0)), 0);
 }
 
+#[rustfmt::skip]
+const ROUNDED: [(u32, u32); 21] = [
+    (0, 0), (49, 0), (50, 0), (51, 1),
+    (149, 1), (150, 2), (151, 2),
+    (249, 2), (250, 2), (251, 3),
+    (349, 3), (350, 4), (351, 4),
+    (450, 4), (550, 6),
+    (3_599_949, 35_999), (3_599_950, 36_000), (3_599_951, 36_000), (3_600_000, 36_000),
+    // Beyond the range too: the last half, and the last number.
+    (4_294_967_250, 42_949_672), (4_294_967_295, 42_949_673),
+];
+
 #[test]
-fn milliseconds_round_to_the_nearest_tick_halves_up() {
-    for (milliseconds, expected) in
-        [(249, 2), (250, 3), (49, 0), (50, 1), (149, 1), (150, 2), (3_600_000, 36_000), (3_599_950, 36_000)]
-    {
+fn milliseconds_round_to_the_nearest_tick_halves_to_the_even() {
+    for (milliseconds, expected) in ROUNDED {
         assert_eq!(ticks(milliseconds), expected, "{milliseconds} ms");
     }
     assert_eq!(charts::check(&one_after(49)), 9);
-    assert_eq!(charts::check(&one_after(50)), 0);
+    assert_eq!(charts::check(&one_after(50)), 9);
+    assert_eq!(charts::check(&one_after(51)), 0);
+}
+
+/// Less than half a tick away there is one tick at most; half a tick away there are two, one of them even.
+#[test]
+fn no_tick_is_nearer_and_of_two_as_near_the_even_one_is_given() {
+    for milliseconds in 1..=3_600_000 {
+        let given = ticks(milliseconds);
+        let distance = (100 * given).abs_diff(milliseconds);
+        assert!(distance <= 50, "{milliseconds} ms as {given} ticks");
+        assert!(distance < 50 || given.is_multiple_of(2), "{milliseconds} ms as {given} ticks");
+    }
 }
 
 /// Plays one cycle a mask; the transition of chart 0 in each, none where it idles.
@@ -185,9 +207,63 @@ fn entered_in_cycle_four_after_three_fires_in_cycle_seven() {
     expected[7] = None;
     expected[8] = Some(2);
     assert_eq!(taken, expected);
-    // 249 ms is 2 ticks and 250 is 3.
-    assert_eq!(transitions(&one_after(249), &[0, 0, 0, 0, 1, 0, 0, 0])[6], Some(2));
-    assert_eq!(transitions(&one_after(250), &[0, 0, 0, 0, 1, 0, 0, 0])[7], Some(2));
+    // 249 and 250 ms are 2 ticks, 251 is 3, and 350 is 4.
+    for (milliseconds, cycle) in [(249, 6), (250, 6), (251, 7), (350, 8)] {
+        let taken = transitions(&one_after(milliseconds), &[0, 0, 0, 0, 1, 0, 0, 0, 0, 0]);
+        let fires = taken.iter().position(|transition| *transition == Some(2));
+        assert_eq!(fires, Some(cycle), "{milliseconds} ms");
+    }
+}
+
+/// The lines of 25 cycles in which a transition is taken, as cycle, transition, state after.
+fn moves(set: &[u8], chart: &str) -> Vec<[u16; 3]> {
+    let lines = replay(set, &masks(&[0; 25])).lines;
+    let words = lines.lines().map(|line| line.split(' ').collect::<Vec<&str>>());
+    let taken = words.filter(|words| words[1] == chart && words[2] != "-");
+    taken.map(|words| [0, 2, 3].map(|at| words[at].parse().unwrap())).collect()
+}
+
+#[test]
+fn halves_move_on_after_two_and_four_ticks() {
+    // 2, 2, 4 and 4 ticks make a round of 12 cycles.
+    let after = [[0, 0, 1], [2, 1, 2], [4, 2, 3], [8, 3, 4], [12, 4, 1]];
+    let again = [[14, 1, 2], [16, 2, 3], [20, 3, 4], [24, 4, 1]];
+    let round = [&after[..], &again[..]].concat();
+    assert_eq!(moves(&halves(), "0"), round);
+    // Chart 1 does the same by the next five transitions.
+    let every: Vec<[u16; 3]> = round.iter().map(|[cycle, by, to]| [*cycle, by + 5, to + 5]).collect();
+    assert_eq!(moves(&halves(), "1"), every);
+    // Chart 2: two times fall due together, and the higher priority is taken.
+    let first = [[0, 10, 11], [2, 11, 12], [6, 13, 11], [8, 11, 12], [12, 13, 11]];
+    let then = [[14, 11, 12], [18, 13, 11], [20, 11, 12], [24, 13, 11]];
+    assert_eq!(moves(&halves(), "2"), [&first[..], &then[..]].concat());
+}
+
+/// The set with whole ticks as times, which all roundings leave alone, worked out of the whole ticks below each half.
+fn halves_as(rounded: impl Fn(u32) -> u32) -> Vec<u8> {
+    let mut records = whole_records(&halves()).to_vec();
+    for record in records.iter_mut().filter(|record| record[0] == TRANSITION && record[6] >= AFTER) {
+        let below = read_u32(record, 8) / 100;
+        write_u32(record, 8, 100 * rounded(below));
+    }
+    file(records)
+}
+
+#[test]
+fn the_replay_of_halves_tells_every_other_rounding() {
+    let lines = |set: &[u8]| replay(set, &masks(&[0; 25])).lines;
+    let even = lines(&halves());
+    assert_eq!(lines(&halves_as(|below| below + below % 2)), even);
+    assert_ne!(lines(&halves_as(|below| below + 1)), even, "up");
+    assert_ne!(lines(&halves_as(|below| below)), even, "down");
+    assert_ne!(lines(&halves_as(|below| below + 1 - below % 2)), even, "to the odd tick");
+}
+
+#[test]
+fn the_clocks_of_the_twin_of_halves_have_two_and_four_ticks() {
+    let table = AutomataTable::read(&twin(&ChartSet::read(&halves()).unwrap())).unwrap();
+    let ticks: Vec<u16> = table.clocks.iter().map(|clock| clock.ticks).collect();
+    assert_eq!(ticks, [2, 2, 4, 4, 2, 2, 4, 4, 2, 2, 4, 4]);
 }
 
 #[test]

@@ -157,13 +157,13 @@ static void damage_records(file *f)
     }
 }
 
-/* Other milliseconds in one transition, about those of 0, 1 and 2 ticks. */
+/* Other milliseconds in one transition: exact halves, and times about those of 0 to 4 ticks. */
 static void damage_timing(file *f)
 {
     size_t transitions = count_of(f->bytes, f->len, TRANSITION);
     if (transitions > 0) {
         uint8_t *one = f->bytes + first_of(f->bytes, f->len, TRANSITION) + RECORD * below(transitions);
-        set_four(one, 8, (uint32_t)(45 + 100 * below(3) + below(10)));
+        set_four(one, 8, (uint32_t)(100 * below(4) + (chance(1, 2) ? 50 : 45 + below(10))));
     }
 }
 
@@ -433,6 +433,13 @@ static void translates(int32_t check)
 
 /* ---- twin and charts */
 
+/* The nearest, and of an exact half the even one. */
+static uint32_t ticks_of(uint32_t milliseconds)
+{
+    uint32_t down = milliseconds / 100, past = milliseconds % 100;
+    return past == 50 ? down + down % 2 : down + (past > 50);
+}
+
 /* The clocks of the present state's leaving transitions stand as its age says. */
 static bool clocks_correspond(const charts_run *c, const automata_run *a)
 {
@@ -443,7 +450,7 @@ static bool clocks_correspond(const charts_run *c, const automata_run *a)
         if (trigger != AFTER && trigger != EVERY) {
             continue;
         }
-        uint32_t ticks = (four_at(work.bytes, at + 8) + 50) / 100, age = c->ages[chart];
+        uint32_t ticks = ticks_of(four_at(work.bytes, at + 8)), age = c->ages[chart];
         uint32_t as_after = age < ticks ? age : ticks, as_every = age == 0 ? 0 : (age - 1) % ticks + 1;
         if (c->states[chart] == source && a->clocks[clock] != (trigger == AFTER ? as_after : as_every)) {
             return false;

@@ -164,7 +164,7 @@ static void break_set(file *f, unsigned number)
     case 6: set_two(record(f, AT_TRANSITIONS + 4), 4, 99); break;
     case 7: record(f, AT_TRANSITIONS + 2)[1] = 1; break;
     case 8: set_two(record(f, AT_NODES + 6), 4, 4); break;
-    case 9: set_four(record(f, AT_TRANSITIONS + 2), 8, 49); break;
+    case 9: set_four(record(f, AT_TRANSITIONS + 2), 8, 50); break;
     default: abort();
     }
 }
@@ -240,6 +240,9 @@ static const change set_changes[] = {
     {"an operand that is not lower", 17, 2, 2, 2, 8},
     {"a truth where a number stands", 21, 2, 2, 2, 8},
     {"a guard that is no truth", 8, 12, 2, 6, 8},
+    {"after 49 ms", 9, 8, 4, 49, 9},
+    {"after 50 ms, an exact half", 9, 8, 4, 50, 9},
+    {"every 50 ms, an exact half", 10, 8, 4, 50, 9},
 };
 
 static void changed_sets(void)
@@ -283,6 +286,22 @@ static void make_twin(const file *of)
     int32_t len = charts_translate(of->bytes, of->len, table.bytes, sizeof table.bytes);
     must(len > 0 && automata_check(table.bytes, (size_t)len) == 0, "a twin to break");
     table.len = (size_t)len;
+}
+
+/* The ticks of the twin's clock for a time: the nearest, and of an exact half the even ones. */
+static void rounded_times(void)
+{
+    static const struct {
+        uint32_t milliseconds;
+        unsigned ticks;
+    } times[] = {{51, 1}, {149, 1}, {150, 2}, {249, 2}, {250, 2}, {251, 3}, {350, 4}, {3599950, 36000}, {3600000, 36000}};
+    for (size_t i = 0; i < sizeof times / sizeof times[0]; i++) {
+        make_set(&work);
+        set_four(record(&work, AT_TRANSITIONS + 2), 8, times[i].milliseconds);
+        make_twin(&work);
+        must(two_at(table.bytes, first_of(table.bytes, table.len, CLOCK) + 2) == times[i].ticks, "the ticks of a time");
+    }
+    puts("ok: times are rounded to the nearest tick, exact halves to the even one");
 }
 
 /* A change counts records from the first of its kind. */
@@ -1125,6 +1144,7 @@ int main(int argc, char **argv)
     given.events = 1;
     broken_sets();
     changed_sets();
+    rounded_times();
     given.f = &table;
     broken_tables();
     make_set(&work);

@@ -236,6 +236,8 @@ fn check_calls() -> Vec<Call> {
             ("code", damaged(4 * 16 + 1, 17)),
             ("named_nothing", damaged(2, 3)),
             ("zero_ticks", chart_sets::one_after(49)),
+            ("half_a_tick", chart_sets::one_after(50)),
+            ("past_half_a_tick", chart_sets::one_after(51)),
             ("long_set", charts_of(LONG)),
             ("long_odd", charts_of(LONG + 5)),
             ("long_unordered", long_unordered()),
@@ -352,6 +354,7 @@ fn twin_calls() -> Vec<Call> {
         call("none_open", damaged_twin(4 * 16 + 2, 1), &watched),
         call("two_open", damaged_twin(16 * 16 + 1, 1), &watched),
         call("due_late", twin_of(&chart_sets::held_back()), &masks(&[0, 0, 0, 0, 1, 0, 0, 2, 0, 0])),
+        call("halves_round", twin_of(&chart_sets::halves()), &masks(&[0; 25])),
     ];
     calls.extend(chart_sets::all().into_iter().map(|(name, set)| {
         call(&name.replace(' ', "_"), twin_of(&set), &masks(&[0, 1, 3, 64, 32, 33, 2, 1, 0]))
@@ -367,6 +370,7 @@ fn translate_calls() -> Vec<Call> {
             ("winch", chart_sets::winch()),
             ("relay", chart_sets::relay()),
             ("action_order", chart_sets::action_order()),
+            ("halves", chart_sets::halves()),
             ("a_table", twin_of(&chart_sets::zero_watch())),
             ("long_table", long_table()),
             ("long_text", text(LONG + 64)),

@@ -139,6 +139,8 @@ fn sets() -> Vec<(&'static str, Vec<u8>, Vec<u8>)> {
         ("three_charts", three_charts(), masks(&events)),
         ("timers", chart_sets::winch(), masks(&[0, 0, 0, 0, 0, 0, 0, 0, 2, 0, 1, 0, 0, 0, 0, 0, 0, 3, 0])),
         ("due_late", chart_sets::held_back(), masks(&[0, 0, 0, 0, 1, 0, 0, 2, 0, 0])),
+        // Two rounds of charts 0 and 1.
+        ("halves", chart_sets::halves(), masks(&[0; 25])),
         ("widest_lines", widest(), masks(&[0, 0, 0])),
         ("fault_in_cycle", fault_in_cycle(), masks(&[0; 9])),
         ("zero_divisor", chart_sets::guarded_division(), masks(&[0, 1, 1, 0, 1])),
@@ -149,6 +151,7 @@ fn sets() -> Vec<(&'static str, Vec<u8>, Vec<u8>)> {
         ("empty_set", Vec::new(), watched.clone()),
         ("odd_length", with_rest(chart_sets::zero_watch(), &[0]), watched.clone()),
         ("refused_set", equal_priorities(), watched.clone()),
+        ("half_a_tick", chart_sets::one_after(50), watched.clone()),
         ("oversized_set", charts_of(31_872 + 16), watched.clone()),
         ("oversized_odd", charts_of(31_872 + 1), watched.clone()),
         ("long_set", charts_of(LONG), watched.clone()),

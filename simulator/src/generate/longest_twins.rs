@@ -2,6 +2,7 @@
 //! transitions each and one with the eight that are left, all into one state. So an edge has up to fifteen negations, all the
 //! clocks of that state to reset, and the actions of leaving, of its own and of entering.
 
+use super::times::time_from;
 use crate::assemble::*;
 use crate::deeds::Deed;
 use crate::expressions::Node;
@@ -53,7 +54,8 @@ fn transitions(random: &mut Random, nodes: &mut Vec<Node>) -> Vec<Record> {
 
 fn timed(random: &mut Random, priority: u8, source: u16) -> Record {
     let plain = transition(priority, source, ENTERED);
-    let milliseconds = random.u32_between(100, 3_000);
+    let whole_ticks = random.u32_between(1, 29);
+    let milliseconds = time_from(random, whole_ticks);
     if random.chance(1, 2) {
         after(plain, milliseconds)
     } else {

@@ -20,5 +20,6 @@ pub mod table_damage;
 pub mod table_forms;
 pub mod table_states;
 pub mod tables;
+pub mod times;
 pub mod waiting_sets;
 pub mod ways;

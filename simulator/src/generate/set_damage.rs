@@ -108,7 +108,7 @@ pub const DAMAGES: &[Damage] = damages! {
     5 "event above 31" |random, list| byte(random, list, TRANSITION, |r| r[6] == 1, 7, &[32, 33, 64, 255]);
     5 "0 milliseconds" |random, list| milliseconds(random, list, &[0]);
     5 "too many milliseconds"
-        |random, list| milliseconds(random, list, &[3_600_001, 3_600_049, 1 << 31, u32::MAX]);
+        |random, list| milliseconds(random, list, &[3_600_001, 3_600_049, 3_600_050, 1 << 31, u32::MAX]);
     5 "start below lowest"
         |random, list| range(random, list, VARIABLE, &[(0, 5, -1), (-1, 5, -2), (300, 400, 299), (-32_767, 0, -32_768)]);
     5 "start above highest"
@@ -163,7 +163,9 @@ pub const DAMAGES: &[Damage] = damages! {
     8 "node used twice as assigned" assigned_used_twice;
     8 "node used twice as an operand" operand_used_twice;
     8 "guard that is also an operand" guard_also_operand;
-    9 "timing trigger of 0 ticks" |random, list| milliseconds(random, list, &[1, 2, 25, 48, 49]);
+    // 50 often, which is 0 only because a half goes to the even tick.
+    9 "timing trigger of 0 ticks"
+        |random, list| milliseconds(random, list, &[1, 2, 25, 48, 49, 50, 50, 50, 50]);
 };
 
 fn unknown_kind(random: &mut Random, list: &mut RecordList) -> bool {

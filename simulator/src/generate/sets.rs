@@ -1,6 +1,7 @@
 //! Valid chart sets: tiny, middling, and of the largest sizes.
 
 use super::expressions::{number_size_possible, number_within, renumber, Grower, Style};
+use super::times::time_from;
 use super::waiting_sets::waiting_set;
 use crate::assemble::*;
 use crate::chart_sets::SetParts;
@@ -315,14 +316,15 @@ impl Maker<'_> {
     }
 }
 
-/// From 50, which is one tick; mostly few ticks, at times the ends of the rounding and the range.
+/// Mostly few ticks, at times the far end of the range, or anywhere in it.
 fn milliseconds(random: &mut Random) -> u32 {
-    match random.below(10) {
-        0 => random.pick(&[50, 51, 149, 150, 249, 250, 251, 349, 350]),
-        1 => random.pick(&[3_600_000, 3_599_950, 3_599_949]),
-        2 => random.u32_between(50, 3_600_000),
-        _ => random.u32_between(50, 900),
-    }
+    let most = u32::from(MOST_TICKS);
+    let whole_ticks = match random.below(10) {
+        0 => random.u32_between(most - 2, most),
+        1 => random.u32_between(0, most),
+        _ => random.u32_between(0, 8),
+    };
+    time_from(random, whole_ticks)
 }
 
 fn any_variable(random: &mut Random) -> Variable {

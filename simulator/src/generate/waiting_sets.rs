@@ -1,5 +1,6 @@
 //! Valid chart sets in which due times often have to wait.
 
+use super::times::time_from;
 use crate::assemble::*;
 use crate::chart_sets::SetParts;
 use crate::deeds::Deed;
@@ -58,5 +59,6 @@ fn back(random: &mut Random, event: u8) -> Record {
 }
 
 fn few_ticks(random: &mut Random) -> u32 {
-    random.u32_between(50, 649)
+    let whole_ticks = random.u32_between(0, 5);
+    time_from(random, whole_ticks)
 }

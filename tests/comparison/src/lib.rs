@@ -1,6 +1,7 @@
 //! The proved functions, as safe Rust: here those of crate `comparison`, in `monuvaleck` the C interface.
 
 pub mod calls;
+pub mod halves;
 pub mod met;
 pub mod monuvaleck;
 pub mod sides;

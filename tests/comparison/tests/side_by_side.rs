@@ -1,5 +1,6 @@
 //! Sets beside their twins, through the proved code alone: the same calls, and after each the runs correspond.
 
+use comparison::halves::half;
 use comparison::met::Met;
 use comparison::monuvaleck::{charts_translate, Stepped, IDLE, TIME};
 use simulator::correspondence::correspond;
@@ -7,6 +8,7 @@ use simulator::generate::calls::{call_list, events_of_set, Call};
 use simulator::generate::sets::{valid_set, Size};
 use simulator::generate::states::late_count;
 use simulator::generate::waiting_sets::waiting_set;
+use simulator::records::{whole_records, TRANSITION};
 use simulator::{AutomataRun, AutomataTable, ChartSet, ChartsRun, Random};
 
 /// A set and its twin, both as bytes that the proved code reads, with their runs.
@@ -61,6 +63,11 @@ impl Pair {
             return;
         }
         assert_eq!(chart, edge, "{}", place());
+        if let (Call::Turn(_), 0..IDLE) = (call, chart) {
+            let mut transitions = whole_records(&self.set).iter().filter(|record| record[0] == TRANSITION);
+            let half = transitions.nth(chart as usize).and_then(half);
+            half.into_iter().for_each(|half| met.add(format!("taken: {half}")));
+        }
         met.add(match (call, chart) {
             (Call::Cycle(_), 0) => "done".to_string(),
             (Call::Turn(_), TIME) => "time".to_string(),
@@ -97,6 +104,7 @@ fn sets_go_with_their_twins() {
     met.at_least(4_000, &["sets", "taken", "idle", "time", "done"]);
     met.at_least(500, &["13", "14"]);
     met.at_least(100, &["15", "16", "17"]);
+    met.at_least(100, &["taken: a half above an even tick", "taken: a half above an odd tick"]);
     assert_eq!((met.count("12"), met.count("18"), met.count("19")), (0, 0, 0));
 }
 

@@ -1,5 +1,6 @@
 //! The translation, byte for byte: sets of all sizes, buffers exact, a byte short, longer and empty, and refused sets.
 
+use comparison::halves::half;
 use comparison::met::Met;
 use comparison::monuvaleck::{automata_check, charts_translate};
 use simulator::chart_sets;
@@ -55,6 +56,7 @@ fn sets_byte_for_byte() {
     for round in 0..20_000 {
         let set = valid_set(&mut random, if round % 2 == 0 { Size::Tiny } else { Size::Middling });
         translate(&mut random, &set, &mut met);
+        whole_records(&set).iter().filter_map(half).for_each(|half| met.add(half));
     }
     let rings = [2, 15, 16, 17, 18, 127, 128].map(chart_sets::ring);
     for set in chart_sets::all().into_iter().map(|(_, set)| set).chain(rings) {
@@ -62,6 +64,24 @@ fn sets_byte_for_byte() {
     }
     println!("sets translated: {:#?}", met.0);
     met.at_least(20_000, &["sets", "exact", "a byte short", "longer", "an empty buffer"]);
+    met.at_least(10_000, &["a half above an even tick", "a half above an odd tick"]);
+}
+
+/// Every exact half in the range of milliseconds, and the times beside it: refused by 9, or the clock's ticks.
+#[test]
+fn times_about_every_half() {
+    let mut met = Met::default();
+    for milliseconds in (0..36_000).flat_map(|tick| (49..=51).map(move |past| 100 * tick + past)) {
+        let set = chart_sets::one_after(milliseconds);
+        met.add(match compare(&set, 1_000) {
+            0.. => whole_records(&set).iter().find_map(half).unwrap_or("beside a half"),
+            -9 => "9",
+            other => panic!("{milliseconds} ms: {other}"),
+        });
+    }
+    println!("times about every half: {:#?}", met.0);
+    met.at_least(17_999, &["a half above an even tick", "a half above an odd tick"]);
+    assert_eq!(met.count("9"), 2);
 }
 
 /// Sets with the most of each kind, and those with the longest twins.

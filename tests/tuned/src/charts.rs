@@ -122,7 +122,10 @@ impl Set {
             found.dangling |= usize::from(source) >= self.states
                 || usize::from(target) >= self.states
                 || guard != NONE && usize::from(guard) >= nodes;
-            let (ticks, mask) = (milliseconds.wrapping_add(50) / 100, 1u32.wrapping_shl(u32::from(event)));
+            // An odd tick below is one more than 49, which takes its half up to the even one.
+            let odd = milliseconds / 100 & 1;
+            let (ticks, mask) =
+                (milliseconds.wrapping_add(49 + odd) / 100, 1u32.wrapping_shl(u32::from(event)));
             let number = number as u16;
             let read = Transition { ticks, mask, source, target, guard, number, trigger, event, priority };
             self.transitions.push(read);
