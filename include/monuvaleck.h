@@ -22,6 +22,7 @@
  *
  * TIME. Turns are taken in file order of the charts, at the positions 1 to n of a cycle for n charts; at position n + 1 time passes. A cycle is 100 ms.
  * Time empties the events, adds 1 to the ages and to the cycle count, and lets clocks grow; then the position is 1 again.
+ * Times of a set are rounded to the nearest tick of 100 ms, exact halves to the even tick: 150, 249 and 250 ms are 2 ticks, 251 are 3, 350 are 4.
  * A transition after d ticks is due at age d and at every later age until its state is left, one every d ticks at the ages d, 2 d, 3 d, .. alone.
  *
  * EVENTS. The events given at position 1 are present for all charts of that cycle. An event that a chart raises is present for the later charts of the same cycle
@@ -59,7 +60,7 @@ enum monuvaleck_refusal {
     MONUVALECK_BROKEN_STRUCTURE = 7, /* a transition across charts; an initial state of another chart, without exactly one leaving transition, that one with
                                         trigger or guard, entered, or with entry or exit action; equal priorities leaving a state; a ninth action */
     MONUVALECK_BROKEN_NODE = 8,      /* an operand is not lower or of the wrong sort; a guard is no truth, an assigned node no number; a node is not used exactly once */
-    MONUVALECK_ZERO_TICKS = 9,       /* a timing trigger below 50 ms: 0 ticks */
+    MONUVALECK_ZERO_TICKS = 9,       /* a timing trigger of 50 ms or less: 0 ticks */
 
     /* translating */
     MONUVALECK_SHORT_BUFFER = 10, /* the result is longer than the buffer */

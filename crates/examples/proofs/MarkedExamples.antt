@@ -18,7 +18,7 @@ use Rattle.expressions.proofs.ExampleNodes.{constant, binary}
 use Rattle.examples.proofs.ExampleSets.{ascii, inputOf, blank, zeroWatch, waiting, heldBack, assigning}
 
 abbrev text : List ℕ → List ℤ
-text bytes = map pos bytes
+text numbers = map pos numbers
 
 abbrev lines : List ℕ → List ℕ → List ℤ
 lines s masks = text (replay s (inputOf masks) .text)
@@ -37,8 +37,8 @@ table =
     ∷ (translated 480, pos 480 ∷ [])
     ∷ (translated 479, negsuc 9 ∷ [])
     ∷ (two± (0xfd ∷ 0xff ∷ []) 0 ∷ [], negsuc 2 ∷ [])
-    -- request 3: 250 ms are an exact half, and so are 50
-    ∷ (pos (ticks 249) ∷ pos (ticks 250) ∷ [], pos 2 ∷ pos 2 ∷ [])
+    -- request 3: 250, 350, 150 and 50 ms are exact halves
+    ∷ (text (map ticks (250 ∷ 350 ∷ 150 ∷ 50 ∷ 249 ∷ 251 ∷ [])), text (2 ∷ 4 ∷ 2 ∷ 0 ∷ 2 ∷ 3 ∷ []))
     ∷ (numbered (λ _. 0) (check chartSets (waiting 49)) ∷ [], negsuc 8 ∷ [])
     ∷ (numbered (λ _. 0) (check chartSets (waiting 50)) ∷ [], negsuc 8 ∷ [])
     ∷ (
