@@ -4,7 +4,6 @@ use simulator::assemble::{chart, constant, guarded, operation, state, transition
 use simulator::chart_sets::{zero_watch, SetParts};
 use simulator::expressions::Node;
 use simulator::generate::calls::{events_of_set, mask};
-use simulator::generate::sets::{valid_set, Size};
 use simulator::operators::{AND, AT_MOST, DIFFERENCE, NOT, PRODUCT, QUOTIENT, REMAINDER, SUM};
 use simulator::records::NODE;
 use simulator::variables::Variable;
@@ -52,21 +51,21 @@ pub fn all(part: usize) -> [&'static Input; 3] {
     let masks = (0..200_000 / part).map(|_| random.pick(&[0, 1, 2, 3])).collect();
     [
         Input::new("zero-watch", zero_watch(), masks, 10_000 / part),
-        generated("middling", Size::Middling, MIDDLING, 100_000 / part, 1_500 / part),
-        generated("largest", Size::Largest, LARGEST, 60_000 / part, 300 / part),
+        stored("middling", MIDDLING, 100_000 / part, 1_500 / part),
+        stored("largest", LARGEST, 60_000 / part, 300 / part),
     ]
 }
 
-/// Seeds of sets whose runs take many transitions and never fault.
-const MIDDLING: u64 = 182;
-const LARGEST: u64 = 40;
+/// Sets that the simulator made at random, with the seeds of their events: runs that take many transitions and never fault.
+/// They are stored, so that generators may change and figures be compared all the same.
+const MIDDLING: (&[u8], u64) = (include_bytes!("../sets/middling.bin"), 0x163e_8153_ee2e_ace7);
+const LARGEST: (&[u8], u64) = (include_bytes!("../sets/largest.bin"), 0x424b_bf3e_c6ba_1b90);
 
-fn generated(name: &'static str, size: Size, seed: u64, cycles: usize, calls: usize) -> &'static Input {
+fn stored(name: &'static str, (set, seed): (&[u8], u64), cycles: usize, calls: usize) -> &'static Input {
+    let known = events_of_set(&ChartSet::read(set).expect("a valid set"));
     let mut random = Random::new(seed);
-    let set = valid_set(&mut random, size);
-    let known = events_of_set(&ChartSet::read(&set).expect("a valid set"));
     let masks = (0..cycles).map(|_| mask(&mut random, known)).collect();
-    Input::new(name, set, masks, calls)
+    Input::new(name, set.to_vec(), masks, calls)
 }
 
 /// One chart that tries in each cycle a guard of 1,024 nodes, all worked out, which does not hold.
