@@ -17,11 +17,11 @@ use Rattle.records.proofs.Tables.{Agree}
 use Rattle.expressions.proofs.ExampleNodes.{constant, binary}
 use Rattle.examples.proofs.ExampleSets.{ascii, inputOf, blank, zeroWatch, waiting, heldBack, assigning}
 
-abbrev text : List ℕ → List ℤ
-text numbers = map pos numbers
+abbrev numbers : List ℕ → List ℤ
+numbers ns = map pos ns
 
 abbrev lines : List ℕ → List ℕ → List ℤ
-lines s masks = text (replay s (inputOf masks) .text)
+lines s masks = numbers (replay s (inputOf masks) .text)
 
 abbrev translated : ℕ → List ℤ
 translated room = numbered (λ n. n) (translate zeroWatch (replicate room 7) .answer) ∷ []
@@ -33,22 +33,22 @@ value (fault w) = []
 -- what the definitions give, and what the paper says
 abbrev table : List (List ℤ × List ℤ)
 table =
-    (lines zeroWatch (0 ∷ 1 ∷ 1 ∷ 2 ∷ 0 ∷ []), text (ascii "0 0 0 1 1\n1 0 2 1 -1\n2 0 1 2 -1\n3 0 3 1 1\n4 0 - 1 1\n"))
+    (lines zeroWatch (0 ∷ 1 ∷ 1 ∷ 2 ∷ 0 ∷ []), numbers (ascii "0 0 0 1 1\n1 0 2 1 -1\n2 0 1 2 -1\n3 0 3 1 1\n4 0 - 1 1\n"))
     ∷ (translated 480, pos 480 ∷ [])
     ∷ (translated 479, negsuc 9 ∷ [])
     ∷ (two± (0xfd ∷ 0xff ∷ []) 0 ∷ [], negsuc 2 ∷ [])
     -- request 3: 250, 350, 150 and 50 ms are exact halves
-    ∷ (text (map ticks (250 ∷ 350 ∷ 150 ∷ 50 ∷ 249 ∷ 251 ∷ [])), text (2 ∷ 4 ∷ 2 ∷ 0 ∷ 2 ∷ 3 ∷ []))
+    ∷ (numbers (map ticks (250 ∷ 350 ∷ 150 ∷ 50 ∷ 249 ∷ 251 ∷ [])), numbers (2 ∷ 4 ∷ 2 ∷ 0 ∷ 2 ∷ 3 ∷ []))
     ∷ (numbered (λ _. 0) (check chartSets (waiting 49)) ∷ [], negsuc 8 ∷ [])
     ∷ (numbered (λ _. 0) (check chartSets (waiting 50)) ∷ [], negsuc 8 ∷ [])
     ∷ (
       lines (waiting 300) (0 ∷ 0 ∷ 0 ∷ 0 ∷ 1 ∷ 0 ∷ 0 ∷ 0 ∷ 0 ∷ []),
-      text (ascii "0 0 0 1\n1 0 - 1\n2 0 - 1\n3 0 - 1\n4 0 1 2\n5 0 - 2\n6 0 - 2\n7 0 2 3\n8 0 - 3\n"),
+      numbers (ascii "0 0 0 1\n1 0 - 1\n2 0 - 1\n3 0 - 1\n4 0 1 2\n5 0 - 2\n6 0 - 2\n7 0 2 3\n8 0 - 3\n"),
     )
     -- request 2: a guard false at age 3 and true at age 4 fires in cycle 8
     ∷ (
       lines heldBack (0 ∷ 0 ∷ 0 ∷ 0 ∷ 1 ∷ 0 ∷ 0 ∷ 2 ∷ 0 ∷ []),
-      text
+      numbers
           (ascii
           "0 0 0 1 0\n0 1 3 5 0\n1 0 - 1 0\n1 1 - 5 0\n2 0 - 1 0\n2 1 - 5 0\n3 0 - 1 0\n3 1 - 5 0\n4 0 1 2 0\n4 1 - 5 0\n5 0 - 2 0\n5 1 - 5 0\n6 0 - 2 0\n6 1 - 5 0\n7 0 - 2 0\n7 1 4 5 1\n8 0 2 3 1\n8 1 - 5 1\n"),
     )

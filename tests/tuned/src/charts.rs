@@ -122,7 +122,7 @@ impl Set {
             found.dangling |= usize::from(source) >= self.states
                 || usize::from(target) >= self.states
                 || guard != NONE && usize::from(guard) >= nodes;
-            // An odd tick below is one more than 49, which takes its half up to the even one.
+            // 49 more takes an exact half down, 50 more takes it up: to the even tick.
             let odd = milliseconds / 100 & 1;
             let (ticks, mask) =
                 (milliseconds.wrapping_add(49 + odd) / 100, 1u32.wrapping_shl(u32::from(event)));
