@@ -102,6 +102,12 @@ pub fn write_i32(record: &mut Record, at: usize, value: i32) {
     record[at..at + 4].copy_from_slice(&value.to_le_bytes());
 }
 
+/// The milliseconds of a transition's timing trigger, if it has one.
+pub fn time_of(record: &Record) -> Option<u32> {
+    let timed = record[0] == TRANSITION && matches!(record[6], AFTER | EVERY);
+    timed.then(|| read_u32(record, 8))
+}
+
 /// The whole records of some bytes; a rest of fewer than 16 bytes is left out.
 pub fn whole_records(bytes: &[u8]) -> &[Record] {
     bytes.as_chunks::<RECORD_LEN>().0

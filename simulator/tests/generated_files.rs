@@ -79,12 +79,6 @@ fn sets_have_what_they_are_made_for() {
     }
 }
 
-/// The milliseconds of a set's timing triggers.
-fn times(set: &[u8]) -> Vec<u32> {
-    let timed = |record: &&Record| record[0] == TRANSITION && matches!(record[6], AFTER | EVERY);
-    whole_records(set).iter().filter(timed).map(|record| read_u32(record, 8)).collect()
-}
-
 type Make = fn(&mut Random) -> Vec<u8>;
 
 #[test]
@@ -98,7 +92,8 @@ fn exact_halves_come_often_and_their_neighbours_at_times() {
     ];
     for (what, sets, make) in makes {
         let mut random = Random::new(11);
-        let all: Vec<u32> = (0..sets).flat_map(|_| times(&make(&mut random))).collect();
+        let times = |set: Vec<u8>| whole_records(&set).iter().filter_map(time_of).collect::<Vec<u32>>();
+        let all: Vec<u32> = (0..sets).flat_map(|_| times(make(&mut random))).collect();
         let percent =
             |past: u32, of: u32| 100 * all.iter().filter(|time| *time % of == past).count() / all.len();
         assert!((25..=35).contains(&percent(50, 100)), "{what}: {} percent halves", percent(50, 100));

@@ -242,9 +242,10 @@ fn halves_move_on_after_two_and_four_ticks() {
 /// The set with whole ticks as times, which all roundings leave alone, worked out of the whole ticks below each half.
 fn halves_as(rounded: impl Fn(u32) -> u32) -> Vec<u8> {
     let mut records = whole_records(&halves()).to_vec();
-    for record in records.iter_mut().filter(|record| record[0] == TRANSITION && record[6] >= AFTER) {
-        let below = read_u32(record, 8) / 100;
-        write_u32(record, 8, 100 * rounded(below));
+    for record in &mut records {
+        if let Some(milliseconds) = time_of(record) {
+            write_u32(record, 8, 100 * rounded(milliseconds / 100));
+        }
     }
     file(records)
 }

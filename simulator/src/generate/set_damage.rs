@@ -211,7 +211,7 @@ fn raise_of_unknown_place(random: &mut Random, list: &mut RecordList) -> bool {
 }
 
 fn milliseconds(random: &mut Random, list: &mut RecordList, values: &[u32]) -> bool {
-    let timed = |r: &Record| r[6] == AFTER || r[6] == EVERY;
+    let timed = |r: &Record| time_of(r).is_some();
     list.change(random, TRANSITION, timed, |random, record| write_u32(record, 8, random.pick(values)))
 }
 
