@@ -55,7 +55,7 @@ low-of s sh ok r e k h =
     let l : getD (r .timers) k 0 ≤ topAt s sh k = leb-true (getD (r .timers) k 0) (topAt s sh k) (all-upto (λ j. leb (getD (r .timers) j 0) (topAt s sh j)) (sh .clocks) k (sym (clocks-are s sh (ok .shape) r) ∙ e) h) in
     omega arith
 
--- arrays of 256 places in which the limits are written have them
+-- arrays in which the limits are written have them
 pub room-for-limits : (length (replicate {A = ℕ} mostClocks 65535) ≡ mostClocks) × (length (replicate {A = ℕ} mostClocks 65535) ≡ mostClocks)
 room-for-limits = (length-replicate {A = ℕ} mostClocks 65535, length-replicate {A = ℕ} mostClocks 65535)
 

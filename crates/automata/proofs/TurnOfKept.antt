@@ -6,11 +6,11 @@ use native.Mathlib.Omega.{arith}
 use lib.ListN.{getD, set}
 use Rattle.records.specs.Refusal.{Out, val, fault, _>>=_}
 use Rattle.prelude.specs.Owned.{of}
-use Rattle.model.specs.Runs.{World, Run, Answer, deeds, taken}
+use Rattle.model.specs.Runs.{World, Run, Answer, actions, taken}
 use Rattle.model.specs.AutomataTable.{Automata, edge}
 use Rattle.model.specs.Automata.{theOne, reset, openEdges, edgeStep}
 use Rattle.machines.specs.Turns.{KeptWorld, KeptRun}
-use Rattle.machines.proofs.TurnsKept.{deeds-kept, set-zero}
+use Rattle.machines.proofs.TurnsKept.{actions-kept, set-zero}
 
 reset-kept : (ks clocks : List ℕ) (c : ℕ) → getD (reset ks clocks) c 0 ≤ getD clocks c 0
 unfolding reset
@@ -25,7 +25,7 @@ module _ (au : Automata) where
       then-taken e w = val (taken e, record { at = set (r .at) a (edge au e .target); timers = reset (of e (au .resets)) (r .timers); world = w })
 
       then-done : ℕ → Out (Answer × Run)
-      then-done e = deeds (au .nodes) (au .variables) (of e (au .updates)) (r .world) >>= then-taken e
+      then-done e = actions (au .nodes) (au .variables) (of e (au .updates)) (r .world) >>= then-taken e
 
       done : (e : ℕ) (o : Out World) → KeptWorld (r .world) o → KeptRun r (o >>= then-taken e)
       done e (fault f) k = tt
@@ -33,7 +33,7 @@ module _ (au : Automata) where
 
       one : (o : Out ℕ) → KeptRun r (o >>= then-done)
       one (fault f) = tt
-      one (val e) = done e (deeds (au .nodes) (au .variables) (of e (au .updates)) (r .world)) (deeds-kept (au .nodes) (au .variables) (of e (au .updates)) (r .world))
+      one (val e) = done e (actions (au .nodes) (au .variables) (of e (au .updates)) (r .world)) (actions-kept (au .nodes) (au .variables) (of e (au .updates)) (r .world))
 
       go : (o : Out (List ℕ)) → KeptRun r (o >>= λ es. theOne es >>= then-done)
       go (fault f) = tt

@@ -1,6 +1,6 @@
 -- The tests of refusal 11 on what a framed file says, by the numbers of its things. Assumes nothing.
-use mathlib.Core.Path.{_≡_, ap, _∙_}
-use mathlib.Core.Bool.{not, _&&_, _||_}
+use mathlib.Core.Path.{_≡_, sym, ap, _∙_}
+use mathlib.Core.Bool.{Bool, not, _&&_, _||_}
 use mathlib.Core.List.{List}
 use Prim.Native.Nat.{ℕ, min, _≤_}
 use native.Mathlib.Omega.{arith}
@@ -18,12 +18,13 @@ use Rattle.model.specs.ChartFile.{guardNodes, assignedNodes}
 use Rattle.model.specs.AutomataFile.{insideAutomata, idleEdgesStay, tableNodesFit}
 use Rattle.chart_checks.specs.Used.{truths, numbers}
 use Rattle.prelude.proofs.Maps.{all-map, gather-map}
-use Rattle.prelude.proofs.Numbers.{all-alike}
+use Rattle.prelude.proofs.Numbers.{all-alike, all-both}
+use Rattle.prelude.proofs.Loops.{and-assoc}
 use Rattle.chart_checks.proofs.Used.{all-gather}
 use Rattle.automata_records.specs.declared.Shape.{Shape}
 use Rattle.automata_records.specs.Shape.{IsShape}
 use Rattle.automata_records.specs.Places.{edgeAt, literalAt, updateAt, nodePart}
-use Rattle.automata_records.specs.Structure.{edgeInside, initialInside, idleStays, guardAt, assignedAt}
+use Rattle.automata_records.specs.Structure.{edgeInside, initialInside, idleStays, guardAt, conditionAt, assignedAt}
 use Rattle.automata_records.proofs.PlacesRead.{length-initial, length-nodes, edges-are, literals-are, updates-are, initial-is, lookup-is}
 
 module _ (s : List ℕ) (sh : Shape) (is : IsShape s sh) where
@@ -59,22 +60,35 @@ module _ (s : List ℕ) (sh : Shape) (is : IsShape s sh) where
       (λ j. truths (lookup-is s sh is j) ((ap (gather (λ x. guardNodes (x .1 .guard))) (literals-are s sh is) ∙ gather-map (literalAt s sh) (λ x. guardNodes (x .1 .guard)) (upto (sh .literals))) j))
       ∙ all-gather (λ n. isTruth (sortOf (nodeAt (nodePart s sh) n))) (guardAt s sh) (upto (sh .literals))
 
-  assigned : numbers (nodeOf (readAutomata s .nodes)) (gather (λ x. assignedNodes (x .1)) (readAutomata s .updates)) ≡ all (λ u. numbers (nodeAt (nodePart s sh)) (assignedAt s sh u)) (upto (sh .updates))
+  conditions : truths (nodeOf (readAutomata s .nodes)) (gather (λ x. guardNodes (x .1 .guard)) (readAutomata s .updates)) ≡ all (λ u. truths (nodeAt (nodePart s sh)) (conditionAt s sh u)) (upto (sh .updates))
+  conditions =
+      (λ j. truths (lookup-is s sh is j) ((ap (gather (λ x. guardNodes (x .1 .guard))) (updates-are s sh is) ∙ gather-map (updateAt s sh) (λ x. guardNodes (x .1 .guard)) (upto (sh .updates))) j))
+      ∙ all-gather (λ n. isTruth (sortOf (nodeAt (nodePart s sh) n))) (conditionAt s sh) (upto (sh .updates))
+
+  assigned : numbers (nodeOf (readAutomata s .nodes)) (gather (λ x. assignedNodes (x .1 .deed)) (readAutomata s .updates)) ≡ all (λ u. numbers (nodeAt (nodePart s sh)) (assignedAt s sh u)) (upto (sh .updates))
   assigned =
-      (λ j. numbers (lookup-is s sh is j) ((ap (gather (λ x. assignedNodes (x .1))) (updates-are s sh is) ∙ gather-map (updateAt s sh) (λ x. assignedNodes (x .1)) (upto (sh .updates))) j))
+      (λ j. numbers (lookup-is s sh is j) ((ap (gather (λ x. assignedNodes (x .1 .deed))) (updates-are s sh is) ∙ gather-map (updateAt s sh) (λ x. assignedNodes (x .1 .deed)) (upto (sh .updates))) j))
       ∙ all-gather (λ n. isNumber (sortOf (nodeAt (nodePart s sh) n))) (assignedAt s sh) (upto (sh .updates))
 
   pub nodes-is :
       tableNodesFit (readAutomata s)
       ≡ (operandsFit (nodeAt (nodePart s sh)) (sh .nodes)
       && all (λ l. truths (nodeAt (nodePart s sh)) (guardAt s sh l)) (upto (sh .literals))
-      && all (λ u. numbers (nodeAt (nodePart s sh)) (assignedAt s sh u)) (upto (sh .updates))
+      && all (λ u. truths (nodeAt (nodePart s sh)) (conditionAt s sh u) && numbers (nodeAt (nodePart s sh)) (assignedAt s sh u)) (upto (sh .updates))
       && all (λ n. leb (operandUses (nodeAt (nodePart s sh)) (sh .nodes) n) 1) (upto (sh .nodes)))
-  nodes-is = λ j.
+  nodes-is =
+      (λ j.
       operandsFit (lookup-is s sh is j) (length-nodes s sh is j)
       && guards j
+      && conditions j
       && assigned j
-      && all (λ n. leb (operandUses (lookup-is s sh is j) (length-nodes s sh is j) n) 1) (upto (length-nodes s sh is j))
+      && all (λ n. leb (operandUses (lookup-is s sh is j) (length-nodes s sh is j) n) 1) (upto (length-nodes s sh is j)))
+      ∙ ap (λ b. b && all (λ n. leb (operandUses (nodeAt (nodePart s sh)) (sh .nodes) n) 1) (upto (sh .nodes)))
+      (sym (and-assoc earlier (all (λ u. truths (nodeAt (nodePart s sh)) (conditionAt s sh u)) (upto (sh .updates))) (all (λ u. numbers (nodeAt (nodePart s sh)) (assignedAt s sh u)) (upto (sh .updates))))
+      ∙ ap (λ b. earlier && b) (sym (all-both (λ u. truths (nodeAt (nodePart s sh)) (conditionAt s sh u)) (λ u. numbers (nodeAt (nodePart s sh)) (assignedAt s sh u)) (upto (sh .updates)))))
+    where
+      earlier : Bool
+      earlier = operandsFit (nodeAt (nodePart s sh)) (sh .nodes) && all (λ l. truths (nodeAt (nodePart s sh)) (guardAt s sh l)) (upto (sh .literals))
 
 -- uses counted up to 2 tell which nodes are used twice
 pub used-is : (node : ℕ → Node) (size : ℕ) (uses : List ℕ) → size ≤ 1024 → uses ≡ addUses (replicate 1024 0) (allOperands node size) →

@@ -12,6 +12,7 @@ ghost use Rattle.automata_records.specs.Names.{initialNamed, homeNamed, edgeNam
 use automata_records::Shape;
 use automata_records::fields::LiteralTrigger;
 use automata_records::fields::automaton_of;
+use automata_records::fields::condition_of;
 use automata_records::fields::deed_of;
 use automata_records::fields::guard_of;
 use automata_records::fields::home_of;
@@ -23,8 +24,8 @@ use automata_records::fields::reset_edge;
 use automata_records::fields::source_of;
 use automata_records::fields::target_of;
 use automata_records::fields::update_edge;
-use chart_checks::names::deed_named;
 use chart_checks::names::guard_named;
+use chart_checks::names::parts_named;
 use expressions::sorts::says_named;
 
 fn initial_named(s: &[u8], shape: Shape, a: u16) -> bool
@@ -125,7 +126,12 @@ fn update_named(s: &[u8], shape: Shape, u: u16) -> bool
     ensures { λ r. ⌜ r ≡ updateNamed (now (s .entry)) shape u ⌝ }
 {
     (update_edge(s, shape, u) < shape.edges)
-        & deed_named(deed_of(s, shape, u), shape.variables, shape.nodes)
+        & parts_named(
+            condition_of(s, shape, u),
+            deed_of(s, shape, u),
+            shape.variables,
+            shape.nodes,
+        )
 }
 
 fn updates_named(s: &[u8], shape: Shape) -> bool

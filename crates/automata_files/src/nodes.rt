@@ -1,5 +1,6 @@
 // The nodes of refusal 11: operands, guards that are truths, assigned nodes that are numbers, no operand twice.
 ghost use mathlib.Core.Path.{_≡_};
+ghost use mathlib.Core.Bool.{_&&_};
 ghost use Prim.Native.Nat.{_≤_};
 ghost use lib.Dec.{leb};
 ghost use lib.ListN.{length, getD, replicate};
@@ -12,8 +13,9 @@ ghost use Rattle.model.specs.AutomataFile.{tableNodesFit};
 ghost use Rattle.chart_checks.specs.Used.{truths, numbers};
 ghost use Rattle.automata_records.specs.Shape.{IsShape};
 ghost use Rattle.automata_records.specs.Places.{nodePart};
-ghost use Rattle.automata_records.specs.Structure.{guardAt, assignedAt};
+ghost use Rattle.automata_records.specs.Structure.{guardAt, conditionAt, assignedAt};
 use automata_records::Shape;
+use automata_records::fields::condition_of;
 use automata_records::fields::deed_of;
 use automata_records::fields::guard_of;
 use automata_records::fields::node_records;
@@ -37,15 +39,22 @@ fn guards_fit(s: &[u8], shape: Shape) -> bool
     true
 }
 
-fn assigned_fit(s: &[u8], shape: Shape) -> bool
+// An update's guard and its assigned node.
+fn update_fits(s: &[u8], shape: Shape, nodes: &[u8], u: u16) -> bool
+    ensures { λ r. ⌜ r ≡ (truths (nodeAt (now (nodes .entry))) (conditionAt (now (s .entry)) shape u) && numbers (nodeAt (now (nodes .entry))) (assignedAt (now (s .entry)) shape u)) ⌝ }
+{
+    guard_sorted(condition_of(s, shape, u), nodes) & deed_sorted(deed_of(s, shape, u), nodes)
+}
+
+fn updates_fit(s: &[u8], shape: Shape) -> bool
     requires { ⌜ IsShape (now s) shape ⌝ }
-    ensures { λ r. ⌜ r ≡ all (λ u. numbers (nodeAt (nodePart (now (s .entry)) shape)) (assignedAt (now (s .entry)) shape u)) (upto (shape .updates)) ⌝ }
+    ensures { λ r. ⌜ r ≡ all (λ u. truths (nodeAt (nodePart (now (s .entry)) shape)) (conditionAt (now (s .entry)) shape u) && numbers (nodeAt (nodePart (now (s .entry)) shape)) (assignedAt (now (s .entry)) shape u)) (upto (shape .updates)) ⌝ }
 {
     let nodes = node_records(s, shape);
     let n = shape.updates;
     let mut u = 0;
     while u < n {
-        if !deed_sorted(deed_of(s, shape, u), nodes) {
+        if !update_fits(s, shape, nodes, u) {
             return false;
         }
         u += 1;
@@ -73,5 +82,5 @@ pub fn table_nodes_fit(s: &[u8], shape: Shape, found: u8, uses: &[u8]) -> bool
     requires { ⌜ IsShape (now s) shape × (found ≡ verdictOf (nodeAt (nodePart (now s) shape)) (shape .nodes) (shape .variables)) × (now uses ≡ addUses (replicate 1024 0) (allOperands (nodeAt (nodePart (now s) shape)) (shape .nodes))) ⌝ }
     ensures { λ r. ⌜ r ≡ tableNodesFit (readAutomata (now (s .entry))) ⌝ }
 {
-    says_fit(found) & guards_fit(s, shape) & assigned_fit(s, shape) & none_twice(uses, shape.nodes)
+    says_fit(found) & guards_fit(s, shape) & updates_fit(s, shape) & none_twice(uses, shape.nodes)
 }

@@ -5,9 +5,9 @@ ghost use lib.ListN.{length};
 ghost use Rattle.model.specs.ChartFile.{unusedAreZero};
 ghost use Rattle.model.specs.AutomataFile.{unusedLiteral, unusedUpdate, unusedInTable};
 use record_tests::unused::byte_zero;
-use record_tests::unused::four_zero;
 use record_tests::unused::from_eight_zero;
 use record_tests::unused::from_four_zero;
+use record_tests::unused::from_ten_zero;
 use record_tests::unused::node_clean;
 use record_tests::unused::two_zero;
 use records::byte_at;
@@ -19,18 +19,18 @@ fn literal_clean(r: &[u8]) -> bool
     let code = byte_at(r, 4);
     let event = byte_zero(r, 5);
     let clock = two_zero(r, 6);
-    let rest = two_zero(r, 10) & four_zero(r, 12);
+    let rest = from_ten_zero(r);
     rest & (((code == 1) | (2 < code) | event) & ((2 <= code) | clock))
 }
 
-// A node stands at 6, unless the update raises.
+// A node stands at 6, unless the update raises; a guard at 8.
 fn update_clean(r: &[u8]) -> bool
     ensures { λ t. ⌜ t ≡ unusedAreZero (unusedUpdate (now (r .entry))) (now (r .entry)) ⌝ }
 {
     let code = byte_at(r, 1);
     let first = byte_zero(r, 5);
     let node = two_zero(r, 6);
-    let rest = from_eight_zero(r);
+    let rest = from_ten_zero(r);
     first & (rest & ((code != 2) | node))
 }
 

@@ -10,7 +10,7 @@ use Rattle.prelude.specs.Lists.{all, upto}
 use Rattle.expressions.specs.Nodes.{nodeOf, nodeAt}
 use Rattle.expressions.specs.Sorts.{nodesNamed}
 use Rattle.model.specs.AutomataTable.{readAutomata}
-use Rattle.model.specs.ChartFile.{between, guardNamed, deedNamed}
+use Rattle.model.specs.ChartFile.{between, guardNamed, actionNamed}
 use Rattle.model.specs.AutomataFile.{literalTriggerNamed, tableNamed, clocksTick}
 use Rattle.prelude.proofs.Maps.{all-map}
 use Rattle.automata_records.specs.declared.Shape.{Shape}
@@ -51,11 +51,11 @@ module _ (s : List ℕ) (sh : Shape) (is : IsShape s sh) where
   nodes = λ j. nodesNamed (lookup-is s sh is j) (length-nodes s sh is j) (length-variables s sh is j)
 
   updates :
-      all (λ x. ltb (x .0) (length (readAutomata s .edges)) && deedNamed (length (readAutomata s .variables)) (length (readAutomata s .nodes)) (x .1)) (readAutomata s .updates)
+      all (λ x. ltb (x .0) (length (readAutomata s .edges)) && actionNamed (length (readAutomata s .variables)) (length (readAutomata s .nodes)) (x .1)) (readAutomata s .updates)
       ≡ all (updateNamed s sh) (upto (sh .updates))
   updates =
-      (λ j. all (λ x. ltb (x .0) (length-edges s sh is j) && deedNamed (length-variables s sh is j) (length-nodes s sh is j) (x .1)) (updates-are s sh is j))
-      ∙ all-map (updateAt s sh) (λ x. ltb (x .0) (sh .edges) && deedNamed (sh .variables) (sh .nodes) (x .1)) (upto (sh .updates))
+      (λ j. all (λ x. ltb (x .0) (length-edges s sh is j) && actionNamed (length-variables s sh is j) (length-nodes s sh is j) (x .1)) (updates-are s sh is j))
+      ∙ all-map (updateAt s sh) (λ x. ltb (x .0) (sh .edges) && actionNamed (sh .variables) (sh .nodes) (x .1)) (upto (sh .updates))
 
   resets :
       all (λ x. ltb (x .0) (length (readAutomata s .edges)) && ltb (x .1) (length (readAutomata s .clocks))) (readAutomata s .resets)

@@ -20,7 +20,7 @@ use Rattle.expressions.specs.Sorts.{nodesNamed}
 use Rattle.model.specs.Runs.{assign, raise}
 use Rattle.model.specs.ChartSet.{readDeed}
 use Rattle.model.specs.AutomataTable.{always, event, clock, readAutomata}
-use Rattle.model.specs.ChartFile.{between, isEvent, guardNamed, deedNamed, variableInCode, nodeInCode, deedInCode}
+use Rattle.model.specs.ChartFile.{between, isEvent, guardNamed, deedNamed, actionNamed, variableInCode, nodeInCode, deedInCode}
 use Rattle.model.specs.AutomataFile.{automataLimits, literalInCode, tableInCode, literalTriggerNamed, tableNamed, clocksTick, tableTests, automataRefusal}
 use Rattle.chart_records.proofs.Places.{all-getD, thing-passes, ranged}
 use Rattle.prelude.proofs.Numbers.{all-at}
@@ -170,21 +170,21 @@ module _ (s : List ℕ) (sh : Shape) (is : IsShape s sh) (ok : automataRefusal s
   -- ---- updates and resets
 
   module _ (u : ℕ) (h : u < sh .updates) where
-    update-named : (ltb (updateAt s sh u .0) (sh .edges) ≡ true) × (deedNamed (sh .variables) (sh .nodes) (updateAt s sh u .1) ≡ true)
+    update-named : (ltb (updateAt s sh u .0) (sh .edges) ≡ true) × (actionNamed (sh .variables) (sh .nodes) (updateAt s sh u .1) ≡ true)
     update-named = and-true _ _ (all-at (updateNamed s sh) (sh .updates) u h (names .5))
 
     pub update-edge-known : updateAt s sh u .0 < sh .edges
     update-edge-known = ltb-true (updateAt s sh u .0) (sh .edges) (update-named .0)
 
     -- its variable and node are the file's, or its event is below 32
-    pub update-deed-known : DeedKnown (sh .variables) (sh .nodes) (updateAt s sh u .1)
+    pub update-deed-known : DeedKnown (sh .variables) (sh .nodes) (updateAt s sh u .1 .deed)
     unfolding caseOf
     update-deed-known =
         let n = firstUpdate sh + u in
         let b : (k : ℕ) → k < 16 → byte (recordAt s n) k ≡ byte s (16 * n + k) = byte-record s n in
         deed-known (byte s (16 * n + 1)) (byte s (16 * n + 4)) (two s (16 * n + 6)) (sh .variables) (sh .nodes)
         (sym (λ i. deedInCode (b 1 (omega arith) i) (b 4 (omega arith) i)) ∙ coded 40 (firstUpdate sh) u (first-update s sh is) (omega (arith, is .updates)))
-        (update-named .1)
+        (and-true (guardNamed (sh .nodes) (updateAt s sh u .1 .guard)) (deedNamed (sh .variables) (sh .nodes) (updateAt s sh u .1 .deed)) (update-named .1) .1)
 
   module _ (r : ℕ) (h : r < sh .resets) where
     reset-named : (ltb (resetAt s sh r .0) (sh .edges) ≡ true) × (ltb (resetAt s sh r .1) (sh .clocks) ≡ true)

@@ -16,7 +16,7 @@ use Rattle.prelude.proofs.Counts.{getD-upto}
 use Rattle.framing.proofs.Framed.{length-ofKind, first-and-many, framed-most}
 use Rattle.expressions.specs.Nodes.{readNode, nodeOf, nodeAt}
 use Rattle.model.specs.Owned.{home}
-use Rattle.model.specs.ChartSet.{readGuard, readDeed, readVariable}
+use Rattle.model.specs.ChartSet.{readGuard, actionBy, readVariable}
 use Rattle.model.specs.AutomataTable as M
 use Rattle.model.specs.AutomataTable.{Literal, event, clock, always, after, every, readEdge, readLiteral, readClock, readUpdate, readReset, readAutomata, edge, noEdge, noClock}
 use Rattle.model.specs.AutomataFile.{automataLimits}
@@ -52,7 +52,7 @@ module _ (s : List ℕ) (n : ℕ) where
   clock-record = λ i. record { timing = caseOf (b 1 (omega arith) i) ((2, after) ∷ []) every; ticks = t 2 (omega arith) i }
 
   pub update-record : readUpdate (recordAt s n) ≡ updateIn s n
-  update-record = λ i. (t 2 (omega arith) i, readDeed (b 1 (omega arith) i) (b 4 (omega arith) i) (t 6 (omega arith) i))
+  update-record = λ i. (t 2 (omega arith) i, actionBy (t 8 (omega arith) i) (b 1 (omega arith) i) (b 4 (omega arith) i) (t 6 (omega arith) i))
 
   pub reset-record : readReset (recordAt s n) ≡ resetIn s n
   reset-record = λ i. (t 2 (omega arith) i, t 4 (omega arith) i)

@@ -3,7 +3,7 @@ use mathlib.Core.Bool.{Bool, _&&_}
 use mathlib.Core.List.{List}
 use Prim.Native.Nat.{ℕ}
 use lib.Dec.{ltb}
-use Rattle.model.specs.ChartFile.{guardNamed, deedNamed}
+use Rattle.model.specs.ChartFile.{guardNamed, actionNamed}
 use Rattle.model.specs.AutomataFile.{literalTriggerNamed}
 use Rattle.automata_records.specs.declared.Shape.{Shape}
 use Rattle.automata_records.specs.Places.{initialAt, homeAt, edgeAt, literalAt, updateAt, resetAt}
@@ -24,7 +24,7 @@ module _ (s : List ℕ) (sh : Shape) where
       ltb (literalAt s sh l .0) (sh .edges) && literalTriggerNamed (sh .clocks) (literalAt s sh l .1 .trigger) && guardNamed (sh .nodes) (literalAt s sh l .1 .guard)
 
   abbrev pub updateNamed : ℕ → Bool
-  updateNamed u = ltb (updateAt s sh u .0) (sh .edges) && deedNamed (sh .variables) (sh .nodes) (updateAt s sh u .1)
+  updateNamed u = ltb (updateAt s sh u .0) (sh .edges) && actionNamed (sh .variables) (sh .nodes) (updateAt s sh u .1)
 
   abbrev pub resetNamed : ℕ → Bool
   resetNamed r = ltb (resetAt s sh r .0) (sh .edges) && ltb (resetAt s sh r .1) (sh .clocks)

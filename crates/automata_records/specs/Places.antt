@@ -5,8 +5,8 @@ use lib.Dec.{eqb}
 use lib.ListN.{take, drop}
 use Rattle.prelude.specs.Lists.{caseOf}
 use Rattle.records.specs.Bytes.{byte, two}
-use Rattle.model.specs.Runs.{Variable, Deed}
-use Rattle.model.specs.ChartSet.{readGuard, readDeed}
+use Rattle.model.specs.Runs.{Variable, Action}
+use Rattle.model.specs.ChartSet.{readGuard, actionBy}
 use Rattle.model.specs.AutomataTable.{LiteralTrigger, always, event, clock, Edge, Literal, Timing, after, every, Clock}
 use Rattle.chart_records.specs.Places.{variableIn}
 use Rattle.automata_records.specs.declared.Shape.{Shape}
@@ -62,8 +62,8 @@ module _ (s : List ℕ) (n : ℕ) where
   abbrev pub clockIn : Clock
   clockIn = record { timing = timingBy (byte s (16 * n + 1)); ticks = two s (16 * n + 2) }
 
-  abbrev pub updateIn : ℕ × Deed
-  updateIn = (two s (16 * n + 2), readDeed (byte s (16 * n + 1)) (byte s (16 * n + 4)) (two s (16 * n + 6)))
+  abbrev pub updateIn : ℕ × Action
+  updateIn = (two s (16 * n + 2), actionBy (two s (16 * n + 8)) (byte s (16 * n + 1)) (byte s (16 * n + 4)) (two s (16 * n + 6)))
 
   abbrev pub resetIn : ℕ × ℕ
   resetIn = (two s (16 * n + 2), two s (16 * n + 4))
@@ -88,7 +88,7 @@ module _ (s : List ℕ) (sh : Shape) (i : ℕ) where
   abbrev pub variableAt : Variable
   variableAt = variableIn s (firstVariable sh + i)
 
-  abbrev pub updateAt : ℕ × Deed
+  abbrev pub updateAt : ℕ × Action
   updateAt = updateIn s (firstUpdate sh + i)
 
   abbrev pub resetAt : ℕ × ℕ

@@ -26,9 +26,12 @@ module _ (s : List ℕ) (sh : Shape) where
   abbrev pub idleStays : ℕ → Bool
   idleStays e = not (edgeAt s sh e .idles) || eqb (edgeAt s sh e .source) (edgeAt s sh e .target)
 
-  -- the node that literal l has as its guard, and that update u assigns, if there is one
+  -- the node that literal l has as its guard, that update u has as its guard, and that it assigns, if there is one
   abbrev pub guardAt : ℕ → List ℕ
   guardAt l = guardNodes (literalAt s sh l .1 .guard)
 
+  abbrev pub conditionAt : ℕ → List ℕ
+  conditionAt u = guardNodes (updateAt s sh u .1 .guard)
+
   abbrev pub assignedAt : ℕ → List ℕ
-  assignedAt u = assignedNodes (updateAt s sh u .1)
+  assignedAt u = assignedNodes (updateAt s sh u .1 .deed)

@@ -12,6 +12,7 @@ use chart_records::fields::Guard;
 use chart_records::fields::byte_in;
 use chart_records::fields::deed_by;
 use chart_records::fields::guard_by;
+use chart_records::fields::guard_by_plus_one;
 use chart_records::fields::u16_in;
 use records::u16_at;
 
@@ -164,10 +165,17 @@ pub fn update_edge(s: &[u8], shape: Shape, u: u16) -> u16
 }
 
 pub fn deed_of(s: &[u8], shape: Shape, u: u16) -> Deed
-    ensures { λ r. ⌜ deedFor r ≡ updateAt (now (s .entry)) shape u .1 ⌝ }
+    ensures { λ r. ⌜ deedFor r ≡ updateAt (now (s .entry)) shape u .1 .deed ⌝ }
 {
     let n = update_record(shape, u);
     deed_by(byte_in(s, n, 1), byte_in(s, n, 4), u16_in(s, n, 6))
+}
+
+// The guard of update u.
+pub fn condition_of(s: &[u8], shape: Shape, u: u16) -> Guard
+    ensures { λ r. ⌜ guardFor r ≡ updateAt (now (s .entry)) shape u .1 .guard ⌝ }
+{
+    guard_by_plus_one(u16_in(s, update_record(shape, u), 8))
 }
 
 pub fn reset_edge(s: &[u8], shape: Shape, r: u16) -> u16

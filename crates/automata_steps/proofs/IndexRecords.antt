@@ -91,7 +91,7 @@ module _ (s : List ℕ) (sh : Shape) (ok : Accepted s sh) (n : ℕ) where
     pub update-in : ownerIn s n < sh .edges
     update-in = omega (arith, ap (ownerIn s) update-here, update-edge-known s sh (ok .shape) (ok .unrefused) (n - firstUpdate sh) (omega arith))
 
-    pub deed-in : DeedKnown (sh .variables) (sh .nodes) (updateAt s sh (n - firstUpdate sh) .1)
+    pub deed-in : DeedKnown (sh .variables) (sh .nodes) (updateAt s sh (n - firstUpdate sh) .1 .deed)
     deed-in = update-deed-known s sh (ok .shape) (ok .unrefused) (n - firstUpdate sh) (omega arith)
 
     pub update-at : updateAt s sh (n - firstUpdate sh) ≡ updateIn s n

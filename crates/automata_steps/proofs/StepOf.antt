@@ -7,31 +7,31 @@ use lib.ListN.{getD, set}
 use Rattle.records.specs.Refusal.{Refusal, Out, val, fault, _>>=_, choose}
 use Rattle.expressions.specs.Nodes.{Node}
 use Rattle.prelude.specs.Owned.{of}
-use Rattle.model.specs.Runs.{Variable, World, Run, Answer, taken, Deed, deed, deeds, guardHolds}
+use Rattle.model.specs.Runs.{Variable, World, Run, Answer, taken, Action, action, actions, guardHolds}
 use Rattle.model.specs.AutomataTable.{LiteralTrigger, always, event, clock, Literal, Automata, edge}
 use Rattle.model.specs.Automata.{literalTriggerHolds, literalHolds, reads, opens, theOne, reset, leaving, openEdges, edgeStep}
 use Rattle.machines.specs.Worlds.{Moment}
 use Rattle.automata_steps.specs.StepOf.{bareRun, theOpen, entered, takeEdge}
 
--- ---- updates: record n says the deed act n, and the world goes by the moment
+-- ---- updates: record n says the action act n, and the world goes by the moment
 
-module _ (nodes : List Node) (variables : List Variable) (act : ℕ → Deed) where
+module _ (nodes : List Node) (variables : List Variable) (act : ℕ → Action) where
   abbrev pub doOn : List ℕ → (Moment → World) → Moment → Out World
-  doOn ns w = λ m. deeds nodes variables (map act ns) (w m)
+  doOn ns w = λ m. actions nodes variables (map act ns) (w m)
 
   module _ (n : ℕ) (w : Moment → World) where
-    one : (rest : List ℕ) (m : Moment) → doOn (n ∷ rest) w m ≡ (deed nodes variables (act n) (w m) >>= deeds nodes variables (map act rest))
-    unfolding deeds
+    one : (rest : List ℕ) (m : Moment) → doOn (n ∷ rest) w m ≡ (action nodes variables (act n) (w m) >>= actions nodes variables (map act rest))
+    unfolding actions
     one rest m = refl
 
-    pub do-fault : (f : Refusal) → ((m : Moment) → fault f ≡ deed nodes variables (act n) (w m)) → (rest : List ℕ) → doOn (n ∷ rest) w ≡ (λ m. fault f)
-    do-fault f d rest = λ i m. (one rest m ∙ ap (λ o. o >>= deeds nodes variables (map act rest)) (sym (d m))) i
+    pub do-fault : (f : Refusal) → ((m : Moment) → fault f ≡ action nodes variables (act n) (w m)) → (rest : List ℕ) → doOn (n ∷ rest) w ≡ (λ m. fault f)
+    do-fault f d rest = λ i m. (one rest m ∙ ap (λ o. o >>= actions nodes variables (map act rest)) (sym (d m))) i
 
-    pub do-more : (w′ : Moment → World) → ((m : Moment) → val (w′ m) ≡ deed nodes variables (act n) (w m)) → (rest : List ℕ) → doOn (n ∷ rest) w ≡ doOn rest w′
-    do-more w′ d rest = λ i m. (one rest m ∙ ap (λ o. o >>= deeds nodes variables (map act rest)) (sym (d m))) i
+    pub do-more : (w′ : Moment → World) → ((m : Moment) → val (w′ m) ≡ action nodes variables (act n) (w m)) → (rest : List ℕ) → doOn (n ∷ rest) w ≡ doOn rest w′
+    do-more w′ d rest = λ i m. (one rest m ∙ ap (λ o. o >>= actions nodes variables (map act rest)) (sym (d m))) i
 
   pub do-none : (w : Moment → World) → doOn [] w ≡ (λ m. val (w m))
-  unfolding deeds
+  unfolding actions
   do-none w = refl
 
 -- ---- resets: record n says the clock g n
@@ -85,9 +85,9 @@ module _ (au : Automata) (a : ℕ) (r : Run) where
   step-takes e h = ap (λ o. o >>= takeEdge au a r) h ∙ sym step-by
 
   module _ (e : ℕ) where
-    pub take-fault : (f : Refusal) → fault f ≡ deeds (au .nodes) (au .variables) (of e (au .updates)) (r .world) → fault f ≡ takeEdge au a r e
+    pub take-fault : (f : Refusal) → fault f ≡ actions (au .nodes) (au .variables) (of e (au .updates)) (r .world) → fault f ≡ takeEdge au a r e
     take-fault f d = ap (λ o. o >>= then-entered e) d
 
-    pub take-done : (w : World) → val w ≡ deeds (au .nodes) (au .variables) (of e (au .updates)) (r .world) → (target : ℕ) → target ≡ edge au e .target →
+    pub take-done : (w : World) → val w ≡ actions (au .nodes) (au .variables) (of e (au .updates)) (r .world) → (target : ℕ) → target ≡ edge au e .target →
         (clocks : List ℕ) → clocks ≡ reset (of e (au .resets)) (r .timers) → (r′ : Run) → r′ ≡ entered r a target clocks w → val (taken e, r′) ≡ takeEdge au a r e
     take-done w d target t clocks k r′ f = ap (λ x. val (taken e, x)) (f ∙ (λ i. entered r a (t i) (k i) w)) ∙ ap (λ o. o >>= then-entered e) d

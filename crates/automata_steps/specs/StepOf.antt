@@ -7,7 +7,7 @@ use lib.IntN.{ℤ}
 use lib.ListN.{set}
 use Rattle.records.specs.Refusal.{many-open, Out, val, fault, _>>=_}
 use Rattle.prelude.specs.Owned.{of}
-use Rattle.model.specs.Runs.{World, Run, Answer, taken, deeds}
+use Rattle.model.specs.Runs.{World, Run, Answer, taken, actions}
 use Rattle.model.specs.AutomataTable.{Automata, edge}
 use Rattle.model.specs.Automata.{literalHolds, reads, opens, theOne, leaving, reset}
 use Rattle.answers.specs.Answers.{reasonOf}
@@ -72,7 +72,7 @@ entered r automaton target clocks w = record { at = set (r .at) automaton target
 
 abbrev pub takeEdge : Automata → ℕ → Run → ℕ → Out (Answer × Run)
 takeEdge au automaton r e =
-    deeds (au .nodes) (au .variables) (of e (au .updates)) (r .world)
+    actions (au .nodes) (au .variables) (of e (au .updates)) (r .world)
     >>= λ w. val (taken e, entered r automaton (edge au e .target) (reset (of e (au .resets)) (r .timers)) w)
 
 -- A fault leaves locations and clocks as they were. The variables may have values of the updates before it: nothing is said of them.

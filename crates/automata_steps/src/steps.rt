@@ -3,7 +3,7 @@ ghost use mathlib.Core.Path.{_≡_};
 ghost use Prim.Native.Nat.{_+_, _-_, _≤_, _<_};
 ghost use lib.ListN.{length};
 ghost use Rattle.prelude.specs.Owned.{of};
-ghost use Rattle.model.specs.Runs.{deed};
+ghost use Rattle.model.specs.Runs.{action};
 ghost use Rattle.model.specs.AutomataTable.{readAutomata};
 ghost use Rattle.model.specs.Automata.{reset, edgeStep};
 ghost use Rattle.automata_records.specs.Places.{firstUpdate, firstReset, updateIn, resetIn};
@@ -22,7 +22,7 @@ use super::values::values_of;
 use answers::Reason;
 use automata_records::Shape;
 use machines::deeds::Done;
-use machines::deeds::do_deed;
+use machines::deeds::do_guarded;
 use machines::deeds::done_by;
 use records::sizes::Clocks;
 use records::sizes::EFFECT_KEYS;
@@ -36,15 +36,16 @@ pub enum Stepped {
     Fault(Reason),
 }
 
-// The deed of the update that is record n.
+// The update that is record n, if its guard holds.
 fn do_update(s: &[u8], shape: Shape, n: u16, vars: &mut Variables, events: u32) -> Done
     requires { ⌜ Accepted (now s) shape × (firstUpdate shape ≤ n) × (n < firstReset shape) ⌝ }
-    ensures { λ r. ⌜ ((m : Moment) → worldAfter r (now (vars .exit)) m ≡ deed (readAutomata (now (s .entry)) .nodes) (readAutomata (now (s .entry)) .variables) (updateIn (now (s .entry)) n .1) (worldIn (now (vars .entry)) events m)) ⌝ }
+    ensures { λ r. ⌜ ((m : Moment) → worldAfter r (now (vars .exit)) m ≡ action (readAutomata (now (s .entry)) .nodes) (readAutomata (now (s .entry)) .variables) (updateIn (now (s .entry)) n .1) (worldIn (now (vars .entry)) events m)) ⌝ }
 {
     let code = byte_of(s, n, 1);
     let x = byte_of(s, n, 4);
     let node = two_of(s, n, 6);
-    done_by(do_deed(s, values_of(shape), code, x, node, vars, events))
+    let guard = two_of(s, n, 8);
+    done_by(do_guarded(s, values_of(shape), guard, code, x, node, vars, events))
 }
 
 // The clock that record n resets.

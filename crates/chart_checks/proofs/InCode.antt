@@ -38,10 +38,11 @@ module _ (s : List ℕ) (sh : Shape) (is : IsShape s sh) (in-code : all inCode (
       (ap (between 1 16) (sym (byte-record s (firstTransition sh + t) 1 (omega arith)))
       ∙ and-true (between 1 16 (byte r 1)) (leb (byte r 6) 3) (and-true (between 1 16 (byte r 1) && leb (byte r 6) 3) _ e .0) .0)
 
-  pub place-in-code : (i : ℕ) → i < sh .actions → (1 ≤ placeAt s sh i) × (placeAt s sh i ≤ 3)
+  pub place-in-code : (i : ℕ) → i < sh .actions → (1 ≤ placeAt s sh i) × (placeAt s sh i ≤ 4)
   unfolding caseOf
   place-in-code i h =
       let r = recordAt s (firstAction sh + i) in
       let e : actionInCode r ≡ true = thing-in-code 6 (firstAction sh) i (first-action s sh is) (omega (arith, is .actions)) in
-      ranged 1 3 (placeAt s sh i)
-      (ap (between 1 3) (sym (byte-record s (firstAction sh + i) 1 (omega arith))) ∙ and-true (between 1 3 (byte r 1)) (deedInCode (byte r 4) (byte r 5)) e .0)
+      ranged 1 4 (placeAt s sh i)
+      (ap (between 1 4) (sym (byte-record s (firstAction sh + i) 1 (omega arith)))
+      ∙ and-true (between 1 4 (byte r 1)) (deedInCode (byte r 4) (byte r 5)) (and-true (between 1 4 (byte r 1) && deedInCode (byte r 4) (byte r 5)) _ e .0) .0)

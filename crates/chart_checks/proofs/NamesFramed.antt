@@ -8,9 +8,10 @@ use lib.ListN.{length}
 use Rattle.prelude.specs.Lists.{all, upto}
 use Rattle.expressions.specs.Nodes.{nodeOf, nodeAt}
 use Rattle.expressions.specs.Sorts.{nodesNamed}
-use Rattle.prelude.proofs.Loops.{and-assoc}
+use Rattle.prelude.proofs.Loops.{and-one, and-assoc}
 use Rattle.model.specs.ChartSet.{readActions, readCharts}
-use Rattle.model.specs.ChartFile.{guardNamed, deedNamed, allNamed}
+use Rattle.model.specs.ChartFile as F
+use Rattle.model.specs.ChartFile.{guardNamed, allNamed}
 use Rattle.chart_records.specs.declared.Shape.{Shape}
 use Rattle.chart_records.specs.Shape.{IsShape}
 use Rattle.chart_records.specs.Places.{initialAt, homeAt, transitionAt, placeAt, actionAt, nodePart}
@@ -40,29 +41,40 @@ module _ (s : List ℕ) (sh : Shape) (is : IsShape s sh) where
 
   -- an action of that place, with so many owners
   abbrev ofPlace : ℕ → ℕ → ℕ → Bool
-  ofPlace place owners i = not (eqb (placeAt s sh i) place) || (ltb (actionAt s sh i .0) owners && deedNamed (sh .variables) (sh .nodes) (actionAt s sh i .1))
+  ofPlace place owners i = not (eqb (placeAt s sh i) place) || (ltb (actionAt s sh i .0) owners && F.actionNamed (sh .variables) (sh .nodes) (actionAt s sh i .1))
 
   actions : (place : ℕ) {n owners : ℕ} → n ≡ owners →
-      all (λ x. ltb (x .0) n && deedNamed (length (readCharts s .variables)) (length (readCharts s .nodes)) (x .1)) (readActions place s)
+      all (λ x. ltb (x .0) n && F.actionNamed (length (readCharts s .variables)) (length (readCharts s .nodes)) (x .1)) (readActions place s)
       ≡ all (ofPlace place owners) (upto (sh .actions))
   actions place {n} {owners} e =
-      (λ j. all (λ x. ltb (x .0) (e j) && deedNamed (length-variables s sh is j) (length-nodes s sh is j) (x .1)) (readActions place s))
-      ∙ all-actions s sh is place (λ x. ltb (x .0) owners && deedNamed (sh .variables) (sh .nodes) (x .1))
+      (λ j. all (λ x. ltb (x .0) (e j) && F.actionNamed (length-variables s sh is j) (length-nodes s sh is j) (x .1)) (readActions place s))
+      ∙ all-actions s sh is place (λ x. ltb (x .0) owners && F.actionNamed (sh .variables) (sh .nodes) (x .1))
 
-  -- the three places in one pass
-  every-action :
-      (all (ofPlace 1 (sh .states)) (upto (sh .actions)) && all (ofPlace 2 (sh .states)) (upto (sh .actions)) && all (ofPlace 3 (sh .transitions)) (upto (sh .actions)))
-      ≡ all (actionNamed s sh) (upto (sh .actions))
+  abbrev placed : ℕ → ℕ → Bool
+  placed place owners = all (ofPlace place owners) (upto (sh .actions))
+
+  -- the four places in one pass
+  every-action : (placed 1 (sh .states) && placed 2 (sh .states) && placed 3 (sh .transitions) && placed 4 (sh .states)) ≡ all (actionNamed s sh) (upto (sh .actions))
   every-action =
-      ap (λ b. b && all (ofPlace 3 (sh .transitions)) (upto (sh .actions))) (sym (all-both (ofPlace 1 (sh .states)) (ofPlace 2 (sh .states)) (upto (sh .actions))))
-      ∙ sym (all-both (λ i. ofPlace 1 (sh .states) i && ofPlace 2 (sh .states) i) (ofPlace 3 (sh .transitions)) (upto (sh .actions)))
-      ∙ (λ j. all (λ i. either (eqb (placeAt s sh i) 1) (eqb (placeAt s sh i) 2) (ltb (actionAt s sh i .0) (sh .states) && deedNamed (sh .variables) (sh .nodes) (actionAt s sh i .1)) j && ofPlace 3 (sh .transitions) i) (upto (sh .actions)))
+      (λ j. sym (all-both (ofPlace 1 (sh .states)) (ofPlace 2 (sh .states)) (upto (sh .actions))) j && placed 3 (sh .transitions) && placed 4 (sh .states))
+      ∙ (λ j. sym (all-both (λ i. ofPlace 1 (sh .states) i && ofPlace 2 (sh .states) i) (ofPlace 3 (sh .transitions)) (upto (sh .actions))) j && placed 4 (sh .states))
+      ∙ sym (all-both (λ i. ofPlace 1 (sh .states) i && ofPlace 2 (sh .states) i && ofPlace 3 (sh .transitions) i) (ofPlace 4 (sh .states)) (upto (sh .actions)))
+      ∙ (λ j. all (λ i. either (eqb (placeAt s sh i) 1) (eqb (placeAt s sh i) 2) (eqb (placeAt s sh i) 4) (ofPlace 3 (sh .transitions) i) (ltb (actionAt s sh i .0) (sh .states) && F.actionNamed (sh .variables) (sh .nodes) (actionAt s sh i .1)) j) (upto (sh .actions)))
     where
-      either : (a b x : Bool) → ((not a || x) && (not b || x)) ≡ (not (a || b) || x)
-      either true true true = refl
-      either true false true = refl
-      either true b false = refl
-      either false b x = refl
+      -- a state's: of three places, with another's test between
+      either : (a b c y x : Bool) → ((not a || x) && (not b || x) && y && (not c || x)) ≡ ((not (a || b || c) || x) && y)
+      either true true true y true = sym (and-one y)
+      either true true false y true = sym (and-one y)
+      either true false true y true = sym (and-one y)
+      either true false false y true = sym (and-one y)
+      either true b c y false = refl
+      either false true true y true = sym (and-one y)
+      either false true false y true = sym (and-one y)
+      either false true c y false = refl
+      either false false true y true = sym (and-one y)
+      either false false true true false = refl
+      either false false true false false = refl
+      either false false false y x = sym (and-one y)
 
   nodes : nodesNamed (nodeOf (readCharts s .nodes)) (length (readCharts s .nodes)) (length (readCharts s .variables)) ≡ nodesNamed (nodeAt (nodePart s sh)) (sh .nodes) (sh .variables)
   nodes = λ j. nodesNamed (lookup-is s sh is j) (length-nodes s sh is j) (length-variables s sh is j)
@@ -77,19 +89,23 @@ module _ (s : List ℕ) (sh : Shape) (is : IsShape s sh) where
 
   pub named-is : allNamed (readCharts s) ≡ (othersNamed && all (actionNamed s sh) (upto (sh .actions)))
   named-is =
-      (λ j. initials j && homes j && transitions j && nodes j && actions 1 (length-homes s sh is) j && actions 2 (length-homes s sh is) j && actions 3 (length-transitions s sh is) j)
-      ∙ (λ j. sym (and-assoc othersNamed one two) j && three)
-      ∙ sym (and-assoc othersNamed (one && two) three)
+      (λ j. initials j && homes j && transitions j && nodes j && actions 1 (length-homes s sh is) j && actions 2 (length-homes s sh is) j && actions 3 (length-transitions s sh is) j && actions 4 (length-homes s sh is) j)
+      ∙ (λ j. sym (and-assoc othersNamed one two) j && three && four)
+      ∙ (λ j. sym (and-assoc othersNamed (one && two) three) j && four)
+      ∙ sym (and-assoc othersNamed (one && two && three) four)
       ∙ ap (λ b. othersNamed && b) every-action
     where
       one : Bool
-      one = all (ofPlace 1 (sh .states)) (upto (sh .actions))
+      one = placed 1 (sh .states)
 
       two : Bool
-      two = all (ofPlace 2 (sh .states)) (upto (sh .actions))
+      two = placed 2 (sh .states)
 
       three : Bool
-      three = all (ofPlace 3 (sh .transitions)) (upto (sh .actions))
+      three = placed 3 (sh .transitions)
+
+      four : Bool
+      four = placed 4 (sh .states)
 
   pub actions-known : allNamed (readCharts s) ≡ true → all (actionNamed s sh) (upto (sh .actions)) ≡ true
   actions-known e = and-true othersNamed (all (actionNamed s sh) (upto (sh .actions))) (sym named-is ∙ e) .1

@@ -15,11 +15,12 @@ use Rattle.expressions.specs.Uses.{addUses, allOperands}
 use Rattle.prelude.proofs.Loops.{left-more, left-none}
 use Rattle.expressions.proofs.Uses.{times, adds-append, adds-length, adds-at, once}
 use Rattle.model.specs.ChartSet.{readCharts, readActions}
-use Rattle.model.specs.ChartFile.{inCode, guardNodes, assignedNodes, guards, assigned, uses}
+use Rattle.model.specs.Runs.{Action}
+use Rattle.model.specs.ChartFile.{inCode, guardNodes, assignedNodes, allActions, transitionGuards, actionGuards, guards, assigned, uses}
 use Rattle.chart_records.specs.declared.Shape.{Shape}
 use Rattle.chart_records.specs.Shape.{IsShape}
-use Rattle.chart_records.specs.Places.{transitionAt, placeAt, nodePart}
-use Rattle.chart_checks.specs.Used.{guardAt, assignedAt, operandUse, guardUse, assignedUse, allUses, truths, numbers}
+use Rattle.chart_records.specs.Places.{transitionAt, placeAt, actionAt, nodePart}
+use Rattle.chart_checks.specs.Used.{guardAt, conditionAt, assignedAt, operandUse, guardUse, actionUse, allUses, truths, numbers}
 use Rattle.prelude.proofs.Maps.{gather-map, alike-upto}
 use Rattle.chart_records.proofs.PlacesRead.{transitions-are, gather-actions, lookup-is, length-nodes, most-nodes}
 use Rattle.prelude.proofs.Lists.{gather-append}
@@ -63,7 +64,7 @@ module _ {A B : Type 0} (p : B → Bool) (f g : A → List B) where
 module _ (s : List ℕ) (sh : Shape) where
   pub length-uses : length (allUses s sh) ≡ 1024
   length-uses =
-      adds-length (addUses (addUses (replicate 1024 0) (operandUse s sh)) (guardUse s sh)) (assignedUse s sh)
+      adds-length (addUses (addUses (replicate 1024 0) (operandUse s sh)) (guardUse s sh)) (actionUse s sh)
       ∙ adds-length (addUses (replicate 1024 0) (operandUse s sh)) (guardUse s sh)
       ∙ adds-length (replicate 1024 0) (operandUse s sh)
       ∙ length-replicate {A = ℕ} 1024 0
@@ -76,76 +77,106 @@ three-uses u k xs ys zs l z =
     let d : times k (xs ++ ys) ≡ times k xs + times k ys = count-append (λ n. eqb n k) xs ys in
     ap (λ v. getD v k 0) a ∙ b ∙ ap (min 2) (omega arith)
 
--- ---- guards and assigned nodes
+-- ---- guards of transitions, and what actions use
 
 module _ (s : List ℕ) (sh : Shape) (is : IsShape s sh) where
-  pub guards-are : guards (readCharts s) ≡ gather (guardAt s sh) (upto (sh .transitions))
+  pub guards-are : transitionGuards (readCharts s) ≡ gather (guardAt s sh) (upto (sh .transitions))
   guards-are = ap (gather (λ t. guardNodes (t .guard))) (transitions-are s sh is) ∙ gather-map (transitionAt s sh) (λ t. guardNodes (t .guard)) (upto (sh .transitions))
 
-  pub guards-is : truths (nodeOf (readCharts s .nodes)) (guards (readCharts s)) ≡ all (λ t. truths (nodeAt (nodePart s sh)) (guardAt s sh t)) (upto (sh .transitions))
+  pub guards-is : truths (nodeOf (readCharts s .nodes)) (transitionGuards (readCharts s)) ≡ all (λ t. truths (nodeAt (nodePart s sh)) (guardAt s sh t)) (upto (sh .transitions))
   guards-is =
       (λ i. truths (lookup-is s sh is i) (guards-are i))
       ∙ all-gather (λ n. isTruth (sortOf (nodeAt (nodePart s sh) n))) (guardAt s sh) (upto (sh .transitions))
 
-  -- of the actions of a place
-  abbrev part : ℕ → ℕ → List ℕ
-  part place i = cond (eqb (placeAt s sh i) place) (assignedAt s sh i) []
-
-  assigned-are : assigned (readCharts s) ≡ (gather (part 1) (upto (sh .actions)) ++ gather (part 2) (upto (sh .actions))) ++ gather (part 3) (upto (sh .actions))
-  assigned-are =
-      gather-append (λ x. assignedNodes (x .1)) (readActions 1 s ++ readActions 2 s) (readActions 3 s)
-      ∙ ap (λ l. l ++ gather (λ x. assignedNodes (x .1)) (readActions 3 s)) (gather-append (λ x. assignedNodes (x .1)) (readActions 1 s) (readActions 2 s))
-      ∙ (λ i.
-      (gather-actions s sh is 1 (λ x. assignedNodes (x .1)) i ++ gather-actions s sh is 2 (λ x. assignedNodes (x .1)) i)
-      ++ gather-actions s sh is 3 (λ x. assignedNodes (x .1)) i)
-
   module _ (in-code : all inCode (records s) ≡ true) where
-    -- each action has one place of the three
-    parts : (i : ℕ) → i < sh .actions → (part 1 i ++ part 2 i) ++ part 3 i ≡ assignedAt s sh i
-    parts i h = go (placeAt s sh i) (place-in-code s sh is in-code i h) (assignedAt s sh i)
-      where
-        go : (p : ℕ) → (1 ≤ p) × (p ≤ 3) → (l : List ℕ) → (cond (eqb p 1) l [] ++ cond (eqb p 2) l []) ++ cond (eqb p 3) l [] ≡ l
-        go zero b l = absurd (omega arith)
-        go (suc zero) b l = append-nil (l ++ []) ∙ append-nil l
-        go (suc (suc zero)) b l = append-nil l
-        go (suc (suc (suc zero))) b l = refl
-        go (suc (suc (suc (suc n)))) b l = absurd (omega arith)
+    -- nodes that an action has, of all actions: those of the four places together are those of each
+    module _ (f : Action → List ℕ) where
+      abbrev whole : ℕ → List ℕ
+      whole i = f (actionAt s sh i .1)
 
-    pub assigned-is : numbers (nodeOf (readCharts s .nodes)) (assigned (readCharts s)) ≡ all (λ i. numbers (nodeAt (nodePart s sh)) (assignedAt s sh i)) (upto (sh .actions))
-    assigned-is =
-        (λ i. numbers (lookup-is s sh is i) (assigned-are i))
-        ∙ all-append test (gather (part 1) (upto (sh .actions)) ++ gather (part 2) (upto (sh .actions))) (gather (part 3) (upto (sh .actions)))
-        ∙ ap (λ b. b && all test (gather (part 3) (upto (sh .actions)))) (all-merge test (part 1) (part 2) (upto (sh .actions)))
-        ∙ sym (all-append test (gather (λ i. part 1 i ++ part 2 i) (upto (sh .actions))) (gather (part 3) (upto (sh .actions))))
-        ∙ all-merge test (λ i. part 1 i ++ part 2 i) (part 3) (upto (sh .actions))
-        ∙ ap (all test) (gather-alike (λ i. (part 1 i ++ part 2 i) ++ part 3 i) (assignedAt s sh) (sh .actions) parts)
-        ∙ all-gather test (assignedAt s sh) (upto (sh .actions))
-      where
-        test : ℕ → Bool
-        test n = isNumber (sortOf (nodeAt (nodePart s sh) n))
+      abbrev part : ℕ → ℕ → List ℕ
+      part place i = cond (eqb (placeAt s sh i) place) (whole i) []
 
-    assigned-times : (k : ℕ) → times k (assigned (readCharts s)) ≡ times k (gather (assignedAt s sh) (upto (sh .actions)))
-    assigned-times k =
-        ap (times k) assigned-are
-        ∙ count-append here (gather (part 1) (upto (sh .actions)) ++ gather (part 2) (upto (sh .actions))) (gather (part 3) (upto (sh .actions)))
-        ∙ ap (λ n. n + count here (gather (part 3) (upto (sh .actions)))) (count-merge here (part 1) (part 2) (upto (sh .actions)))
-        ∙ sym (count-append here (gather (λ i. part 1 i ++ part 2 i) (upto (sh .actions))) (gather (part 3) (upto (sh .actions))))
-        ∙ count-merge here (λ i. part 1 i ++ part 2 i) (part 3) (upto (sh .actions))
-        ∙ ap (count here) (gather-alike (λ i. (part 1 i ++ part 2 i) ++ part 3 i) (assignedAt s sh) (sh .actions) parts)
-      where
-        here : ℕ → Bool
-        here n = eqb n k
+      abbrev parted : ℕ → List ℕ
+      parted place = gather (part place) (upto (sh .actions))
+
+      parts-are : gather (λ x. f (x .1)) (allActions (readCharts s)) ≡ parted 1 ++ parted 2 ++ parted 3 ++ parted 4
+      parts-are =
+          gather-append have (readActions 1 s ++ readActions 2 s ++ readActions 3 s) (readActions 4 s)
+          ∙ ap (λ l. l ++ gather have (readActions 4 s)) (gather-append have (readActions 1 s ++ readActions 2 s) (readActions 3 s))
+          ∙ ap (λ l. l ++ gather have (readActions 3 s) ++ gather have (readActions 4 s)) (gather-append have (readActions 1 s) (readActions 2 s))
+          ∙ (λ i. gather-actions s sh is 1 have i ++ gather-actions s sh is 2 have i ++ gather-actions s sh is 3 have i ++ gather-actions s sh is 4 have i)
+        where
+          have : ℕ × Action → List ℕ
+          have x = f (x .1)
+
+      -- each action has one place of the four
+      parts : (i : ℕ) → i < sh .actions → part 1 i ++ part 2 i ++ part 3 i ++ part 4 i ≡ whole i
+      parts i h = go (placeAt s sh i) (place-in-code s sh is in-code i h) (whole i)
+        where
+          go : (p : ℕ) → (1 ≤ p) × (p ≤ 4) → (l : List ℕ) → cond (eqb p 1) l [] ++ cond (eqb p 2) l [] ++ cond (eqb p 3) l [] ++ cond (eqb p 4) l [] ≡ l
+          go zero b l = absurd (omega arith)
+          go (suc zero) b l = append-nil (l ++ [] ++ []) ∙ append-nil (l ++ []) ∙ append-nil l
+          go (suc (suc zero)) b l = append-nil (l ++ []) ∙ append-nil l
+          go (suc (suc (suc zero))) b l = append-nil l
+          go (suc (suc (suc (suc zero)))) b l = refl
+          go (suc (suc (suc (suc (suc n))))) b l = absurd (omega arith)
+
+      -- what tells two lists of nodes apart by no order tells the parts and the whole alike
+      merged : {X : Type 0} (tell : List ℕ → X) (add : X → List ℕ → X) →
+          ((xs ys : List ℕ) → tell (xs ++ ys) ≡ add (tell xs) ys) →
+          ((g h : ℕ → List ℕ) → tell (gather g (upto (sh .actions)) ++ gather h (upto (sh .actions))) ≡ tell (gather (λ i. g i ++ h i) (upto (sh .actions)))) →
+          tell (gather (λ x. f (x .1)) (allActions (readCharts s))) ≡ tell (gather whole (upto (sh .actions)))
+      merged tell add append merge =
+          ap tell parts-are
+          ∙ behind (parted 1 ++ parted 2 ++ parted 3) (gather (λ i. part 1 i ++ part 2 i ++ part 3 i) (upto (sh .actions))) (parted 4)
+          (behind (parted 1 ++ parted 2) (gather (λ i. part 1 i ++ part 2 i) (upto (sh .actions))) (parted 3) (merge (part 1) (part 2)) ∙ merge (λ i. part 1 i ++ part 2 i) (part 3))
+          ∙ merge (λ i. part 1 i ++ part 2 i ++ part 3 i) (part 4)
+          ∙ ap tell (gather-alike (λ i. part 1 i ++ part 2 i ++ part 3 i ++ part 4 i) whole (sh .actions) parts)
+        where
+          behind : (xs ys zs : List ℕ) → tell xs ≡ tell ys → tell (xs ++ zs) ≡ tell (ys ++ zs)
+          behind xs ys zs e = append xs zs ∙ ap (λ t. add t zs) e ∙ sym (append ys zs)
+
+      actions-all : (test : ℕ → Bool) → all test (gather (λ x. f (x .1)) (allActions (readCharts s))) ≡ all (λ i. all test (whole i)) (upto (sh .actions))
+      actions-all test =
+          merged (all test) (λ b l. b && all test l) (all-append test) (λ g h. all-merge test g h (upto (sh .actions)))
+          ∙ all-gather test whole (upto (sh .actions))
+
+      actions-times : (k : ℕ) → times k (gather (λ x. f (x .1)) (allActions (readCharts s))) ≡ times k (gather whole (upto (sh .actions)))
+      actions-times k = merged (times k) (λ n l. n + times k l) (count-append (λ n. eqb n k)) (λ g h. count-merge (λ n. eqb n k) g h (upto (sh .actions)))
+
+    pub actions-is :
+        (truths (nodeOf (readCharts s .nodes)) (actionGuards (readCharts s)) && numbers (nodeOf (readCharts s .nodes)) (assigned (readCharts s)))
+        ≡ all (λ i. truths (nodeAt (nodePart s sh)) (conditionAt s sh i) && numbers (nodeAt (nodePart s sh)) (assignedAt s sh i)) (upto (sh .actions))
+    actions-is =
+        (λ j. truths (lookup-is s sh is j) (actionGuards (readCharts s)) && numbers (lookup-is s sh is j) (assigned (readCharts s)))
+        ∙ (λ j. actions-all (λ a. guardNodes (a .guard)) (λ n. isTruth (sortOf (nodeAt (nodePart s sh) n))) j && actions-all (λ a. assignedNodes (a .deed)) (λ n. isNumber (sortOf (nodeAt (nodePart s sh) n))) j)
+        ∙ sym (all-both (λ i. truths (nodeAt (nodePart s sh)) (conditionAt s sh i)) (λ i. numbers (nodeAt (nodePart s sh)) (assignedAt s sh i)) (upto (sh .actions)))
+
+    -- an action's guard and its assigned node, counted together
+    action-times : (k : ℕ) → times k (actionGuards (readCharts s)) + times k (assigned (readCharts s)) ≡ times k (actionUse s sh)
+    action-times k =
+        (λ j. actions-times (λ a. guardNodes (a .guard)) k j + actions-times (λ a. assignedNodes (a .deed)) k j)
+        ∙ sym (count-append (λ n. eqb n k) (gather (conditionAt s sh) (upto (sh .actions))) (gather (assignedAt s sh) (upto (sh .actions))))
+        ∙ count-merge (λ n. eqb n k) (conditionAt s sh) (assignedAt s sh) (upto (sh .actions))
 
     -- every node used exactly once
     use-at : (k : ℕ) → k < sh .nodes → eqb (getD (allUses s sh) k 0) 1 ≡ eqb (uses (readCharts s) k) 1
     use-at k h =
         ap (λ n. eqb n 1)
-        (three-uses (replicate 1024 0) k (operandUse s sh) (guardUse s sh) (assignedUse s sh) (omega (arith, length-replicate {A = ℕ} 1024 0, most-nodes s sh is)) (getD-replicate 1024 k 0 0 (omega (arith, most-nodes s sh is))))
-        ∙ once (times k (operandUse s sh) + times k (guardUse s sh) + times k (assignedUse s sh))
+        (three-uses (replicate 1024 0) k (operandUse s sh) (guardUse s sh) (actionUse s sh) (omega (arith, length-replicate {A = ℕ} 1024 0, most-nodes s sh is)) (getD-replicate 1024 k 0 0 (omega (arith, most-nodes s sh is))))
+        ∙ once (times k (operandUse s sh) + times k (guardUse s sh) + times k (actionUse s sh))
         ∙ ap (λ n. eqb n 1) (sym summed)
       where
-        summed : uses (readCharts s) k ≡ times k (operandUse s sh) + times k (guardUse s sh) + times k (assignedUse s sh)
-        summed = λ i. times k (allOperands (lookup-is s sh is i) (length-nodes s sh is i)) + times k (guards-are i) + assigned-times k i
+        summed : uses (readCharts s) k ≡ times k (operandUse s sh) + times k (guardUse s sh) + times k (actionUse s sh)
+        summed =
+            (λ i. times k (allOperands (lookup-is s sh is i) (length-nodes s sh is i)) + times k (guards (readCharts s)) + times k (assigned (readCharts s)))
+            ∙ omega (
+              arith,
+              count-append (λ n. eqb n k) (transitionGuards (readCharts s)) (actionGuards (readCharts s)),
+              ap (times k) guards-are,
+              action-times k,
+            )
 
     pub used-is : all (λ n. eqb (uses (readCharts s) n) 1) (upto (length (readCharts s .nodes))) ≡ all (λ n. eqb (getD (allUses s sh) n 0) 1) (upto (sh .nodes))
     used-is =

@@ -3,7 +3,8 @@ use mathlib.Core.Bool.{Bool, not, _&&_, _||_}
 use mathlib.Core.List.{List}
 use Prim.Native.Nat.{ℕ}
 use lib.Dec.{ltb, eqb}
-use Rattle.model.specs.ChartFile.{guardNamed, deedNamed}
+use Rattle.model.specs.ChartFile as F
+use Rattle.model.specs.ChartFile.{guardNamed}
 use Rattle.chart_records.specs.declared.Shape.{Shape}
 use Rattle.chart_records.specs.Places.{initialAt, homeAt, transitionAt, placeAt, actionAt}
 
@@ -21,5 +22,5 @@ module _ (s : List ℕ) (sh : Shape) where
   -- of an action of a state, and of one of a transition; one of another place passes
   abbrev pub actionNamed : ℕ → Bool
   actionNamed i =
-      (not (eqb (placeAt s sh i) 1 || eqb (placeAt s sh i) 2) || (ltb (actionAt s sh i .0) (sh .states) && deedNamed (sh .variables) (sh .nodes) (actionAt s sh i .1)))
-      && (not (eqb (placeAt s sh i) 3) || (ltb (actionAt s sh i .0) (sh .transitions) && deedNamed (sh .variables) (sh .nodes) (actionAt s sh i .1)))
+      (not (eqb (placeAt s sh i) 1 || eqb (placeAt s sh i) 2 || eqb (placeAt s sh i) 4) || (ltb (actionAt s sh i .0) (sh .states) && F.actionNamed (sh .variables) (sh .nodes) (actionAt s sh i .1)))
+      && (not (eqb (placeAt s sh i) 3) || (ltb (actionAt s sh i .0) (sh .transitions) && F.actionNamed (sh .variables) (sh .nodes) (actionAt s sh i .1)))

@@ -1,6 +1,6 @@
 -- Refusal 8, one transition and one action at a time. Assumes nothing: these are definitions.
 use mathlib.Core.Bool.{Bool}
-use mathlib.Core.List.{List}
+use mathlib.Core.List.{List, _++_}
 use Prim.Native.Nat.{ℕ}
 use lib.ListN.{replicate}
 use Rattle.model.specs.Limits.{mostNodes}
@@ -12,26 +12,29 @@ use Rattle.model.specs.ChartFile.{guardNodes, assignedNodes}
 use Rattle.chart_records.specs.declared.Shape.{Shape}
 use Rattle.chart_records.specs.Places.{transitionAt, actionAt, nodePart}
 
--- the node that transition t has as its guard, and that action i assigns, if there is one
+-- the node that transition t has as its guard, that action i has as its guard, and that it assigns, if there is one
 module _ (s : List ℕ) (sh : Shape) where
   abbrev pub guardAt : ℕ → List ℕ
   guardAt t = guardNodes (transitionAt s sh t .guard)
 
-  abbrev pub assignedAt : ℕ → List ℕ
-  assignedAt i = assignedNodes (actionAt s sh i .1)
+  abbrev pub conditionAt : ℕ → List ℕ
+  conditionAt i = guardNodes (actionAt s sh i .1 .guard)
 
-  -- the nodes that are used as operands, as guards and in assignments, and the uses of each node, counted in that order
+  abbrev pub assignedAt : ℕ → List ℕ
+  assignedAt i = assignedNodes (actionAt s sh i .1 .deed)
+
+  -- the nodes that are used as operands, as guards of transitions and by actions, and the uses of each node, counted in that order
   abbrev pub operandUse : List ℕ
   operandUse = allOperands (nodeAt (nodePart s sh)) (sh .nodes)
 
   abbrev pub guardUse : List ℕ
   guardUse = gather guardAt (upto (sh .transitions))
 
-  abbrev pub assignedUse : List ℕ
-  assignedUse = gather assignedAt (upto (sh .actions))
+  abbrev pub actionUse : List ℕ
+  actionUse = gather (λ i. conditionAt i ++ assignedAt i) (upto (sh .actions))
 
   abbrev pub allUses : List ℕ
-  allUses = addUses (addUses (addUses (replicate mostNodes 0) operandUse) guardUse) assignedUse
+  allUses = addUses (addUses (addUses (replicate mostNodes 0) operandUse) guardUse) actionUse
 
 module _ (node : ℕ → Node) where
   abbrev pub truths : List ℕ → Bool

@@ -5,6 +5,7 @@ ghost use Rattle.expressions.specs.Nodes.{nodeAt};
 ghost use Rattle.expressions.specs.Verdicts.{verdictOf};
 ghost use Rattle.model.specs.ChartSet.{readCharts};
 ghost use Rattle.model.specs.ChartFile.{guardNamed, deedNamed, allNamed};
+ghost use Rattle.model.specs.ChartFile as file;
 ghost use Rattle.chart_records.specs.Shape.{IsShape};
 ghost use Rattle.chart_records.specs.Places.{nodePart};
 ghost use Rattle.chart_records.specs.Parts.{guardFor, deedFor};
@@ -12,6 +13,7 @@ ghost use Rattle.chart_checks.specs.Names.{initialNamed, homeNamed, tran
 use chart_records::Shape;
 use chart_records::fields::Deed;
 use chart_records::fields::Guard;
+use chart_records::fields::condition_of;
 use chart_records::fields::deed_of;
 use chart_records::fields::guard_of;
 use chart_records::fields::home_of;
@@ -78,7 +80,7 @@ fn transitions_named(s: &[u8], shape: Shape) -> bool
     true
 }
 
-pub fn deed_named(deed: Deed, variables: u16, nodes: u16) -> bool
+fn deed_named(deed: Deed, variables: u16, nodes: u16) -> bool
     ensures { λ r. ⌜ r ≡ deedNamed variables nodes (deedFor deed) ⌝ }
 {
     match deed {
@@ -87,15 +89,27 @@ pub fn deed_named(deed: Deed, variables: u16, nodes: u16) -> bool
     }
 }
 
+// The guard and the deed of an action or update.
+pub fn parts_named(guard: Guard, deed: Deed, variables: u16, nodes: u16) -> bool
+    ensures { λ r. ⌜ r ≡ file.actionNamed variables nodes (record { guard = guardFor guard; deed = deedFor deed }) ⌝ }
+{
+    guard_named(guard, nodes) & deed_named(deed, variables, nodes)
+}
+
 // An action that is neither a state's nor a transition's passes.
 fn action_named(s: &[u8], shape: Shape, i: u16) -> bool
     ensures { λ r. ⌜ r ≡ actionNamed (now (s .entry)) shape i ⌝ }
 {
     let place = place_of(s, shape, i);
     let owner = owner_of(s, shape, i);
-    let deed = deed_named(deed_of(s, shape, i), shape.variables, shape.nodes);
-    (!((place == 1) | (place == 2)) | ((owner < shape.states) & deed))
-        & ((place != 3) | ((owner < shape.transitions) & deed))
+    let named = parts_named(
+        condition_of(s, shape, i),
+        deed_of(s, shape, i),
+        shape.variables,
+        shape.nodes,
+    );
+    (!((place == 1) | (place == 2) | (place == 4)) | ((owner < shape.states) & named))
+        & ((place != 3) | ((owner < shape.transitions) & named))
 }
 
 fn actions_named(s: &[u8], shape: Shape) -> bool

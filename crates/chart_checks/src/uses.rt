@@ -1,6 +1,6 @@
 // Refusal 8: operands, guards that are truths, assigned nodes that are numbers, and every node used exactly once.
 ghost use mathlib.Core.Path.{_≡_};
-ghost use mathlib.Core.Bool.{true};
+ghost use mathlib.Core.Bool.{true, _&&_};
 ghost use Prim.Native.Nat.{_≤_};
 ghost use lib.Dec.{eqb};
 ghost use lib.ListN.{length, getD, replicate};
@@ -15,10 +15,13 @@ ghost use Rattle.model.specs.ChartFile as file;
 ghost use Rattle.chart_records.specs.Shape.{IsShape};
 ghost use Rattle.chart_records.specs.Places.{nodePart};
 ghost use Rattle.chart_records.specs.Parts.{guardFor, deedFor};
-ghost use Rattle.chart_checks.specs.Used.{guardAt, assignedAt, operandUse, guardUse, assignedUse, allUses, truths, numbers};
+ghost use mathlib.Core.List.{_++_};
+ghost use Rattle.prelude.specs.Lists.{gather};
+ghost use Rattle.chart_checks.specs.Used.{guardAt, conditionAt, assignedAt, operandUse, guardUse, actionUse, allUses, truths, numbers};
 use chart_records::Shape;
 use chart_records::fields::Deed;
 use chart_records::fields::Guard;
+use chart_records::fields::condition_of;
 use chart_records::fields::deed_of;
 use chart_records::fields::guard_of;
 use chart_records::fields::node_records;
@@ -57,7 +60,7 @@ fn guard_fits(s: &[u8], shape: Shape, nodes: &[u8], t: u16, uses: &mut [u8]) -> 
 // Counts them too, so that each is read once.
 fn guards_fit(s: &[u8], shape: Shape, uses: &mut [u8]) -> bool
     requires { ⌜ IsShape (now s) shape ⌝ }
-    ensures { λ r. ⌜ (r ≡ truths (nodeOf (readCharts (now (s .entry)) .nodes)) (file.guards (readCharts (now (s .entry))))) × (now (uses .exit) ≡ addUses (now (uses .entry)) (guardUse (now (s .entry)) shape)) ⌝ }
+    ensures { λ r. ⌜ (r ≡ truths (nodeOf (readCharts (now (s .entry)) .nodes)) (file.transitionGuards (readCharts (now (s .entry))))) × (now (uses .exit) ≡ addUses (now (uses .entry)) (guardUse (now (s .entry)) shape)) ⌝ }
 {
     let nodes = node_records(s, shape);
     let n = shape.transitions;
@@ -89,25 +92,29 @@ fn count_assigned(deed: Deed, uses: &mut [u8])
     }
 }
 
-fn assigned_fits(s: &[u8], shape: Shape, nodes: &[u8], i: u16, uses: &mut [u8]) -> bool
-    ensures { λ r. ⌜ (r ≡ numbers (nodeAt (now (nodes .entry))) (assignedAt (now (s .entry)) shape i)) × (now (uses .exit) ≡ addUses (now (uses .entry)) (assignedAt (now (s .entry)) shape i)) ⌝ }
+fn action_fits(s: &[u8], shape: Shape, nodes: &[u8], i: u16, uses: &mut [u8]) -> bool
+    ensures { λ r. ⌜ (r ≡ (truths (nodeAt (now (nodes .entry))) (conditionAt (now (s .entry)) shape i) && numbers (nodeAt (now (nodes .entry))) (assignedAt (now (s .entry)) shape i)))
+        × (now (uses .exit) ≡ addUses (now (uses .entry)) (conditionAt (now (s .entry)) shape i ++ assignedAt (now (s .entry)) shape i)) ⌝ }
 {
+    let guard = condition_of(s, shape, i);
     let deed = deed_of(s, shape, i);
+    count_guard(guard, uses);
     count_assigned(deed, uses);
-    deed_sorted(deed, nodes)
+    guard_sorted(guard, nodes) & deed_sorted(deed, nodes)
 }
 
-// Counts them too. All actions have a place, so no place is asked for.
-fn assigned_fit(s: &[u8], shape: Shape, uses: &mut [u8]) -> bool
+// Their guards and their assigned nodes, which it counts too. All actions have a place, so no place is asked for.
+fn actions_fit(s: &[u8], shape: Shape, uses: &mut [u8]) -> bool
     requires { ⌜ IsShape (now s) shape × (all file.inCode (records (now s)) ≡ true) ⌝ }
-    ensures { λ r. ⌜ (r ≡ numbers (nodeOf (readCharts (now (s .entry)) .nodes)) (file.assigned (readCharts (now (s .entry))))) × (now (uses .exit) ≡ addUses (now (uses .entry)) (assignedUse (now (s .entry)) shape)) ⌝ }
+    ensures { λ r. ⌜ (r ≡ (truths (nodeOf (readCharts (now (s .entry)) .nodes)) (file.actionGuards (readCharts (now (s .entry)))) && numbers (nodeOf (readCharts (now (s .entry)) .nodes)) (file.assigned (readCharts (now (s .entry))))))
+        × (now (uses .exit) ≡ addUses (now (uses .entry)) (actionUse (now (s .entry)) shape)) ⌝ }
 {
     let nodes = node_records(s, shape);
     let n = shape.actions;
     let mut fit = true;
     let mut i = 0;
     while i < n {
-        fit = fit & assigned_fits(s, shape, nodes, i, uses);
+        fit = fit & action_fits(s, shape, nodes, i, uses);
         i += 1;
     }
     fit
@@ -134,6 +141,6 @@ pub fn nodes_fit(s: &[u8], shape: Shape, found: u8, uses: &mut [u8]) -> bool
     ensures { λ r. ⌜ (r ≡ file.nodesFit (readCharts (now (s .entry)))) × (now (uses .exit) ≡ allUses (now (s .entry)) shape) ⌝ }
 {
     let guards = guards_fit(s, shape, uses);
-    let assigned = assigned_fit(s, shape, uses);
-    says_fit(found) & guards & assigned & all_once(uses, shape.nodes)
+    let actions = actions_fit(s, shape, uses);
+    says_fit(found) & guards & actions & all_once(uses, shape.nodes)
 }

@@ -4,5 +4,7 @@ pub mod Tallies
 pub mod StructureOwners
 pub mod StructurePriorities
 pub mod StructureFramed
+pub mod WaitsAlike
+pub mod WaitsFramed
 pub mod ShapeChecked
 pub mod AcceptedByCheck

@@ -6,11 +6,11 @@ use mathlib.Core.List.{List, [], _∷_, _++_}
 use Prim.Native.Nat.{ℕ}
 use native.Mathlib.Omega.{arith}
 use Rattle.prelude.specs.Lists.{all}
-use Rattle.records.specs.Refusal.{Refusal, stray-byte, broken-code, dangling-number, broken-structure, broken-node, zero-ticks, lowest}
+use Rattle.records.specs.Refusal.{Refusal, stray-byte, broken-code, dangling-number, broken-structure, broken-node, zero-ticks, unlike-waits, lowest}
 use Rattle.records.specs.Bytes.{records}
 use Rattle.framing.specs.Framing.{framing, framingTests}
 use Rattle.model.specs.ChartSet.{readCharts}
-use Rattle.model.specs.ChartFile.{chartLimits, chartsRefusal, unused, unusedAreZero, inCode, allNamed, structured, nodesFit, ticking}
+use Rattle.model.specs.ChartFile.{chartLimits, chartsRefusal, unused, unusedAreZero, inCode, allNamed, structured, nodesFit, allTicking, waitAlike}
 use Rattle.chart_records.specs.Shape.{IsShape}
 use Rattle.chart_files.specs.Checked.{IsChecked}
 use Rattle.records.specs.RefusalOf.{refusalOf}
@@ -33,8 +33,8 @@ lowest-append (x ∷ xs) ys = go (x .1) (lowest-append xs ys)
     go false e = e
 
 -- what the tests behind framing come to, in their order
-abbrev pub outcome : Bool → Bool → Bool → Bool → Bool → Bool → Option Refusal
-outcome zeros codes names shaped nodes ticks =
+abbrev pub outcome : Bool → Bool → Bool → Bool → Bool → Bool → Bool → Option Refusal
+outcome zeros codes names shaped nodes ticks waits =
     lowest
     ((stray-byte, not zeros)
     ∷ (broken-code, not codes)
@@ -42,6 +42,7 @@ outcome zeros codes names shaped nodes ticks =
     ∷ (broken-structure, not shaped)
     ∷ (broken-node, not nodes)
     ∷ (zero-ticks, not ticks)
+    ∷ (unlike-waits, not waits)
     ∷ [])
 
 module _ (s : List ℕ) where
@@ -53,7 +54,8 @@ module _ (s : List ℕ) where
       (allNamed (readCharts s))
       (structured (readCharts s))
       (nodesFit (readCharts s))
-      (all (λ t. ticking (t .trigger)) (readCharts s .transitions))
+      (allTicking (readCharts s))
+      (waitAlike (readCharts s))
 
   by-framing : chartsRefusal s ≡ orElse (framing 1 chartLimits s) behind
   by-framing = lowest-append (framingTests 1 chartLimits s) _
@@ -61,15 +63,16 @@ module _ (s : List ℕ) where
   pub refused-framing : {w : Refusal} → framing 1 chartLimits s ≡ some w → chartsRefusal s ≡ some w
   refused-framing e = by-framing ∙ ap (λ o. orElse o behind) e
 
-  module _ (framed : framing 1 chartLimits s ≡ none) {a b c d e f : Bool}
+  module _ (framed : framing 1 chartLimits s ≡ none) {a b c d e f g : Bool}
       (zeros : all (λ r. unusedAreZero (unused r) r) (records s) ≡ a)
       (codes : all inCode (records s) ≡ b)
       (names : allNamed (readCharts s) ≡ c)
       (shaped : structured (readCharts s) ≡ d)
       (nodes : nodesFit (readCharts s) ≡ e)
-      (ticks : all (λ t. ticking (t .trigger)) (readCharts s .transitions) ≡ f) where
-    pub refusal-is : chartsRefusal s ≡ outcome a b c d e f
-    refusal-is = by-framing ∙ ap (λ o. orElse o behind) framed ∙ (λ i. outcome (zeros i) (codes i) (names i) (shaped i) (nodes i) (ticks i))
+      (ticks : allTicking (readCharts s) ≡ f)
+      (waits : waitAlike (readCharts s) ≡ g) where
+    pub refusal-is : chartsRefusal s ≡ outcome a b c d e f g
+    refusal-is = by-framing ∙ ap (λ o. orElse o behind) framed ∙ (λ i. outcome (zeros i) (codes i) (names i) (shaped i) (nodes i) (ticks i) (waits i))
 
 -- ---- the answers
 

@@ -9,10 +9,11 @@ use lib.Dec.{leb, ltb, eqb}
 use lib.ListN.{length, replicate}
 use Rattle.prelude.specs.Lists.{all, any, count, keep, upto, distinct}
 use Rattle.records.specs.Bytes.{records}
-use Rattle.prelude.proofs.Counts.{length-keep, and-true}
+use Rattle.prelude.proofs.Counts.{length-keep, and-true, impossible}
 use Rattle.expressions.proofs.Uses.{times}
 use Rattle.prelude.proofs.Loops.{and-assoc}
 use Rattle.model.specs.Owned.{home}
+use Rattle.model.specs.Runs.{Action}
 use Rattle.model.specs.ChartSet.{Transition, readCharts, readActions}
 use Rattle.model.specs.ChartFile.{between, inCode, insideCharts, leavingState, unconditional, initialFits, prioritiesDiffer, atMostEight}
 use Rattle.chart_records.specs.declared.Shape.{Shape}
@@ -156,27 +157,39 @@ module _ (s : List ℕ) (sh : Shape) (is : IsShape s sh) where
   -- ---- actions of an owner
 
   state-actions : (owner : ℕ) →
-      count (λ x. eqb (x .0) owner) (readCharts s .entries ++ readCharts s .exits)
-      ≡ count (λ i. (eqb (placeAt s sh i) 1 || eqb (placeAt s sh i) 2) && eqb (actionAt s sh i .0) owner) (upto (sh .actions))
+      count (λ x. eqb (x .0) owner) (readCharts s .entries ++ readCharts s .exits ++ readCharts s .waiting-actions)
+      ≡ count (λ i. (eqb (placeAt s sh i) 1 || eqb (placeAt s sh i) 2 || eqb (placeAt s sh i) 4) && eqb (actionAt s sh i .0) owner) (upto (sh .actions))
   state-actions owner =
-      count-append (λ x. eqb (x .0) owner) (readActions 1 s) (readActions 2 s)
-      ∙ (λ i. count-actions s sh is 1 (λ x. eqb (x .0) owner) i + count-actions s sh is 2 (λ x. eqb (x .0) owner) i)
-      ∙ count-either (λ i. eqb (placeAt s sh i) 1 && eqb (actionAt s sh i .0) owner) (λ i. eqb (placeAt s sh i) 2 && eqb (actionAt s sh i .0) owner)
-      (λ i. never-both (placeAt s sh i) (eqb (actionAt s sh i .0) owner)) (upto (sh .actions))
-      ∙ (λ j. count (λ i. or-and (eqb (placeAt s sh i) 1) (eqb (placeAt s sh i) 2) (eqb (actionAt s sh i .0) owner) j) (upto (sh .actions)))
+      count-append mine (readActions 1 s ++ readActions 2 s) (readActions 4 s)
+      ∙ ap (λ n. n + count mine (readActions 4 s)) (count-append mine (readActions 1 s) (readActions 2 s))
+      ∙ (λ i. count-actions s sh is 1 mine i + count-actions s sh is 2 mine i + count-actions s sh is 4 mine i)
+      ∙ ap (λ n. n + count (at 4) (upto (sh .actions))) (count-either (at 1) (at 2) (λ i. never-both (placeAt s sh i) (eqb (actionAt s sh i .0) owner)) (upto (sh .actions)))
+      ∙ count-either (λ i. at 1 i || at 2 i) (at 4) (λ i. nor-waiting (placeAt s sh i) (eqb (actionAt s sh i .0) owner)) (upto (sh .actions))
+      ∙ (λ j. count (λ i. either (eqb (placeAt s sh i) 1) (eqb (placeAt s sh i) 2) (eqb (placeAt s sh i) 4) (eqb (actionAt s sh i .0) owner) j) (upto (sh .actions)))
     where
-      none : (a b c : Bool) → ((a && b) ≡ false) → ((a && c) && (b && c)) ≡ false
-      none true true c e = absurd (let z : _≡_ {A = ℕ} 0 1 = cc in omega arith)
-      none true false true e = refl
-      none true false false e = refl
-      none false b c e = refl
+      mine : ℕ × Action → Bool
+      mine x = eqb (x .0) owner
+
+      at : ℕ → ℕ → Bool
+      at place i = eqb (placeAt s sh i) place && eqb (actionAt s sh i .0) owner
+
+      never : (a : Bool) → (a && false) ≡ false
+      never true = refl
+      never false = refl
 
       never-both : (p : ℕ) (c : Bool) → ((eqb p 1 && c) && (eqb p 2 && c)) ≡ false
-      never-both p c = none (eqb p 1) (eqb p 2) c (go (eqb p 1) refl)
+      never-both p c = go (eqb p 2) refl
         where
-          go : (a : Bool) → eqb p 1 ≡ a → (a && eqb p 2) ≡ false
-          go true e = let m : p ≡ 1 = eqb-true p 1 e in ne-eqb p 2 (λ q. omega arith)
-          go false e = refl
+          go : (b : Bool) → eqb p 2 ≡ b → ((eqb p 1 && c) && (b && c)) ≡ false
+          go true e = ap (λ q. (eqb q 1 && c) && c) (eqb-true p 2 e)
+          go false e = never (eqb p 1 && c)
+
+      nor-waiting : (p : ℕ) (c : Bool) → (((eqb p 1 && c) || (eqb p 2 && c)) && (eqb p 4 && c)) ≡ false
+      nor-waiting p c = go (eqb p 4) refl
+        where
+          go : (b : Bool) → eqb p 4 ≡ b → (((eqb p 1 && c) || (eqb p 2 && c)) && (b && c)) ≡ false
+          go true e = ap (λ q. ((eqb q 1 && c) || (eqb q 2 && c)) && c) (eqb-true p 4 e)
+          go false e = never ((eqb p 1 && c) || (eqb p 2 && c))
 
       or-and : (a b c : Bool) → ((a && c) || (b && c)) ≡ ((a || b) && c)
       or-and true true true = refl
@@ -185,20 +198,25 @@ module _ (s : List ℕ) (sh : Shape) (is : IsShape s sh) where
       or-and true false false = refl
       or-and false b c = refl
 
+      either : (a b d c : Bool) → ((a && c) || (b && c) || (d && c)) ≡ ((a || b || d) && c)
+      either a b d c = ap (λ x. x || (d && c)) (or-and a b c) ∙ or-and (a || b) d c
+
   module _ (in-code : all inCode (records s) ≡ true) (named : all (actionNamed s sh) (upto (sh .actions)) ≡ true) where
-    owner-known : (i : ℕ) → i < sh .actions → (1 ≤ placeAt s sh i) × (placeAt s sh i ≤ 3) × (placeAt s sh i ≤ 2 → actionAt s sh i .0 < sh .states)
+    owner-known : (i : ℕ) → i < sh .actions → (1 ≤ placeAt s sh i) × (placeAt s sh i ≤ 4) × (eqb (placeAt s sh i) 3 ≡ false → actionAt s sh i .0 < sh .states)
     owner-known i h =
-        let p : (1 ≤ placeAt s sh i) × (placeAt s sh i ≤ 3) = place-in-code s sh is in-code i h in
-        (p .0, p .1, at (placeAt s sh i) (actionAt s sh i .0) _ (p .0) (and-true _ _ (all-at (actionNamed s sh) (sh .actions) i h named) .0))
+        let p : (1 ≤ placeAt s sh i) × (placeAt s sh i ≤ 4) = place-in-code s sh is in-code i h in
+        (p .0, p .1, at (placeAt s sh i) (actionAt s sh i .0) _ (p .0) (p .1) (and-true _ _ (all-at (actionNamed s sh) (sh .actions) i h named) .0))
       where
-        at : (p x : ℕ) (d : Bool) → 1 ≤ p → (not (eqb p 1 || eqb p 2) || (ltb x (sh .states) && d)) ≡ true → p ≤ 2 → x < sh .states
-        at zero x d a e l = absurd (omega arith)
-        at (suc zero) x d a e l = ltb-true x (sh .states) (and-true (ltb x (sh .states)) d e .0)
-        at (suc (suc zero)) x d a e l = ltb-true x (sh .states) (and-true (ltb x (sh .states)) d e .0)
-        at (suc (suc (suc p))) x d a e l = absurd (omega arith)
+        at : (p x : ℕ) (d : Bool) → 1 ≤ p → p ≤ 4 → (not (eqb p 1 || eqb p 2 || eqb p 4) || (ltb x (sh .states) && d)) ≡ true → eqb p 3 ≡ false → x < sh .states
+        at zero x d a b e l = absurd (omega arith)
+        at (suc zero) x d a b e l = ltb-true x (sh .states) (and-true (ltb x (sh .states)) d e .0)
+        at (suc (suc zero)) x d a b e l = ltb-true x (sh .states) (and-true (ltb x (sh .states)) d e .0)
+        at (suc (suc (suc zero))) x d a b e l = impossible l
+        at (suc (suc (suc (suc zero)))) x d a b e l = ltb-true x (sh .states) (and-true (ltb x (sh .states)) d e .0)
+        at (suc (suc (suc (suc (suc p))))) x d a b e l = absurd (omega arith)
 
     pub owners-is :
-        (all (atMostEight (readCharts s .entries ++ readCharts s .exits)) (upto (length (readCharts s .homes)))
+        (all (atMostEight (readCharts s .entries ++ readCharts s .exits ++ readCharts s .waiting-actions)) (upto (length (readCharts s .homes)))
         && all (atMostEight (readCharts s .transition-actions)) (upto (length (readCharts s .transitions))))
         ≡ noneAbove 8 (replicate (sh .states + sh .transitions) 0) (map (ownerAt s sh) (upto (sh .actions)))
     owners-is =

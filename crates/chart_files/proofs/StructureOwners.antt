@@ -37,18 +37,19 @@ module _ (n states transitions : ℕ) (place owner : ℕ → ℕ) where
   ownerKey i = cond (eqb (place i) 3) (states + owner i) (owner i)
 
   -- every action has a place, and a state's is one of so many
-  module _ (known : (i : ℕ) → i < n → (1 ≤ place i) × (place i ≤ 3) × (place i ≤ 2 → owner i < states)) where
-    state-times : (j : ℕ) → j < states → count (λ i. (eqb (place i) 1 || eqb (place i) 2) && eqb (owner i) j) (upto n) ≡ times j (map ownerKey (upto n))
+  module _ (known : (i : ℕ) → i < n → (1 ≤ place i) × (place i ≤ 4) × (eqb (place i) 3 ≡ false → owner i < states)) where
+    state-times : (j : ℕ) → j < states → count (λ i. (eqb (place i) 1 || eqb (place i) 2 || eqb (place i) 4) && eqb (owner i) j) (upto n) ≡ times j (map ownerKey (upto n))
     state-times j h =
-        count-alike (λ i. (eqb (place i) 1 || eqb (place i) 2) && eqb (owner i) j) (λ i. eqb (ownerKey i) j) n (λ i b. at (place i) (owner i) (known i b .0) (known i b .1))
+        count-alike (λ i. (eqb (place i) 1 || eqb (place i) 2 || eqb (place i) 4) && eqb (owner i) j) (λ i. eqb (ownerKey i) j) n (λ i b. at (place i) (owner i) (known i b .0) (known i b .1))
         ∙ sym (count-map ownerKey (λ k. eqb k j) (upto n))
       where
-        at : (p x : ℕ) → 1 ≤ p → p ≤ 3 → ((eqb p 1 || eqb p 2) && eqb x j) ≡ eqb (cond (eqb p 3) (states + x) x) j
+        at : (p x : ℕ) → 1 ≤ p → p ≤ 4 → ((eqb p 1 || eqb p 2 || eqb p 4) && eqb x j) ≡ eqb (cond (eqb p 3) (states + x) x) j
         at zero x a b = absurd (omega arith)
         at (suc zero) x a b = refl
         at (suc (suc zero)) x a b = refl
         at (suc (suc (suc zero))) x a b = sym (ne-eqb (states + x) j (λ e. omega arith))
-        at (suc (suc (suc (suc m)))) x a b = absurd (omega arith)
+        at (suc (suc (suc (suc zero)))) x a b = refl
+        at (suc (suc (suc (suc (suc m))))) x a b = absurd (omega arith)
 
     transition-times : (j : ℕ) → count (λ i. eqb (place i) 3 && eqb (owner i) j) (upto n) ≡ times (states + j) (map ownerKey (upto n))
     transition-times j =
@@ -59,19 +60,23 @@ module _ (n states transitions : ℕ) (place owner : ℕ → ℕ) where
         same x true e = let q : x ≡ j = eqb-true x j e in sym (eq-eqb (states + x) (states + j) (omega arith))
         same x false e = sym (ne-eqb (states + x) (states + j) (λ q. eqb-false x j e (omega arith)))
 
-        at : (p x : ℕ) → 1 ≤ p → p ≤ 3 → (p ≤ 2 → x < states) → (eqb p 3 && eqb x j) ≡ eqb (cond (eqb p 3) (states + x) x) (states + j)
+        other : (x : ℕ) → x < states → false ≡ eqb x (states + j)
+        other x l = sym (ne-eqb x (states + j) (λ e. omega arith))
+
+        at : (p x : ℕ) → 1 ≤ p → p ≤ 4 → (eqb p 3 ≡ false → x < states) → (eqb p 3 && eqb x j) ≡ eqb (cond (eqb p 3) (states + x) x) (states + j)
         at zero x a b f = absurd (omega arith)
-        at (suc zero) x a b f = let l : x < states = f (omega arith) in sym (ne-eqb x (states + j) (λ e. omega arith))
-        at (suc (suc zero)) x a b f = let l : x < states = f (omega arith) in sym (ne-eqb x (states + j) (λ e. omega arith))
+        at (suc zero) x a b f = other x (f refl)
+        at (suc (suc zero)) x a b f = other x (f refl)
         at (suc (suc (suc zero))) x a b f = same x (eqb x j) refl
-        at (suc (suc (suc (suc m)))) x a b f = absurd (omega arith)
+        at (suc (suc (suc (suc zero)))) x a b f = other x (f refl)
+        at (suc (suc (suc (suc (suc m))))) x a b f = absurd (omega arith)
 
     pub owners-within :
-        (all (λ j. leb (count (λ i. (eqb (place i) 1 || eqb (place i) 2) && eqb (owner i) j) (upto n)) 8) (upto states)
+        (all (λ j. leb (count (λ i. (eqb (place i) 1 || eqb (place i) 2 || eqb (place i) 4) && eqb (owner i) j) (upto n)) 8) (upto states)
         && all (λ j. leb (count (λ i. eqb (place i) 3 && eqb (owner i) j) (upto n)) 8) (upto transitions))
         ≡ noneAbove 8 (replicate (states + transitions) 0) (map ownerKey (upto n))
     owners-within =
-        (λ i. all-alike (λ j. leb (count (λ i. (eqb (place i) 1 || eqb (place i) 2) && eqb (owner i) j) (upto n)) 8) (λ j. leb (times j (map ownerKey (upto n))) 8) states (λ j h. ap (λ m. leb m 8) (state-times j h)) i
+        (λ i. all-alike (λ j. leb (count (λ i. (eqb (place i) 1 || eqb (place i) 2 || eqb (place i) 4) && eqb (owner i) j) (upto n)) 8) (λ j. leb (times j (map ownerKey (upto n))) 8) states (λ j h. ap (λ m. leb m 8) (state-times j h)) i
         && all (λ j. leb (transition-times j i) 8) (upto transitions))
         ∙ sym (upto-parts (λ j. leb (times j (map ownerKey (upto n))) 8) states transitions)
         ∙ sym (within-is 8 (omega arith) (states + transitions) (map ownerKey (upto n)))

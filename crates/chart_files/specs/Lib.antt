@@ -1,3 +1,4 @@
 pub mod Checked
 pub mod Tallies
 pub mod Structure
+pub mod Waits

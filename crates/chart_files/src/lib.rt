@@ -8,6 +8,7 @@ ghost use Rattle.chart_files.specs.Checked.{IsShaped, IsChecked};
 
 pub mod structure;
 pub mod timing;
+pub mod waiting;
 
 use chart_checks::names::all_named;
 use chart_checks::uses::nodes_fit;
@@ -23,6 +24,7 @@ use records::sizes::NODES;
 use records::sizes::SET_LIMITS;
 use structure::structured;
 use timing::all_ticking;
+use waiting::waits_alike;
 
 // A file that passes is known by its shape.
 pub enum Checked {
@@ -81,7 +83,7 @@ fn test_records(s: &[u8]) -> Tested
     }
 }
 
-// Refusals 4 to 9 of a framed file, in their order.
+// Refusals 4 to 9 of a framed file, and 25, in their order.
 fn check_framed(s: &[u8], shape: Shape) -> Checked
     requires { ⌜ IsShape (now s) shape ⌝ }
     ensures { λ r. ⌜ IsChecked (now (s .entry)) r ⌝ }
@@ -107,6 +109,9 @@ fn check_framed(s: &[u8], shape: Shape) -> Checked
     }
     if !all_ticking(s, shape) {
         return Checked::Refused(Refusal::ZeroTicks);
+    }
+    if !waits_alike(s, shape) {
+        return Checked::Refused(Refusal::UnlikeWaits);
     }
     Checked::Accepted(shape)
 }

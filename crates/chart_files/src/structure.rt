@@ -189,7 +189,7 @@ fn actions_fit_initials(s: &[u8], shape: Shape, initial: &[u8]) -> bool
     true
 }
 
-// An initial state is one of its chart's, is left once and unconditionally, is never entered, and does nothing: all charts at once.
+// An initial state is one of its chart's, is left once and unconditionally, is never entered, and does nothing on entry or exit: all charts at once.
 fn initials_fit(s: &[u8], shape: Shape) -> bool
     requires { ⌜ IsShape (now s) shape × (all (initialNamed (now s) shape) (upto (shape .charts)) ≡ true) ⌝ }
     ensures { λ r. ⌜ r ≡ all (file.initialFits (readCharts (now (s .entry)))) (upto (shape .charts)) ⌝ }
@@ -281,10 +281,10 @@ fn owners_within(s: &[u8], shape: Shape, counts: &mut [u8]) -> bool
     true
 }
 
-// A state's entry and exit actions count together.
+// A state's entry, exit and waiting actions count together.
 fn owners_act(s: &[u8], shape: Shape) -> bool
     requires { ⌜ IsShape (now s) shape × (all file.inCode (records (now s)) ≡ true) × (file.allNamed (readCharts (now s)) ≡ true) ⌝ }
-    ensures { λ r. ⌜ r ≡ (all (file.atMostEight (readCharts (now (s .entry)) .entries ++ readCharts (now (s .entry)) .exits)) (upto (length (readCharts (now (s .entry)) .homes))) && all (file.atMostEight (readCharts (now (s .entry)) .transition-actions)) (upto (length (readCharts (now (s .entry)) .transitions)))) ⌝ }
+    ensures { λ r. ⌜ r ≡ (all (file.atMostEight (readCharts (now (s .entry)) .entries ++ readCharts (now (s .entry)) .exits ++ readCharts (now (s .entry)) .waiting-actions)) (upto (length (readCharts (now (s .entry)) .homes))) && all (file.atMostEight (readCharts (now (s .entry)) .transition-actions)) (upto (length (readCharts (now (s .entry)) .transitions)))) ⌝ }
 {
     let mut counts = [0u8; STATES + TRANSITIONS];
     let n = (shape.states as usize) + (shape.transitions as usize);

@@ -16,12 +16,12 @@ use Rattle.prelude.proofs.Counts.{getD-upto}
 use Rattle.framing.proofs.Framed.{length-ofKind, first-and-many, framed-most}
 use Rattle.expressions.specs.Nodes.{readNode, nodeOf, nodeAt}
 use Rattle.prelude.specs.Owned.{of}
-use Rattle.model.specs.Runs.{Deed}
-use Rattle.model.specs.ChartSet.{event, after, every, always, noTransition, transition, readGuard, readDeed, readTransition, readVariable, readActions, readCharts}
+use Rattle.model.specs.Runs.{Action}
+use Rattle.model.specs.ChartSet.{event, after, every, always, noTransition, transition, readGuard, actionBy, readTransition, readVariable, readAction, ofPlace, readActions, readCharts}
 use Rattle.model.specs.ChartFile.{chartLimits}
 use Rattle.chart_records.specs.declared.Shape.{Shape}
 use Rattle.chart_records.specs.Shape.{IsShape}
-use Rattle.chart_records.specs.Places.{firstState, firstTransition, firstVariable, firstNode, firstAction, transitionIn, variableIn, actionIn, initialAt, homeAt, transitionAt, variableAt, placeAt, actionAt, nodePart}
+use Rattle.chart_records.specs.Places.{firstState, firstTransition, firstVariable, firstNode, firstAction, transitionIn, variableIn, actionIn, waitIn, initialAt, homeAt, transitionAt, variableAt, placeAt, actionAt, waitAt, nodePart}
 use Rattle.chart_records.proofs.Places.{things, none-below, next-first, things-read, node-part, node-lookup}
 use Rattle.prelude.proofs.Maps.{all-map, count-map, keep-map, map-map, gather-map, all-keep, count-keep, keep-keep, gather-keep}
 
@@ -47,10 +47,10 @@ module _ (s : List ℕ) (n : ℕ) where
     start = signed (2 ^ 15) (two-record s n 6 (omega arith) i);
   }
 
-  pub action-record : (two (recordAt s n) 2, readDeed (byte (recordAt s n) 4) (byte (recordAt s n) 5) (two (recordAt s n) 6)) ≡ actionIn s n
+  pub action-record : readAction (recordAt s n) ≡ actionIn s n
   action-record = λ i. (
     two-record s n 2 (omega arith) i,
-    readDeed (byte-record s n 4 (omega arith) i) (byte-record s n 5 (omega arith) i) (two-record s n 6 (omega arith) i),
+    actionBy (two-record s n 8 (omega arith) i) (byte-record s n 4 (omega arith) i) (byte-record s n 5 (omega arith) i) (two-record s n 6 (omega arith) i),
   )
 
 -- ---- where each kind starts
@@ -157,26 +157,28 @@ module _ (s : List ℕ) (sh : Shape) (is : IsShape s sh) where
   pub lookup-is : nodeOf (readCharts s .nodes) ≡ nodeAt (nodePart s sh)
   lookup-is = λ j n. node-is n j
 
-  -- ---- actions of a place: 1 entry, 2 exit, 3 transition
+  -- ---- actions of a place: 1 entry, 2 exit, 3 transition, 4 waiting
 
   module _ (place : ℕ) where
-    pub actions-are : readActions place s ≡ map (actionAt s sh) (keep (λ i. eqb (placeAt s sh i) place) (upto (sh .actions)))
-    actions-are =
+    -- what the records of a place say, each read by itself
+    of-place : {A : Type 0} (read : List ℕ → A) (at : ℕ → A) → ((n : ℕ) → read (recordAt s n) ≡ at n) →
+        map read (ofPlace place s) ≡ map (λ i. at (firstAction sh + i)) (keep (λ i. eqb (placeAt s sh i) place) (upto (sh .actions)))
+    of-place read at e =
         ap (λ l. map read (keep here l)) records-are
         ∙ ap (map read) (keep-map (λ i. recordAt s (firstAction sh + i)) here (upto (sh .actions)))
         ∙ map-map (λ i. recordAt s (firstAction sh + i)) read (keep (λ i. here (recordAt s (firstAction sh + i))) (upto (sh .actions)))
-        ∙ (λ j. map (λ i. action-record s (firstAction sh + i) j) (keep (λ i. eqb (byte-record s (firstAction sh + i) 1 (omega arith) j) place) (upto (sh .actions))))
+        ∙ (λ j. map (λ i. e (firstAction sh + i) j) (keep (λ i. eqb (byte-record s (firstAction sh + i) 1 (omega arith) j) place) (upto (sh .actions))))
       where
-        read : List ℕ → ℕ × Deed
-        read r = (two r 2, readDeed (byte r 4) (byte r 5) (two r 6))
-
         here : List ℕ → Bool
         here r = eqb (byte r 1) place
 
         records-are : ofKind 6 s ≡ map (λ i. recordAt s (firstAction sh + i)) (upto (sh .actions))
         records-are = things 1 chartLimits s (is .framed) 6 ∙ (λ j. map (λ i. recordAt s (first-action j + i)) (upto (sym (is .actions) j)))
 
-    module _ (p : ℕ × Deed → Bool) where
+    pub actions-are : readActions place s ≡ map (actionAt s sh) (keep (λ i. eqb (placeAt s sh i) place) (upto (sh .actions)))
+    actions-are = of-place readAction (actionIn s) (action-record s)
+
+    module _ (p : ℕ × Action → Bool) where
       pub all-actions : all p (readActions place s) ≡ all (λ i. not (eqb (placeAt s sh i) place) || p (actionAt s sh i)) (upto (sh .actions))
       all-actions =
           ap (all p) actions-are
@@ -189,14 +191,14 @@ module _ (s : List ℕ) (sh : Shape) (is : IsShape s sh) where
           ∙ count-map (actionAt s sh) p (keep (λ i. eqb (placeAt s sh i) place) (upto (sh .actions)))
           ∙ count-keep (λ i. eqb (placeAt s sh i) place) (λ i. p (actionAt s sh i)) (upto (sh .actions))
 
-    pub gather-actions : {A : Type 0} (f : ℕ × Deed → List A) →
+    pub gather-actions : {A : Type 0} (f : ℕ × Action → List A) →
         gather f (readActions place s) ≡ gather (λ i. cond (eqb (placeAt s sh i) place) (f (actionAt s sh i)) []) (upto (sh .actions))
     gather-actions f =
         ap (gather f) actions-are
         ∙ gather-map (actionAt s sh) f (keep (λ i. eqb (placeAt s sh i) place) (upto (sh .actions)))
         ∙ gather-keep (λ i. eqb (placeAt s sh i) place) (λ i. f (actionAt s sh i)) (upto (sh .actions))
 
-    -- the deeds of an owner, in file order
+    -- the actions of an owner, in file order
     pub of-actions : (owner : ℕ) →
         of owner (readActions place s)
         ≡ map (λ i. actionAt s sh i .1) (keep (λ i. eqb (placeAt s sh i) place && eqb (actionAt s sh i .0) owner) (upto (sh .actions)))
@@ -205,3 +207,8 @@ module _ (s : List ℕ) (sh : Shape) (is : IsShape s sh) where
         ∙ ap (map (λ x. x .1)) (keep-map (actionAt s sh) (λ x. eqb (x .0) owner) (keep (λ i. eqb (placeAt s sh i) place) (upto (sh .actions))))
         ∙ map-map (actionAt s sh) (λ x. x .1) (keep (λ i. eqb (actionAt s sh i .0) owner) (keep (λ i. eqb (placeAt s sh i) place) (upto (sh .actions))))
         ∙ ap (map (λ i. actionAt s sh i .1)) (keep-keep (λ i. eqb (placeAt s sh i) place) (λ i. eqb (actionAt s sh i .0) owner) (upto (sh .actions)))
+
+  -- ---- waiting times
+
+  pub waits-are : readCharts s .waiting-times ≡ map (waitAt s sh) (keep (λ i. eqb (placeAt s sh i) 4) (upto (sh .actions)))
+  waits-are = of-place 4 (λ r. (two r 2, four r 12)) (waitIn s) (λ n i. (two-record s n 2 (omega arith) i, four-record s n 12 (omega arith) i))

@@ -4,8 +4,8 @@ use Prim.Native.Nat.{ℕ, _+_, _*_}
 use lib.ListN.{take, drop}
 use Rattle.prelude.specs.Lists.{caseOf}
 use Rattle.records.specs.Bytes.{byte, two, four, two±}
-use Rattle.model.specs.Runs.{Variable, Deed}
-use Rattle.model.specs.ChartSet.{Trigger, always, event, after, every, Transition, readGuard, readDeed}
+use Rattle.model.specs.Runs.{Variable, Action}
+use Rattle.model.specs.ChartSet.{Trigger, always, event, after, every, Transition, readGuard, actionBy}
 use Rattle.chart_records.specs.declared.Shape.{Shape}
 
 -- the number of a kind's first record
@@ -45,15 +45,16 @@ module _ (s : List ℕ) (n : ℕ) where
   abbrev pub variableIn : Variable
   variableIn = record { lowest = two± s (16 * n + 2); highest = two± s (16 * n + 4); start = two± s (16 * n + 6) }
 
-  -- an action's place, and its owner with its deed
+  -- an action's place, and its owner with it
   abbrev pub placeIn : ℕ
   placeIn = byte s (16 * n + 1)
 
-  abbrev pub deedIn : Deed
-  deedIn = readDeed (byte s (16 * n + 4)) (byte s (16 * n + 5)) (two s (16 * n + 6))
+  abbrev pub actionIn : ℕ × Action
+  actionIn = (two s (16 * n + 2), actionBy (two s (16 * n + 8)) (byte s (16 * n + 4)) (byte s (16 * n + 5)) (two s (16 * n + 6)))
 
-  abbrev pub actionIn : ℕ × Deed
-  actionIn = (two s (16 * n + 2), deedIn)
+  -- a waiting action's state and its milliseconds
+  abbrev pub waitIn : ℕ × ℕ
+  waitIn = (two s (16 * n + 2), four s (16 * n + 12))
 
 -- thing i of each kind
 module _ (s : List ℕ) (sh : Shape) (i : ℕ) where
@@ -72,8 +73,11 @@ module _ (s : List ℕ) (sh : Shape) (i : ℕ) where
   abbrev pub placeAt : ℕ
   placeAt = placeIn s (firstAction sh + i)
 
-  abbrev pub actionAt : ℕ × Deed
+  abbrev pub actionAt : ℕ × Action
   actionAt = actionIn s (firstAction sh + i)
+
+  abbrev pub waitAt : ℕ × ℕ
+  waitAt = waitIn s (firstAction sh + i)
 
 -- the records of the nodes, one after the other
 abbrev pub nodePart : List ℕ → Shape → List ℕ

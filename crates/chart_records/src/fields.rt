@@ -2,8 +2,8 @@
 ghost use mathlib.Core.Path.{_≡_};
 ghost use Prim.Native.Nat.{_+_, _*_, _<_, _^_};
 ghost use Rattle.records.specs.Bytes.{byte, two, four};
-ghost use Rattle.model.specs.ChartSet.{readGuard, readDeed};
-ghost use Rattle.chart_records.specs.Places.{firstTransition, firstVariable, firstNode, homeAt, transitionAt, placeAt, actionAt, nodePart};
+ghost use Rattle.model.specs.ChartSet.{readGuard, readPlusOne, readDeed};
+ghost use Rattle.chart_records.specs.Places.{firstTransition, firstVariable, firstNode, homeAt, transitionAt, placeAt, actionAt, waitAt, nodePart};
 ghost use Rattle.chart_records.specs.Shape.{IsShape};
 ghost use Rattle.chart_records.specs.Parts.{triggerFor, guardFor, deedFor};
 use super::Shape;
@@ -135,6 +135,17 @@ pub fn guard_by(node: u16) -> Guard
     }
 }
 
+// Of an action or update: the node plus one, 0 for none.
+pub fn guard_by_plus_one(field: u16) -> Guard
+    ensures { λ r. ⌜ guardFor r ≡ readPlusOne field ⌝ }
+{
+    if field == 0 {
+        Guard::Free
+    } else {
+        Guard::Node(field - 1)
+    }
+}
+
 pub fn guard_of(s: &[u8], shape: Shape, t: u16) -> Guard
     ensures { λ r. ⌜ guardFor r ≡ transitionAt (now (s .entry)) shape t .guard ⌝ }
 {
@@ -145,7 +156,7 @@ pub fn guard_of(s: &[u8], shape: Shape, t: u16) -> Guard
     ))
 }
 
-// The place of action i: 1 entry, 2 exit, 3 transition.
+// The place of action i: 1 entry, 2 exit, 3 transition, 4 waiting.
 pub fn place_of(s: &[u8], shape: Shape, i: u16) -> u8
     ensures { λ r. ⌜ r ≡ placeAt (now (s .entry)) shape i ⌝ }
 {
@@ -188,7 +199,7 @@ pub fn deed_by(code: u8, x: u8, node: u16) -> Deed
 }
 
 pub fn deed_of(s: &[u8], shape: Shape, i: u16) -> Deed
-    ensures { λ r. ⌜ deedFor r ≡ actionAt (now (s .entry)) shape i .1 ⌝ }
+    ensures { λ r. ⌜ deedFor r ≡ actionAt (now (s .entry)) shape i .1 .deed ⌝ }
 {
     let n = (shape.charts as usize)
         + (shape.states as usize)
@@ -197,6 +208,38 @@ pub fn deed_of(s: &[u8], shape: Shape, i: u16) -> Deed
         + (shape.nodes as usize)
         + (i as usize);
     deed_by(byte_in(s, n, 4), byte_in(s, n, 5), u16_in(s, n, 6))
+}
+
+// The guard of action i.
+pub fn condition_of(s: &[u8], shape: Shape, i: u16) -> Guard
+    ensures { λ r. ⌜ guardFor r ≡ actionAt (now (s .entry)) shape i .1 .guard ⌝ }
+{
+    guard_by_plus_one(u16_in(
+        s,
+        (shape.charts as usize)
+            + (shape.states as usize)
+            + (shape.transitions as usize)
+            + (shape.variables as usize)
+            + (shape.nodes as usize)
+            + (i as usize),
+        8,
+    ))
+}
+
+// The milliseconds of waiting action i.
+pub fn wait_of(s: &[u8], shape: Shape, i: u16) -> u32
+    ensures { λ r. ⌜ r ≡ waitAt (now (s .entry)) shape i .1 ⌝ }
+{
+    u32_in(
+        s,
+        (shape.charts as usize)
+            + (shape.states as usize)
+            + (shape.transitions as usize)
+            + (shape.variables as usize)
+            + (shape.nodes as usize)
+            + (i as usize),
+        12,
+    )
 }
 
 // The part of a file that has the nodes' records, one after the other.

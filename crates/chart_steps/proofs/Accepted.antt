@@ -19,11 +19,11 @@ use Rattle.prelude.proofs.Counts.{and-true}
 use Rattle.framing.proofs.Framed.{length-ofKind, framed-thing}
 use Rattle.expressions.specs.Nodes.{nodeOf}
 use Rattle.expressions.specs.Sorts.{nodesNamed}
-use Rattle.model.specs.Runs.{Deed, assign, raise}
+use Rattle.model.specs.Runs.{assign, raise, Action}
 use Rattle.model.specs.ChartSet as C
 use Rattle.model.specs.ChartSet.{Transition, noTransition, readDeed, readActions, readCharts}
 use Rattle.model.specs.Charts.{ticks}
-use Rattle.model.specs.ChartFile.{between, isEvent, isDuration, transitionInCode, actionInCode, variableInCode, nodeInCode, deedInCode, inCode, chartLimits, insideCharts, initialFits, atMostEight, allNamed, actionsNamed, deedNamed, guardNamed, structured, prioritiesDiffer, ticking, chartTests}
+use Rattle.model.specs.ChartFile.{between, isEvent, isDuration, transitionInCode, actionInCode, variableInCode, nodeInCode, deedInCode, inCode, chartLimits, insideCharts, initialFits, atMostEight, allNamed, actionsNamed, deedNamed, actionNamed, guardNamed, structured, prioritiesDiffer, ticking, allTicking, chartTests}
 use Rattle.chart_records.specs.declared.Shape.{Shape}
 use Rattle.chart_records.specs.Places.{triggerBy, firstTransition, firstAction, transitionAt, placeAt, actionAt}
 use Rattle.chart_records.proofs.PlacesRead.{first-transition, first-action, transition-is, length-homes, length-transitions, length-variables, most-states, most-transitions, all-actions}
@@ -83,7 +83,7 @@ doable code x n variables nodes h = go (eqb code 2) (and-true (between 1 2 code)
 
 module _ (s : List ℕ) (sh : Shape) (ok : Accepted s sh) where
   -- of the tests, the one of number k does not apply
-  off : (k : ℕ) → k < 9 → getD (chartTests s) k (odd-length, false) .1 ≡ false
+  off : (k : ℕ) → k < 10 → getD (chartTests s) k (odd-length, false) .1 ≡ false
   off k h = not-true _ (all-getD (λ x. not (x .1)) (chartTests s) (odd-length, false) k (lowest-none (chartTests s) (ok .unrefused)) h)
 
   in-codes : all inCode (records s) ≡ true
@@ -95,41 +95,49 @@ module _ (s : List ℕ) (sh : Shape) (ok : Accepted s sh) where
   fits : structured (readCharts s) ≡ true
   fits = not-false (structured (readCharts s)) (off 6 (omega arith))
 
+  all-tick : (all (λ t. ticking (t .trigger)) (readCharts s .transitions) ≡ true) × (all (λ x. ltb 0 (ticks (x .1))) (readCharts s .waiting-times) ≡ true)
+  all-tick = and-true _ _ (not-false (allTicking (readCharts s)) (off 8 (omega arith)))
+
   with-ticks : all (λ t. ticking (t .trigger)) (readCharts s .transitions) ≡ true
-  with-ticks = not-false (all (λ t. ticking (t .trigger)) (readCharts s .transitions)) (off 8 (omega arith))
+  with-ticks = all-tick .0
+
+  pub waits-tick : all (λ x. ltb 0 (ticks (x .1))) (readCharts s .waiting-times) ≡ true
+  waits-tick = all-tick .1
 
   -- ---- names
 
   abbrev transition-named : Transition → Bool
   transition-named t = ltb (t .source) (length (readCharts s .homes)) && ltb (t .target) (length (readCharts s .homes)) && guardNamed (length (readCharts s .nodes)) (t .guard)
 
-  abbrev owned : ℕ → List (ℕ × Deed) → Bool
+  abbrev owned : ℕ → List (ℕ × Action) → Bool
   owned = actionsNamed (readCharts s)
 
-  -- transitions, entries, exits and transitions' actions
+  -- transitions, entries, exits, transitions' actions and waiting ones
   all-named : (all transition-named (readCharts s .transitions) ≡ true)
       × (owned (length (readCharts s .homes)) (readCharts s .entries) ≡ true)
       × (owned (length (readCharts s .homes)) (readCharts s .exits) ≡ true)
       × (owned (length (readCharts s .transitions)) (readCharts s .transition-actions) ≡ true)
+      × (owned (length (readCharts s .homes)) (readCharts s .waiting-actions) ≡ true)
   all-named =
       go (all (λ i. ltb i (length (readCharts s .homes))) (readCharts s .initial)) (all (λ c. ltb c (length (readCharts s .initial))) (readCharts s .homes))
       (all transition-named (readCharts s .transitions)) (nodesNamed (nodeOf (readCharts s .nodes)) (length (readCharts s .nodes)) (length (readCharts s .variables)))
       (owned (length (readCharts s .homes)) (readCharts s .entries)) (owned (length (readCharts s .homes)) (readCharts s .exits))
-      (owned (length (readCharts s .transitions)) (readCharts s .transition-actions)) named
+      (owned (length (readCharts s .transitions)) (readCharts s .transition-actions)) (owned (length (readCharts s .homes)) (readCharts s .waiting-actions)) named
     where
-      go : (a b c d e f g : Bool) → (a && b && c && d && e && f && g) ≡ true → (c ≡ true) × (e ≡ true) × (f ≡ true) × (g ≡ true)
-      go a b c d e f g h =
-          let z : ((a && b && c && d && e && f) ≡ true) × (g ≡ true) = and-true (a && b && c && d && e && f) g h in
+      go : (a b c d e f g i : Bool) → (a && b && c && d && e && f && g && i) ≡ true → (c ≡ true) × (e ≡ true) × (f ≡ true) × (g ≡ true) × (i ≡ true)
+      go a b c d e f g i h =
+          let v : ((a && b && c && d && e && f && g) ≡ true) × (i ≡ true) = and-true (a && b && c && d && e && f && g) i h in
+          let z : ((a && b && c && d && e && f) ≡ true) × (g ≡ true) = and-true (a && b && c && d && e && f) g (v .0) in
           let y : ((a && b && c && d && e) ≡ true) × (f ≡ true) = and-true (a && b && c && d && e) f (z .0) in
           let x : ((a && b && c && d) ≡ true) × (e ≡ true) = and-true (a && b && c && d) e (y .0) in
-          (and-true (a && b) c (and-true (a && b && c) d (x .0) .0) .1, x .1, y .1, z .1)
+          (and-true (a && b) c (and-true (a && b && c) d (x .0) .0) .1, x .1, y .1, z .1, v .1)
 
   -- the priorities of those that leave a state
   pub differ : (st : ℕ) → st < sh .states → prioritiesDiffer (readCharts s) st ≡ true
   differ st h = all-upto (prioritiesDiffer (readCharts s)) (length (readCharts s .homes)) st
       (go (insideCharts (readCharts s)) (all (initialFits (readCharts s)) (upto (length (readCharts s .initial))))
       (all (prioritiesDiffer (readCharts s)) (upto (length (readCharts s .homes))))
-      (all (atMostEight (readCharts s .entries ++ readCharts s .exits)) (upto (length (readCharts s .homes))))
+      (all (atMostEight (readCharts s .entries ++ readCharts s .exits ++ readCharts s .waiting-actions)) (upto (length (readCharts s .homes))))
       (all (atMostEight (readCharts s .transition-actions)) (upto (length (readCharts s .transitions)))) fits)
       (rw (length-homes s sh (ok .shape)) h)
     where
@@ -210,55 +218,66 @@ module _ (s : List ℕ) (sh : Shape) (ok : Accepted s sh) where
         ap (λ k. actionInCode (recordAt s (k + a))) (sym (first-action s sh (ok .shape)))
         ∙ coded 6 actionInCode (λ r e. ap (λ k. caseOf k ((3, transitionInCode r) ∷ (4, variableInCode r) ∷ (5, nodeInCode r) ∷ (6, actionInCode r) ∷ []) true) e) a (omega (arith, ok .shape .actions))
 
-    action-coded-here : (between 1 3 (placeAt s sh a) ≡ true) × (deedInCode (byte s (16 * m + 4)) (byte s (16 * m + 5)) ≡ true)
+    action-coded-here : (between 1 4 (placeAt s sh a) ≡ true) × (deedInCode (byte s (16 * m + 4)) (byte s (16 * m + 5)) ≡ true)
     action-coded-here =
         let b : (k : ℕ) → k < 16 → byte (recordAt s m) k ≡ byte s (16 * m + k) = byte-record s m in
-        and-true (between 1 3 (placeAt s sh a)) (deedInCode (byte s (16 * m + 4)) (byte s (16 * m + 5)))
-        (sym (λ i. between 1 3 (b 1 (omega arith) i) && deedInCode (b 4 (omega arith) i) (b 5 (omega arith) i)) ∙ action-coded)
+        and-true (between 1 4 (placeAt s sh a)) (deedInCode (byte s (16 * m + 4)) (byte s (16 * m + 5)))
+        (sym (λ i. between 1 4 (b 1 (omega arith) i) && deedInCode (b 4 (omega arith) i) (b 5 (omega arith) i)) ∙ and-true _ _ action-coded .0)
 
     -- of its place's actions
     owner-named : (place owners : ℕ) → placeAt s sh a ≡ place → owned owners (readActions place s) ≡ true →
-        (actionAt s sh a .0 < owners) × (deedNamed (sh .variables) (length (readCharts s .nodes)) (actionAt s sh a .1) ≡ true)
+        (actionAt s sh a .0 < owners) × (actionNamed (sh .variables) (length (readCharts s .nodes)) (actionAt s sh a .1) ≡ true)
     owner-named place owners e all-of =
-        let p : ℕ × Deed → Bool = λ x. ltb (x .0) owners && deedNamed (length (readCharts s .variables)) (length (readCharts s .nodes)) (x .1) in
+        let p : ℕ × Action → Bool = λ x. ltb (x .0) owners && actionNamed (length (readCharts s .variables)) (length (readCharts s .nodes)) (x .1) in
         let f : (not (eqb (placeAt s sh a) place) || p (actionAt s sh a)) ≡ true =
         all-upto (λ i. not (eqb (placeAt s sh i) place) || p (actionAt s sh i)) (sh .actions) a (sym (all-actions s sh (ok .shape) place p) ∙ all-of) h
         in
         let g : p (actionAt s sh a) ≡ true = ap (λ b. not b || p (actionAt s sh a)) (sym (eq-eqb (placeAt s sh a) place e)) ∙ f in
-        let z : (ltb (actionAt s sh a .0) owners ≡ true) × (deedNamed (length (readCharts s .variables)) (length (readCharts s .nodes)) (actionAt s sh a .1) ≡ true) =
-        and-true (ltb (actionAt s sh a .0) owners) (deedNamed (length (readCharts s .variables)) (length (readCharts s .nodes)) (actionAt s sh a .1)) g
+        let z : (ltb (actionAt s sh a .0) owners ≡ true) × (actionNamed (length (readCharts s .variables)) (length (readCharts s .nodes)) (actionAt s sh a .1) ≡ true) =
+        and-true (ltb (actionAt s sh a .0) owners) (actionNamed (length (readCharts s .variables)) (length (readCharts s .nodes)) (actionAt s sh a .1)) g
         in
-        (ltb-true (actionAt s sh a .0) owners (z .0), ap (λ v. deedNamed v (length (readCharts s .nodes)) (actionAt s sh a .1)) (sym (length-variables s sh (ok .shape))) ∙ z .1)
+        (ltb-true (actionAt s sh a .0) owners (z .0), ap (λ v. actionNamed v (length (readCharts s .nodes)) (actionAt s sh a .1)) (sym (length-variables s sh (ok .shape))) ∙ z .1)
 
     abbrev Owned : Type 0
-    Owned = KeyedOwner (placeAt s sh a) (actionAt s sh a .0) × (deedNamed (sh .variables) (length (readCharts s .nodes)) (actionAt s sh a .1) ≡ true)
+    Owned = KeyedOwner (placeAt s sh a) (actionAt s sh a .0) × (actionNamed (sh .variables) (length (readCharts s .nodes)) (actionAt s sh a .1) ≡ true)
 
     owned-here : Owned
-    owned-here = go (eqb (placeAt s sh a) 1) refl (eqb (placeAt s sh a) 2) refl
+    owned-here = go (eqb (placeAt s sh a) 1) refl (eqb (placeAt s sh a) 2) refl (eqb (placeAt s sh a) 3) refl
       where
-        z : (leb 1 (placeAt s sh a) ≡ true) × (leb (placeAt s sh a) 3 ≡ true)
-        z = and-true (leb 1 (placeAt s sh a)) (leb (placeAt s sh a) 3) (action-coded-here .0)
+        z : (leb 1 (placeAt s sh a) ≡ true) × (leb (placeAt s sh a) 4 ≡ true)
+        z = and-true (leb 1 (placeAt s sh a)) (leb (placeAt s sh a) 4) (action-coded-here .0)
 
-        go : (b : Bool) → eqb (placeAt s sh a) 1 ≡ b → (c : Bool) → eqb (placeAt s sh a) 2 ≡ c → Owned
-        go true e c d =
+        go : (b : Bool) → eqb (placeAt s sh a) 1 ≡ b → (c : Bool) → eqb (placeAt s sh a) 2 ≡ c → (d : Bool) → eqb (placeAt s sh a) 3 ≡ d → Owned
+        go true e c f d g =
             let p : placeAt s sh a ≡ 1 = eqb-true (placeAt s sh a) 1 e in
             let w = owner-named 1 (length (readCharts s .homes)) p (all-named .1) in
             (inl (p, omega (arith, w .0, length-homes s sh (ok .shape), most-states s sh (ok .shape))), w .1)
-        go false e true d =
-            let p : placeAt s sh a ≡ 2 = eqb-true (placeAt s sh a) 2 d in
+        go false e true f d g =
+            let p : placeAt s sh a ≡ 2 = eqb-true (placeAt s sh a) 2 f in
             let w = owner-named 2 (length (readCharts s .homes)) p (all-named .2) in
             (inr (inl (p, omega (arith, w .0, length-homes s sh (ok .shape), most-states s sh (ok .shape)))), w .1)
-        go false e false d =
-            let l : 1 ≤ placeAt s sh a = leb-true 1 (placeAt s sh a) (z .0) in
-            let u : placeAt s sh a ≤ 3 = leb-true (placeAt s sh a) 3 (z .1) in
-            let n1 : placeAt s sh a ≡ 1 → ⊥ = eqb-false (placeAt s sh a) 1 e in
-            let n2 : placeAt s sh a ≡ 2 → ⊥ = eqb-false (placeAt s sh a) 2 d in
-            let p : placeAt s sh a ≡ 3 = omega arith in
+        go false e false f true g =
+            let p : placeAt s sh a ≡ 3 = eqb-true (placeAt s sh a) 3 g in
             let w = owner-named 3 (length (readCharts s .transitions)) p (all-named .3) in
-            (inr (inr (p, omega (arith, w .0, length-transitions s sh (ok .shape), most-transitions s sh (ok .shape)))), w .1)
+            (inr (inr (inl (p, omega (arith, w .0, length-transitions s sh (ok .shape), most-transitions s sh (ok .shape))))), w .1)
+        go false e false f false g =
+            let l : 1 ≤ placeAt s sh a = leb-true 1 (placeAt s sh a) (z .0) in
+            let u : placeAt s sh a ≤ 4 = leb-true (placeAt s sh a) 4 (z .1) in
+            let n1 : placeAt s sh a ≡ 1 → ⊥ = eqb-false (placeAt s sh a) 1 e in
+            let n2 : placeAt s sh a ≡ 2 → ⊥ = eqb-false (placeAt s sh a) 2 f in
+            let n3 : placeAt s sh a ≡ 3 → ⊥ = eqb-false (placeAt s sh a) 3 g in
+            let p : placeAt s sh a ≡ 4 = omega arith in
+            let w = owner-named 4 (length (readCharts s .homes)) p (all-named .4) in
+            (inr (inr (inr (p, omega (arith, w .0, length-homes s sh (ok .shape), most-states s sh (ok .shape))))), w .1)
+
+    -- a waiting action is one of a state of the set
+    pub waiting-owner : placeAt s sh a ≡ 4 → actionAt s sh a .0 < sh .states
+    waiting-owner p = omega (arith, owner-named 4 (length (readCharts s .homes)) p (all-named .4) .0, length-homes s sh (ok .shape))
 
     pub owner-placed : KeyedOwner (placeAt s sh a) (actionAt s sh a .0)
     owner-placed = owned-here .0
 
-    pub deed-doable : Doable (sh .variables) (actionAt s sh a .1)
-    deed-doable = doable (byte s (16 * m + 4)) (byte s (16 * m + 5)) (two s (16 * m + 6)) (sh .variables) (length (readCharts s .nodes)) (action-coded-here .1) (owned-here .1)
+    pub deed-doable : Doable (sh .variables) (actionAt s sh a .1 .deed)
+    deed-doable =
+        doable (byte s (16 * m + 4)) (byte s (16 * m + 5)) (two s (16 * m + 6)) (sh .variables) (length (readCharts s .nodes)) (action-coded-here .1)
+        (and-true (guardNamed (length (readCharts s .nodes)) (actionAt s sh a .1 .guard)) (deedNamed (sh .variables) (length (readCharts s .nodes)) (actionAt s sh a .1 .deed)) (owned-here .1) .1)

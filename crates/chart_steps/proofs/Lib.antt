@@ -6,5 +6,6 @@ pub mod ValuesRead
 pub mod Replies
 pub mod TablesFilled
 pub mod StepOf
+pub mod Waiting
 pub mod TablesDeeds
 pub mod StepOfTurns

@@ -15,7 +15,7 @@ use Rattle.prelude.specs.Lists.{keep, gather, from, upto, sorted, caseOf}
 use Rattle.records.specs.Refusal.{Refusal, Out, val, fault, _>>=_, choose}
 use Rattle.prelude.proofs.Loops.{left-more, left-none}
 use Rattle.prelude.specs.Owned.{of}
-use Rattle.model.specs.Runs.{World, Run, Answer, taken, idle, deeds}
+use Rattle.model.specs.Runs.{World, Run, Answer, taken, idle, actions}
 use Rattle.model.specs.ChartSet.{ChartSet, readActions, readCharts, transition}
 use Rattle.model.specs.Charts.{row, firstThat, acted, follow}
 use Rattle.chart_records.specs.declared.Shape.{Shape}
@@ -23,7 +23,7 @@ use Rattle.chart_records.specs.Places.{transitionAt, actionAt}
 use Rattle.chart_records.proofs.PlacesRead.{transition-is, length-transitions, most-states, most-transitions}
 use Rattle.chart_records.specs.Accepted.{Accepted}
 use Rattle.chart_steps.specs.Tables.{earliest, named, leaves, slotAt, rowEntry, keyed, deedsOf}
-use Rattle.machines.specs.Worlds.{Moment, runIn, codedFault}
+use Rattle.machines.specs.Worlds.{Moment, worldIn, runIn, coded, codedFault, worldBy}
 use Rattle.chart_steps.specs.StepOf.{choiceBy, slotHolds, entered, answerBy, movedBy}
 use Rattle.machines.proofs.WorldsCodes.{coded-value, coded-fault}
 use Rattle.machines.proofs.ChainsEarliest.{keep-alike, one-found}
@@ -122,6 +122,20 @@ module _ (n : ℕ) (answer : Answer) (states ages : List ℕ) (vars : List ℤ) 
   pub moved-fault : 4_294_967_295 < n → movedBy n answer states ages vars m ≡ fault (codedFault n)
   moved-fault h = ap (λ o. o >>= λ events. val (answer, runIn states ages vars events m)) (coded-fault n h)
 
+-- by the world alone, where places stay
+pub moved-by-world : (n : ℕ) (answer : Answer) (states ages : List ℕ) (vars : List ℤ) (m : Moment) → movedBy n answer states ages vars m ≡ (worldBy n vars m >>= λ w. val (answer, record { at = states; timers = ages; world = w }))
+moved-by-world n answer states ages vars m = go (coded n)
+  where
+    then-moved : ℕ → Out (Answer × Run)
+    then-moved events = val (answer, runIn states ages vars events m)
+
+    then-world : World → Out (Answer × Run)
+    then-world w = val (answer, record { at = states; timers = ages; world = w })
+
+    go : (o : Out ℕ) → (o >>= then-moved) ≡ ((o >>= λ events. val (worldIn vars events m)) >>= then-world)
+    go (val events) = refl
+    go (fault f) = refl
+
 -- ---- of an accepted file
 
 module _ (s : List ℕ) (sh : Shape) (ok : Accepted s sh) where
@@ -186,10 +200,10 @@ module _ (s : List ℕ) (sh : Shape) (ok : Accepted s sh) where
       ap (λ o. of o (readActions 2 s)) es ∙ of-key s sh ok 2 source (inr (inl (refl, ks)))
       in
       let q : of t (readCharts s .transition-actions) ≡ map (λ a. actionAt s sh a .1) (keep (keyed s sh (256 + t)) (upto (sh .actions))) =
-      of-key s sh ok 3 t (inr (inr (refl, omega (arith, most-transitions s sh (ok .shape)))))
+      of-key s sh ok 3 t (inr (inr (inl (refl, omega (arith, most-transitions s sh (ok .shape))))))
       in
       let r : of (transition (readCharts s) t .target) (readCharts s .entries) ≡ map (λ a. actionAt s sh a .1) (keep (keyed s sh target) (upto (sh .actions))) =
       ap (λ o. of o (readActions 1 s)) et ∙ of-key s sh ok 1 target (inl (refl, kt))
       in
-      λ i. deeds (readCharts s .nodes) (readCharts s .variables) (p i) w
-      >>= λ w₁. (deeds (readCharts s .nodes) (readCharts s .variables) (q i) w₁ >>= λ w₂. deeds (readCharts s .nodes) (readCharts s .variables) (r i) w₂)
+      λ i. actions (readCharts s .nodes) (readCharts s .variables) (p i) w
+      >>= λ w₁. (actions (readCharts s .nodes) (readCharts s .variables) (q i) w₁ >>= λ w₂. actions (readCharts s .nodes) (readCharts s .variables) (r i) w₂)

@@ -15,7 +15,7 @@ use Rattle.chart_records.specs.Places.{placeAt, actionAt}
 use Rattle.chart_records.proofs.PlacesRead.{of-actions}
 use Rattle.chart_records.specs.Accepted.{Accepted}
 use Rattle.machines.specs.Chains.{Chained}
-use Rattle.chart_steps.specs.Tables.{keyFor, keyAt, keyed, HasActions, KeyedOwner}
+use Rattle.chart_steps.specs.Tables.{waitingKeys, emptyKey, actionKeys, keyFor, keyAt, keyed, HasActions, KeyedOwner}
 use Rattle.machines.proofs.ChainsEarliest.{keep-alike}
 use Rattle.chart_steps.proofs.Accepted.{owner-placed}
 
@@ -32,23 +32,35 @@ key-transition : (p o : ℕ) → p ≡ 3 → keyFor p o ≡ 256 + o
 unfolding caseOf
 key-transition p o e = rw e
 
-pub key-small : (p o : ℕ) → KeyedOwner p o → keyFor p o < 512
+key-waiting : (p o : ℕ) → p ≡ 4 → keyFor p o ≡ waitingKeys + o
+unfolding caseOf
+key-waiting p o e = rw e
+
+pub key-small : (p o : ℕ) → KeyedOwner p o → keyFor p o < emptyKey
 key-small p o (inl x) = omega (arith, key-entry p o (x .0), x .1)
 key-small p o (inr (inl x)) = omega (arith, key-exit p o (x .0), x .1)
-key-small p o (inr (inr x)) = omega (arith, key-transition p o (x .0), x .1)
+key-small p o (inr (inr (inl x))) = omega (arith, key-transition p o (x .0), x .1)
+key-small p o (inr (inr (inr x))) = omega (arith, key-waiting p o (x .0), x .1)
 
 same : (p o q w : ℕ) → KeyedOwner p o → KeyedOwner q w → keyFor p o ≡ keyFor q w → (p ≡ q) × (o ≡ w)
 same p o q w (inl x) (inl y) e = (omega (arith, x .0, y .0), omega (arith, key-entry p o (x .0), key-entry q w (y .0), e))
 same p o q w (inl x) (inr (inl y)) e = absurd (omega (arith, key-entry p o (x .0), key-exit q w (y .0), x .1, y .1))
-same p o q w (inl x) (inr (inr y)) e = absurd (omega (arith, key-entry p o (x .0), key-transition q w (y .0), x .1, y .1))
+same p o q w (inl x) (inr (inr (inl y))) e = absurd (omega (arith, key-entry p o (x .0), key-transition q w (y .0), x .1, y .1))
+same p o q w (inl x) (inr (inr (inr y))) e = absurd (omega (arith, key-entry p o (x .0), key-waiting q w (y .0), x .1, y .1))
 same p o q w (inr (inl x)) (inl y) e = absurd (omega (arith, key-exit p o (x .0), key-entry q w (y .0), x .1, y .1))
 same p o q w (inr (inl x)) (inr (inl y)) e = (omega (arith, x .0, y .0), omega (arith, key-exit p o (x .0), key-exit q w (y .0), e))
-same p o q w (inr (inl x)) (inr (inr y)) e = absurd (omega (arith, key-exit p o (x .0), key-transition q w (y .0), x .1, y .1))
-same p o q w (inr (inr x)) (inl y) e = absurd (omega (arith, key-transition p o (x .0), key-entry q w (y .0), x .1, y .1))
-same p o q w (inr (inr x)) (inr (inl y)) e = absurd (omega (arith, key-transition p o (x .0), key-exit q w (y .0), x .1, y .1))
-same p o q w (inr (inr x)) (inr (inr y)) e = (omega (arith, x .0, y .0), omega (arith, key-transition p o (x .0), key-transition q w (y .0), e))
+same p o q w (inr (inl x)) (inr (inr (inl y))) e = absurd (omega (arith, key-exit p o (x .0), key-transition q w (y .0), x .1, y .1))
+same p o q w (inr (inl x)) (inr (inr (inr y))) e = absurd (omega (arith, key-exit p o (x .0), key-waiting q w (y .0), x .1, y .1))
+same p o q w (inr (inr (inl x))) (inl y) e = absurd (omega (arith, key-transition p o (x .0), key-entry q w (y .0), x .1, y .1))
+same p o q w (inr (inr (inl x))) (inr (inl y)) e = absurd (omega (arith, key-transition p o (x .0), key-exit q w (y .0), x .1, y .1))
+same p o q w (inr (inr (inl x))) (inr (inr (inl y))) e = (omega (arith, x .0, y .0), omega (arith, key-transition p o (x .0), key-transition q w (y .0), e))
+same p o q w (inr (inr (inl x))) (inr (inr (inr y))) e = absurd (omega (arith, key-transition p o (x .0), key-waiting q w (y .0), x .1, y .1))
+same p o q w (inr (inr (inr x))) (inl y) e = absurd (omega (arith, key-waiting p o (x .0), key-entry q w (y .0), x .1, y .1))
+same p o q w (inr (inr (inr x))) (inr (inl y)) e = absurd (omega (arith, key-waiting p o (x .0), key-exit q w (y .0), x .1, y .1))
+same p o q w (inr (inr (inr x))) (inr (inr (inl y))) e = absurd (omega (arith, key-waiting p o (x .0), key-transition q w (y .0), x .1, y .1))
+same p o q w (inr (inr (inr x))) (inr (inr (inr y))) e = (omega (arith, x .0, y .0), omega (arith, key-waiting p o (x .0), key-waiting q w (y .0), e))
 
-key-tells : (p o q w : ℕ) → KeyedOwner p o → KeyedOwner q w → (eqb p q && eqb o w) ≡ eqb (keyFor p o) (keyFor q w)
+pub key-tells : (p o q w : ℕ) → KeyedOwner p o → KeyedOwner q w → (eqb p q && eqb o w) ≡ eqb (keyFor p o) (keyFor q w)
 key-tells p o q w x y = go (eqb (keyFor p o) (keyFor q w)) refl (eqb p q) refl (eqb o w) refl
   where
     go : (k : Bool) → eqb (keyFor p o) (keyFor q w) ≡ k → (a : Bool) → eqb p q ≡ a → (b : Bool) → eqb o w ≡ b → (a && b) ≡ k
@@ -62,11 +74,11 @@ key-tells p o q w x y = go (eqb (keyFor p o) (keyFor q w)) refl (eqb p q) refl (
         sym n ∙ e
 
 module _ (s : List ℕ) (sh : Shape) (ok : Accepted s sh) where
-  pub key-within : (a : ℕ) → a < sh .actions → keyAt s sh a < 512
+  pub key-within : (a : ℕ) → a < sh .actions → keyAt s sh a < emptyKey
   key-within a h = key-small (placeAt s sh a) (actionAt s sh a .0) (owner-placed s sh ok a h)
 
   -- an action has a key, so all actions are in chains
-  pub chained : (first next : List ℕ) → HasActions s sh first next → Chained (keyAt s sh) 512 (sh .actions) first next
+  pub chained : (first next : List ℕ) → HasActions s sh first next → Chained (keyAt s sh) actionKeys (sh .actions) first next
   chained first next is = record { first-of = is .first-of; next-of = λ a h _. is .next-of a h }
 
   -- the deeds of an owner are those of its key

@@ -9,7 +9,7 @@ use lib.Dec.{eqb}
 use lib.IntN.{ℤ}
 use Rattle.prelude.specs.Lists.{keep, upto}
 use Rattle.records.specs.Refusal.{Refusal, Out, val, fault, _>>=_}
-use Rattle.model.specs.Runs.{World, deed, deeds}
+use Rattle.model.specs.Runs.{World, action, actions}
 use Rattle.model.specs.ChartSet.{readCharts}
 use Rattle.chart_records.specs.declared.Shape.{Shape}
 use Rattle.chart_records.specs.Places.{actionAt}
@@ -44,7 +44,7 @@ module _ (s : List ℕ) (sh : Shape) (leaving crossing entering : ℕ) where
   behind k w = cond (eqb k 0) (deedsOf s sh crossing w >>= λ w. deedsOf s sh entering w) (cond (eqb k 1) (deedsOf s sh entering w) (val w))
 
   abbrev deedsIn : List ℕ → World → Out World
-  deedsIn rest w = deeds (readCharts s .nodes) (readCharts s .variables) (map (λ a. actionAt s sh a .1) rest) w
+  deedsIn rest w = actions (readCharts s .nodes) (readCharts s .variables) (map (λ a. actionAt s sh a .1) rest) w
 
   module _ (vars₀ : List ℤ) (events₀ : ℕ) where
     -- left to do: the deeds of the list, and those of the keys behind
@@ -58,22 +58,22 @@ module _ (s : List ℕ) (sh : Shape) (leaving crossing entering : ℕ) where
       -- a deed, and then the rest
       module _ (a : ℕ) (more : List ℕ) (one : rest ≡ a ∷ more) where
         first-deed : (m : Moment) → deedsOfThree s sh leaving crossing entering (worldIn vars₀ events₀ m)
-            ≡ ((deed (readCharts s .nodes) (readCharts s .variables) (actionAt s sh a .1) (worldIn vars events m) >>= λ w. deedsIn more w) >>= behind k)
-        unfolding deeds
+            ≡ ((action (readCharts s .nodes) (readCharts s .variables) (actionAt s sh a .1) (worldIn vars events m) >>= λ w. deedsIn more w) >>= behind k)
+        unfolding actions
         first-deed m = left m ∙ ap (λ l. deedsIn l (worldIn vars events m) >>= behind k) one
 
-        pub left-fault : (w : Refusal) → ((m : Moment) → fault w ≡ deed (readCharts s .nodes) (readCharts s .variables) (actionAt s sh a .1) (worldIn vars events m)) →
+        pub left-fault : (w : Refusal) → ((m : Moment) → fault w ≡ action (readCharts s .nodes) (readCharts s .variables) (actionAt s sh a .1) (worldIn vars events m)) →
             (m : Moment) → fault w ≡ deedsOfThree s sh leaving crossing entering (worldIn vars₀ events₀ m)
         left-fault w d m = ap (λ o. (o >>= λ w. deedsIn more w) >>= behind k) (d m) ∙ sym (first-deed m)
 
         pub left-more : (vars′ : List ℤ) (events′ : ℕ) →
-            ((m : Moment) → val (worldIn vars′ events′ m) ≡ deed (readCharts s .nodes) (readCharts s .variables) (actionAt s sh a .1) (worldIn vars events m)) → Left k more vars′ events′
+            ((m : Moment) → val (worldIn vars′ events′ m) ≡ action (readCharts s .nodes) (readCharts s .variables) (actionAt s sh a .1) (worldIn vars events m)) → Left k more vars′ events′
         left-more vars′ events′ d m = first-deed m ∙ ap (λ o. (o >>= λ w. deedsIn more w) >>= behind k) (sym (d m))
 
       -- the last deed of a key is done
       module _ (none : rest ≡ []) where
         keys-left : (m : Moment) → deedsOfThree s sh leaving crossing entering (worldIn vars₀ events₀ m) ≡ behind k (worldIn vars events m)
-        unfolding deeds
+        unfolding actions
         keys-left m = left m ∙ ap (λ l. deedsIn l (worldIn vars events m) >>= behind k) none
 
         pub left-next : k ≤ 2 → (k ≡ 2 → ⊥) → (rest′ : List ℕ) → keep (keyed s sh (keyAfter (k + 1))) (upto (sh .actions)) ≡ rest′ → Left (k + 1) rest′ vars events

@@ -9,7 +9,7 @@ use lib.ListN.{length, getD}
 use Rattle.model.specs.Limits.{mostStates, mostTransitions, mostPriorities}
 use Rattle.prelude.specs.Lists.{keep, upto, caseOf}
 use Rattle.records.specs.Refusal.{Out, _>>=_}
-use Rattle.model.specs.Runs.{World, deeds}
+use Rattle.model.specs.Runs.{World, actions}
 use Rattle.model.specs.ChartSet.{ChartSet, readCharts, transition}
 pub use Rattle.machines.specs.Chains.{headOr, earliest, named}
 use Rattle.chart_records.specs.declared.Shape.{Shape}
@@ -49,19 +49,25 @@ pub record HasEnds (cs : ChartSet) (rows : List (List ℕ)) (ends : List ℕ) : 
 
 -- ---- actions
 
--- where the keys of exit actions begin, and those of transitions; how many keys there are
+-- where the keys of exit actions begin, those of transitions, and those of waiting; the key that no action has; how many keys there are
 abbrev pub exitKeys : ℕ
 exitKeys = mostStates
 
 abbrev pub crossingKeys : ℕ
 crossingKeys = 2 * mostStates
 
-abbrev pub actionKeys : ℕ
-actionKeys = 2 * mostStates + mostTransitions
+abbrev pub waitingKeys : ℕ
+waitingKeys = 2 * mostStates + mostTransitions
 
--- An action's key: of a state's entry the state's number, of its exit `exitKeys` more, of a transition `crossingKeys` more.
+abbrev pub emptyKey : ℕ
+emptyKey = 3 * mostStates + mostTransitions
+
+abbrev pub actionKeys : ℕ
+actionKeys = emptyKey + 1
+
+-- An action's key: of a state's entry the state's number, of its exit `exitKeys` more, of a transition `crossingKeys` more, of a state's waiting `waitingKeys` more.
 abbrev pub keyFor : ℕ → ℕ → ℕ
-keyFor place owner = caseOf place ((2, exitKeys + owner) ∷ (3, crossingKeys + owner) ∷ []) owner
+keyFor place owner = caseOf place ((2, exitKeys + owner) ∷ (3, crossingKeys + owner) ∷ (4, waitingKeys + owner) ∷ []) owner
 
 abbrev pub keyAt : List ℕ → Shape → ℕ → ℕ
 keyAt s sh a = keyFor (placeAt s sh a) (actionAt s sh a .0)
@@ -71,17 +77,21 @@ keyed s sh key a = eqb (keyAt s sh a) key
 
 -- the deeds of a key, in file order, each seeing the last
 abbrev pub deedsOf : List ℕ → Shape → ℕ → World → Out World
-deedsOf s sh key w = deeds (readCharts s .nodes) (readCharts s .variables) (map (λ a. actionAt s sh a .1) (keep (keyed s sh key) (upto (sh .actions)))) w
+deedsOf s sh key w = actions (readCharts s .nodes) (readCharts s .variables) (map (λ a. actionAt s sh a .1) (keep (keyed s sh key) (upto (sh .actions)))) w
 
 -- those of three keys, one key after the other
 abbrev pub deedsOfThree : List ℕ → Shape → ℕ → ℕ → ℕ → World → Out World
 deedsOfThree s sh leaving crossing entering w = deedsOf s sh leaving w >>= λ w₁. (deedsOf s sh crossing w₁ >>= λ w₂. deedsOf s sh entering w₂)
 
 -- of each key its first action, and of each action the next of its key
+abbrev pub HasFirsts : List ℕ → Shape → List ℕ → Type 0
+HasFirsts s sh first = (key : ℕ) → key < actionKeys → getD first key 0 ≡ earliest (keyed s sh key) 0 (sh .actions)
+
 pub record HasActions (s : List ℕ) (sh : Shape) (first next : List ℕ) : Type 0 where
-  pub first-of : (key : ℕ) → key < actionKeys → getD first key 0 ≡ earliest (keyed s sh key) 0 (sh .actions)
+  pub first-of : HasFirsts s sh first
   pub next-of : (a : ℕ) → a < sh .actions → getD next a 0 ≡ earliest (keyed s sh (keyAt s sh a)) (a + 1) (sh .actions - (a + 1))
 
 -- owners that a key can tell apart: of so many states and transitions
 abbrev pub KeyedOwner : ℕ → ℕ → Type 0
-KeyedOwner place owner = ((place ≡ 1) × (owner < mostStates)) ⊎ (((place ≡ 2) × (owner < mostStates)) ⊎ ((place ≡ 3) × (owner < mostTransitions)))
+KeyedOwner place owner =
+    ((place ≡ 1) × (owner < mostStates)) ⊎ (((place ≡ 2) × (owner < mostStates)) ⊎ (((place ≡ 3) × (owner < mostTransitions)) ⊎ ((place ≡ 4) × (owner < mostStates))))

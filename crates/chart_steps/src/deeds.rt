@@ -1,37 +1,33 @@
-// Deeds of actions, one by one and in the order of a key's chain.
+// Actions, one by one and in the order of a key's chain.
 ghost use mathlib.Core.Path.{_≡_};
 ghost use Prim.Native.Nat.{_<_};
-ghost use Rattle.model.specs.Runs.{deed};
+ghost use Rattle.model.specs.Runs.{action};
 ghost use Rattle.model.specs.ChartSet.{readCharts};
-ghost use Rattle.chart_records.specs.Places.{firstAction, actionAt};
+ghost use Rattle.chart_records.specs.Places.{actionAt};
 ghost use Rattle.machines.specs.Worlds.{Moment, worldIn, worldBy, IsCode};
 ghost use Rattle.chart_records.specs.Accepted.{Accepted};
 ghost use Rattle.chart_steps.specs.Tables.{HasActions, deedsOfThree, actionKeys};
+use super::actions::condition_of;
+use super::actions::first_action;
 use super::values::values_of;
 use chart_records::Shape;
-use chart_records::fields::first_variable;
-use machines::deeds::do_deed;
+use machines::deeds::do_guarded;
 use records::sizes::ActionHeads;
 use records::sizes::ActionLinks;
 use records::sizes::Variables;
 use records::u16_within;
 
-fn first_action(shape: Shape) -> usize
-    ensures { λ r. ⌜ r ≡ firstAction shape ⌝ }
-{
-    first_variable(shape) + (shape.variables as usize) + (shape.nodes as usize)
-}
-
-// The deed of action a.
+// Action a, if its guard holds.
 fn do_action(s: &[u8], shape: Shape, a: u16, vars: &mut Variables, events: u32) -> u64
     requires { ⌜ Accepted (now s) shape × (a < shape .actions) ⌝ }
-    ensures { λ r. ⌜ ((m : Moment) → worldBy r (now (vars .exit)) m ≡ deed (readCharts (now (s .entry)) .nodes) (readCharts (now (s .entry)) .variables) (actionAt (now (s .entry)) shape a .1) (worldIn (now (vars .entry)) events m)) × IsCode r ⌝ }
+    ensures { λ r. ⌜ ((m : Moment) → worldBy r (now (vars .exit)) m ≡ action (readCharts (now (s .entry)) .nodes) (readCharts (now (s .entry)) .variables) (actionAt (now (s .entry)) shape a .1) (worldIn (now (vars .entry)) events m)) × IsCode r ⌝ }
 {
     let at = 16 * (first_action(shape) + (a as usize));
     let code = s[at + 4];
     let x = s[at + 5];
     let n = u16_within(s, at + 6);
-    do_deed(s, values_of(shape), code, x, n, vars, events)
+    let guard = condition_of(s, shape, a);
+    do_guarded(s, values_of(shape), guard, code, x, n, vars, events)
 }
 
 // The deeds of three keys, one key after the other, each in file order and seeing the last. One loop, so that a deed is done at one place of the code.

@@ -1,17 +1,19 @@
 // A chart's turn.
 ghost use mathlib.Core.Path.{_≡_};
+ghost use mathlib.Core.Bool.{true};
 ghost use Prim.Native.Nat.{_+_, _-_, _≤_, _<_};
 ghost use Rattle.model.specs.Limits.{mostCharts};
 ghost use Rattle.expressions.specs.Answers.{truthOf};
 ghost use Rattle.model.specs.Runs.{taken};
 ghost use Rattle.model.specs.ChartSet.{readCharts};
-ghost use Rattle.model.specs.Charts.{row, firstThat, transitionHolds, acted, follow as followed, chartStep};
+ghost use Rattle.model.specs.Charts.{row, firstThat, transitionHolds, acted, due, waited, follow as followed, chartStep};
 ghost use mathlib.Core.Option.{some};
 ghost use Rattle.chart_records.specs.Accepted.{Accepted};
-ghost use Rattle.chart_steps.specs.Tables.{HasRows, HasEnds, HasActions};
+ghost use Rattle.chart_steps.specs.Tables.{HasRows, HasEnds, HasFirsts, HasActions};
 ghost use Rattle.machines.specs.Worlds.{Moment, onward, runIn, worldIn, worldBy, bareWorld, IsCode};
 ghost use Rattle.chart_steps.specs.StepOf.{choiceBy, ChoiceOf, slotHolds, answerBy, movedBy, chartTurns};
 ghost use Rattle.chart_steps.specs.Prepared.{Prepared};
+use super::actions::wait_of;
 use super::deeds::do_deeds;
 use super::tables::slot_of;
 use super::transitions::holds;
@@ -24,11 +26,15 @@ use records::sizes::ActionHeads;
 use records::sizes::ActionLinks;
 use records::sizes::Ages;
 use records::sizes::CROSSING_KEYS;
+use records::sizes::EMPTY_KEY;
 use records::sizes::EXIT_KEYS;
 use records::sizes::Ends;
 use records::sizes::Places;
 use records::sizes::Rows;
 use records::sizes::Variables;
+use records::sizes::WAITING_KEYS;
+use timings::every_holds;
+use timings::ticks;
 
 // A place of a row that names none does not hold.
 fn slot_holds(s: &[u8], shape: Shape, vars: &Variables, events: u32, age: u32, t: u16) -> Truth
@@ -132,6 +138,52 @@ fn follow(
     after
 }
 
+// Whether a state's waiting actions are due; they have the milliseconds of the first. A state that the set does not have has none.
+fn is_due(s: &[u8], shape: Shape, first: &ActionHeads, state: u16, age: u32) -> bool
+    requires { ⌜ Accepted (now s) shape × HasFirsts (now s) shape (now first) ⌝ }
+    ensures { λ r. ⌜ (r ≡ due (readCharts (now (s .entry))) state age) × (r ≡ true → state < shape .states) ⌝ }
+{
+    if shape.states <= state {
+        return false;
+    }
+    let a = first[(WAITING_KEYS + state) as usize];
+    if a == 65535 {
+        return false;
+    }
+    every_holds(ticks(wait_of(s, shape, a)), age)
+}
+
+// None is taken: the waiting actions of the state, where they are due.
+fn wait(
+    s: &[u8],
+    shape: Shape,
+    first: &ActionHeads,
+    next: &ActionLinks,
+    state: u16,
+    age: u32,
+    vars: &mut Variables,
+    events: u32,
+) -> u64
+    requires { ⌜ Accepted (now s) shape × HasActions (now s) shape (now first) (now next) ⌝ }
+    ensures { λ r. ⌜ ((m : Moment) → worldBy r (now (vars .exit)) m ≡ waited (readCharts (now (s .entry))) state age (worldIn (now (vars .entry)) events m)) × IsCode r ⌝ }
+{
+    if is_due(s, shape, first, state, age) {
+        do_deeds(
+            s,
+            shape,
+            first,
+            next,
+            WAITING_KEYS + state,
+            EMPTY_KEY,
+            EMPTY_KEY,
+            vars,
+            events,
+        )
+    } else {
+        events as u64
+    }
+}
+
 // In place: the events after the turn, and which transition was taken, 65,535 for none. After a fault the variables are as the deeds before it left them.
 fn step_in_place(
     s: &[u8],
@@ -159,7 +211,7 @@ fn step_in_place(
     }
     *chosen = t as u16;
     if t == 65535 {
-        return events as u64;
+        return wait(s, shape, first, next, state, age, vars, events);
     }
     follow(
         s,

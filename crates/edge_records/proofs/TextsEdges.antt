@@ -16,7 +16,7 @@ use Rattle.model.specs.Translation.{from-transition, transitionCount, clocksOf,
 use Rattle.prelude.proofs.Maps.{gather-map, gather-keep}
 use Rattle.model.specs.ChartSet.{readCharts}
 use Rattle.prelude.specs.Owned.{of}
-use Rattle.model.specs.Runs.{Deed}
+use Rattle.model.specs.Runs.{Action}
 use Rattle.model.specs.AutomataTable.{writeUpdate}
 use Rattle.model.specs.Translation.{updatesOf}
 use Rattle.chart_records.specs.declared.Shape.{Shape}
@@ -109,45 +109,45 @@ module _ (s : List ℕ) (sh : Shape) (ok : Accepted s sh) where
         ∙ sym (gather-append ranked (from 1 end) (from (1 + end) (16 - end)))
         ∙ ap (gather ranked) (sym (from-append 1 end (16 - end)) ∙ ap (from 1) (let e : end + (16 - end) ≡ 16 = omega arith in e))
 
-  -- ---- the deeds of a transition's edge, by their keys
+  -- ---- the actions of a transition's edge, by their keys
 
-  abbrev pub deedsOf : ℕ → List Deed
-  deedsOf key = map (λ a. actionAt s sh a .1) (keep (keyed s sh key) (upto (sh .actions)))
+  abbrev pub actionsOf : ℕ → List Action
+  actionsOf key = map (λ a. actionAt s sh a .1) (keep (keyed s sh key) (upto (sh .actions)))
 
   abbrev keyedCount : ℕ → ℕ
   keyedCount key = count (keyed s sh key) (upto (sh .actions))
 
-  deeds-count : (key : ℕ) → length (deedsOf key) ≡ keyedCount key
-  deeds-count key = length-map (keep (keyed s sh key) (upto (sh .actions))) (λ a. actionAt s sh a .1) ∙ length-keep (keyed s sh key) (upto (sh .actions))
+  actions-count : (key : ℕ) → length (actionsOf key) ≡ keyedCount key
+  actions-count key = length-map (keep (keyed s sh key) (upto (sh .actions))) (λ a. actionAt s sh a .1) ∙ length-keep (keyed s sh key) (upto (sh .actions))
 
   module _ (t source target : ℕ) (h : t < sh .transitions) (e : source ≡ transitionAt s sh t .source) (d : target ≡ transitionAt s sh t .target) where
-    pub updates-are : deedsOf (128 + source) ++ deedsOf (256 + t) ++ deedsOf target ≡ updatesOf (readCharts s) (from-transition t)
+    pub updates-are : actionsOf (128 + source) ++ actionsOf (256 + t) ++ actionsOf target ≡ updatesOf (readCharts s) (from-transition t)
     unfolding caseOf
     updates-are =
         let same = transition-is s sh (ok .shape) t h in
         let source-small : source < 128 = omega (arith, source-known s sh ok t h, most-states s sh (ok .shape)) in
         let target-small : target < 128 = omega (arith, target-known s sh ok t h, most-states s sh (ok .shape)) in
         let small : t < 256 = omega (arith, most-transitions s sh (ok .shape)) in
-        let exits : deedsOf (128 + source) ≡ of (transition (readCharts s) t .source) (readCharts s .exits) =
+        let exits : actionsOf (128 + source) ≡ of (transition (readCharts s) t .source) (readCharts s .exits) =
         sym (of-key s sh ok 2 source (inr (inl (refl, source-small)))) ∙ ap (λ o. of o (readCharts s .exits)) (e ∙ ap (λ x. x .source) (sym same)) in
-        let own : deedsOf (256 + t) ≡ of t (readCharts s .transition-actions) = sym (of-key s sh ok 3 t (inr (inr (refl, small)))) in
-        let entries : deedsOf target ≡ of (transition (readCharts s) t .target) (readCharts s .entries) =
+        let own : actionsOf (256 + t) ≡ of t (readCharts s .transition-actions) = sym (of-key s sh ok 3 t (inr (inr (inl (refl, small))))) in
+        let entries : actionsOf target ≡ of (transition (readCharts s) t .target) (readCharts s .entries) =
         sym (of-key s sh ok 1 target (inl (refl, target-small))) ∙ ap (λ o. of o (readCharts s .entries)) (d ∙ ap (λ x. x .target) (sym same)) in
         λ i. exits i ++ own i ++ entries i
 
-    pub updates-text : updateTexts t (deedsOf (128 + source)) ++ updateTexts t (deedsOf (256 + t)) ++ updateTexts t (deedsOf target) ≡ updateTexts t (updatesOf (readCharts s) (from-transition t))
+    pub updates-text : updateTexts t (actionsOf (128 + source)) ++ updateTexts t (actionsOf (256 + t)) ++ updateTexts t (actionsOf target) ≡ updateTexts t (updatesOf (readCharts s) (from-transition t))
     updates-text =
         sym
-        (gather-append text (deedsOf (128 + source) ++ deedsOf (256 + t)) (deedsOf target)
-        ∙ ap (λ l. l ++ updateTexts t (deedsOf target)) (gather-append text (deedsOf (128 + source)) (deedsOf (256 + t))))
+        (gather-append text (actionsOf (128 + source) ++ actionsOf (256 + t)) (actionsOf target)
+        ∙ ap (λ l. l ++ updateTexts t (actionsOf target)) (gather-append text (actionsOf (128 + source)) (actionsOf (256 + t))))
         ∙ ap (updateTexts t) updates-are
       where
-        text : Deed → List ℕ
+        text : Action → List ℕ
         text x = recordText 40 (writeUpdate (t, x))
 
     pub updates-count : length (updatesOf (readCharts s) (from-transition t)) ≡ keyedCount (128 + source) + keyedCount (256 + t) + keyedCount target
     updates-count =
         ap length (sym updates-are)
-        ∙ length-append (deedsOf (128 + source) ++ deedsOf (256 + t)) (deedsOf target)
-        ∙ ap (λ n. n + length (deedsOf target)) (length-append (deedsOf (128 + source)) (deedsOf (256 + t)))
-        ∙ (λ i. deeds-count (128 + source) i + deeds-count (256 + t) i + deeds-count target i)
+        ∙ length-append (actionsOf (128 + source) ++ actionsOf (256 + t)) (actionsOf target)
+        ∙ ap (λ n. n + length (actionsOf target)) (length-append (actionsOf (128 + source)) (actionsOf (256 + t)))
+        ∙ (λ i. actions-count (128 + source) i + actions-count (256 + t) i + actions-count target i)

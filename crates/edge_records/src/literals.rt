@@ -1,18 +1,20 @@
-// Literals by edge: of each leaving transition of higher priority, ascending, one that must not hold; then the edge's own. An idle edge has the must-nots of all.
+// Literals by edge: of each leaving transition of higher priority, ascending, one that must not hold; then the edge's own. An idle edge has the must-nots of all;
+// where its state waits, a due or not-due edge then reads the clock.
 ghost use mathlib.Core.Path.{_≡_};
 ghost use mathlib.Core.List.{_∷_, _++_, map};
 ghost use mathlib.Core.Bool.{false};
+ghost use mathlib.Core.Option.{none};
 ghost use Prim.Native.Nat.{_+_, _≤_, _<_, _^_};
 ghost use Rattle.prelude.specs.Lists.{gather, upto};
 ghost use Rattle.records.specs.Bytes.{bytes2};
 ghost use Rattle.model.specs.ChartSet.{readCharts, transition};
-ghost use Rattle.model.specs.AutomataTable.{writeLiteralTrigger, writeGuard};
-ghost use Rattle.model.specs.Translation.{from-transition, from-idling, edgeNumber, transitionCount, stateCount, literalTriggerOf, literal, triedBefore, literalsOf};
+ghost use Rattle.model.specs.AutomataTable.{clock, writeLiteralTrigger, writeGuard};
+ghost use Rattle.model.specs.Translation.{from-transition, transitionCount, stateCount, idleOrigins, firstIdle, literalTriggerOf, literal, triedBefore, mustNots};
 ghost use Rattle.chart_records.specs.Parts.{guardFor};
 ghost use Rattle.chart_records.specs.Accepted.{Accepted};
 ghost use Rattle.chart_steps.specs.Tables.{HasRows, HasEnds, named};
-ghost use Rattle.twin_records.specs.Tables.{HasClocks};
-ghost use Rattle.twin_records.specs.Texts.{recordText, literalTexts, Puts};
+ghost use Rattle.twin_records.specs.Tables.{HasClocks, HasWaiting};
+ghost use Rattle.twin_records.specs.Texts.{recordText, literalTexts, literalsText, Puts};
 use chart_records::Shape;
 use chart_records::fields::Guard;
 use chart_records::fields::Trigger;
@@ -20,7 +22,9 @@ use chart_steps::tables::slot_of;
 use chart_steps::transitions::source_of;
 use records::sizes::Ends;
 use records::sizes::Rows;
+use records::sizes::STATES;
 use records::sizes::TRANSITIONS;
+use twin_records::clocks::count_of;
 use twin_records::fields::guard_of;
 use twin_records::fields::priority_of;
 use twin_records::fields::trigger_of;
@@ -115,7 +119,7 @@ fn put_literals_of(
     t: u16,
 ) -> usize
     requires { ⌜ Accepted (now s) shape × HasClocks (readCharts (now s)) (now clocks) × HasRows (readCharts (now s)) (now rows) × (t < shape .transitions) × (at < 2 ^ 61) ⌝ }
-    ensures { λ r. ⌜ Puts (now (out .entry)) at (literalTexts t (literalsOf (readCharts (now (s .entry))) (from-transition t))) (now (out .exit)) r (2 ^ 22) ⌝ }
+    ensures { λ r. ⌜ Puts (now (out .entry)) at (literalsText (readCharts (now (s .entry))) (from-transition t)) (now (out .exit)) r (2 ^ 22) ⌝ }
 {
     let higher = (priority_of(s, shape, t) - 1) as usize;
     let source = source_of(s, shape, t);
@@ -133,7 +137,7 @@ pub fn put_literals(
     at: usize,
 ) -> usize
     requires { ⌜ Accepted (now s) shape × HasClocks (readCharts (now s)) (now clocks) × HasRows (readCharts (now s)) (now rows) × (at < 2 ^ 60) ⌝ }
-    ensures { λ r. ⌜ Puts (now (out .entry)) at (gather (λ t. literalTexts t (literalsOf (readCharts (now (s .entry))) (from-transition t))) (upto (transitionCount (readCharts (now (s .entry)))))) (now (out .exit)) r (2 ^ 40) ⌝ }
+    ensures { λ r. ⌜ Puts (now (out .entry)) at (gather (λ t. literalsText (readCharts (now (s .entry))) (from-transition t)) (upto (transitionCount (readCharts (now (s .entry)))))) (now (out .exit)) r (2 ^ 40) ⌝ }
 {
     let mut next = at;
     let mut t: u16 = 0;
@@ -144,8 +148,8 @@ pub fn put_literals(
     next
 }
 
-// Idle edges are numbered behind the transitions' edges.
-pub fn put_idle_literals(
+// The must-nots of all transitions that leave a state.
+fn put_must_nots(
     s: &[u8],
     shape: Shape,
     clocks: &[u16; TRANSITIONS],
@@ -153,16 +157,81 @@ pub fn put_idle_literals(
     ends: &Ends,
     out: &mut [u8],
     at: usize,
+    edge: u16,
+    state: u16,
 ) -> usize
-    requires { ⌜ Accepted (now s) shape × HasClocks (readCharts (now s)) (now clocks) × HasRows (readCharts (now s)) (now rows) × HasEnds (readCharts (now s)) (now rows) (now ends) × (at < 2 ^ 60) ⌝ }
-    ensures { λ r. ⌜ Puts (now (out .entry)) at (gather (λ st. literalTexts (edgeNumber (readCharts (now (s .entry))) (from-idling st)) (literalsOf (readCharts (now (s .entry))) (from-idling st))) (upto (stateCount (readCharts (now (s .entry)))))) (now (out .exit)) r (2 ^ 40) ⌝ }
+    requires { ⌜ Accepted (now s) shape × HasClocks (readCharts (now s)) (now clocks) × HasRows (readCharts (now s)) (now rows) × HasEnds (readCharts (now s)) (now rows) (now ends) × (state < shape .states) × (at < 2 ^ 61) ⌝ }
+    ensures { λ r. ⌜ Puts (now (out .entry)) at (literalTexts edge (mustNots (readCharts (now (s .entry))) state)) (now (out .exit)) r (2 ^ 20) ⌝ }
+{
+    let end = ends[state as usize] as usize;
+    put_negations(s, shape, clocks, rows, out, at, edge, state, end)
+}
+
+// The clock of a waiting state: the sign is 1 where it must hold, 2 where it must not.
+fn put_clock_literal(out: &mut [u8], at: usize, sign: u8, edge: u16, number: u16) -> usize
+    requires { ⌜ at < 2 ^ 62 ⌝ }
+    ensures { λ r. ⌜ Puts (now (out .entry)) at (recordText 36 (sign ∷ bytes2 edge ++ writeLiteralTrigger (clock number) ++ writeGuard none)) (now (out .exit)) r 16 ⌝ }
+{
+    put_record(out, at, literal_bytes(sign, edge, 2, 0, number, 65535))
+}
+
+// Those of a state's idle edges, the first of which has this number. Where it waits, the due edge and then the other one read the clock behind the must-nots.
+fn put_idle_literals_of(
+    s: &[u8],
+    shape: Shape,
+    clocks: &[u16; TRANSITIONS],
+    waiting: &[u16; STATES],
+    rows: &Rows,
+    ends: &Ends,
+    out: &mut [u8],
+    at: usize,
+    edge: u16,
+    state: u16,
+) -> usize
+    requires { ⌜ Accepted (now s) shape × HasClocks (readCharts (now s)) (now clocks) × HasWaiting (readCharts (now s)) (now waiting) × HasRows (readCharts (now s)) (now rows) × HasEnds (readCharts (now s)) (now rows) (now ends) × (state < shape .states) × (edge ≡ firstIdle (readCharts (now s)) state) × (at < 2 ^ 60 + 2 ^ 40) ⌝ }
+    ensures { λ r. ⌜ Puts (now (out .entry)) at (gather (literalsText (readCharts (now (s .entry)))) (idleOrigins (readCharts (now (s .entry))) state)) (now (out .exit)) r (2 ^ 22) ⌝ }
+{
+    let number = waiting[state as usize];
+    let own = put_must_nots(s, shape, clocks, rows, ends, out, at, edge, state);
+    if number == 65535 {
+        return own;
+    }
+    let idle = put_clock_literal(out, own, 1, edge, number);
+    let last = put_must_nots(s, shape, clocks, rows, ends, out, idle, edge + 1, state);
+    put_clock_literal(out, last, 2, edge + 1, number)
+}
+
+// Idle edges are numbered behind the transitions' edges.
+pub fn put_idle_literals(
+    s: &[u8],
+    shape: Shape,
+    clocks: &[u16; TRANSITIONS],
+    waiting: &[u16; STATES],
+    rows: &Rows,
+    ends: &Ends,
+    out: &mut [u8],
+    at: usize,
+) -> usize
+    requires { ⌜ Accepted (now s) shape × HasClocks (readCharts (now s)) (now clocks) × HasWaiting (readCharts (now s)) (now waiting) × HasRows (readCharts (now s)) (now rows) × HasEnds (readCharts (now s)) (now rows) (now ends) × (at < 2 ^ 60) ⌝ }
+    ensures { λ r. ⌜ Puts (now (out .entry)) at (gather (λ st. gather (literalsText (readCharts (now (s .entry)))) (idleOrigins (readCharts (now (s .entry))) st)) (upto (stateCount (readCharts (now (s .entry)))))) (now (out .exit)) r (2 ^ 40) ⌝ }
 {
     let mut next = at;
+    let mut edge = shape.transitions;
     let mut state: u16 = 0;
     while state < shape.states {
-        let edge = shape.transitions + state;
-        let end = ends[state as usize] as usize;
-        next = put_negations(s, shape, clocks, rows, out, next, edge, state, end);
+        next = put_idle_literals_of(
+            s,
+            shape,
+            clocks,
+            waiting,
+            rows,
+            ends,
+            out,
+            next,
+            edge,
+            state,
+        );
+        edge += 1 + count_of(waiting[state as usize]);
         state += 1;
     }
     next

@@ -1,4 +1,4 @@
-// Resets by edge, then clock: all clocks of the transitions that leave the target.
+// Resets by edge, then clock: all clocks of the transitions that leave the target, then its waiting clock.
 ghost use mathlib.Core.Path.{_≡_};
 ghost use mathlib.Core.List.{map};
 ghost use Prim.Native.Nat.{_<_, _^_};
@@ -6,11 +6,12 @@ ghost use lib.ListN.{drop, replicate};
 ghost use Rattle.model.specs.Limits.{mostStates, mostTransitions};
 ghost use Rattle.prelude.specs.Lists.{gather, upto};
 ghost use Rattle.model.specs.ChartSet.{readCharts};
-ghost use Rattle.model.specs.Translation.{from-transition, transitionCount, clocksOf, clocksLeaving, resetsOf};
+ghost use Rattle.model.specs.Translation.{from-transition, transitionCount, clocksOf, clocksLeaving};
 ghost use Rattle.chart_records.specs.Parts.{triggerFor};
 ghost use Rattle.chart_records.specs.Accepted.{Accepted};
-ghost use Rattle.twin_records.specs.Tables.{HasClocks, HasLeaving};
-ghost use Rattle.twin_records.specs.Texts.{resetTexts, Puts};
+ghost use Rattle.chart_steps.specs.Tables.{named};
+ghost use Rattle.twin_records.specs.Tables.{HasClocks, HasWaiting, HasLeaving};
+ghost use Rattle.twin_records.specs.Texts.{resetTexts, resetsText, Puts};
 use chart_records::Shape;
 use chart_records::fields::Trigger;
 use chart_steps::transitions::source_of;
@@ -79,24 +80,54 @@ fn put_leaving(
     place
 }
 
+// A state that does not wait has no waiting clock.
+fn put_waiting_reset(clock: u16, out: &mut [u8], at: usize, edge: u16) -> usize
+    requires { ⌜ at < 2 ^ 62 ⌝ }
+    ensures { λ r. ⌜ Puts (now (out .entry)) at (resetTexts edge (named clock)) (now (out .exit)) r 16 ⌝ }
+{
+    if clock == 65535 {
+        return at;
+    }
+    put_record(out, at, reset_bytes(edge, clock))
+}
+
+fn put_resets_of(
+    s: &[u8],
+    shape: Shape,
+    clocks: &[u16; TRANSITIONS],
+    waiting: &[u16; STATES],
+    first: &[u16; STATES],
+    next: &[u16; TRANSITIONS],
+    out: &mut [u8],
+    at: usize,
+    t: u16,
+) -> usize
+    requires { ⌜ Accepted (now s) shape × HasClocks (readCharts (now s)) (now clocks) × HasWaiting (readCharts (now s)) (now waiting) × HasLeaving (readCharts (now s)) (now first) (now next) × (t < shape .transitions) × (at < 2 ^ 61) ⌝ }
+    ensures { λ r. ⌜ Puts (now (out .entry)) at (resetsText (readCharts (now (s .entry))) (from-transition t)) (now (out .exit)) r (2 ^ 21) ⌝ }
+{
+    let target = target_of(s, shape, t);
+    let last = put_leaving(s, shape, clocks, first, next, out, at, t, target);
+    put_waiting_reset(waiting[target as usize], out, last, t)
+}
+
 // Idle edges have none.
 pub fn put_resets(
     s: &[u8],
     shape: Shape,
     clocks: &[u16; TRANSITIONS],
+    waiting: &[u16; STATES],
     first: &[u16; STATES],
     next: &[u16; TRANSITIONS],
     out: &mut [u8],
     at: usize,
 ) -> usize
-    requires { ⌜ Accepted (now s) shape × HasClocks (readCharts (now s)) (now clocks) × HasLeaving (readCharts (now s)) (now first) (now next) × (at < 2 ^ 60) ⌝ }
-    ensures { λ r. ⌜ Puts (now (out .entry)) at (gather (λ t. resetTexts t (resetsOf (readCharts (now (s .entry))) (from-transition t))) (upto (transitionCount (readCharts (now (s .entry)))))) (now (out .exit)) r (2 ^ 40) ⌝ }
+    requires { ⌜ Accepted (now s) shape × HasClocks (readCharts (now s)) (now clocks) × HasWaiting (readCharts (now s)) (now waiting) × HasLeaving (readCharts (now s)) (now first) (now next) × (at < 2 ^ 60) ⌝ }
+    ensures { λ r. ⌜ Puts (now (out .entry)) at (gather (λ t. resetsText (readCharts (now (s .entry))) (from-transition t)) (upto (transitionCount (readCharts (now (s .entry)))))) (now (out .exit)) r (2 ^ 40) ⌝ }
 {
     let mut place = at;
     let mut t: u16 = 0;
     while t < shape.transitions {
-        let target = target_of(s, shape, t);
-        place = put_leaving(s, shape, clocks, first, next, out, place, t, target);
+        place = put_resets_of(s, shape, clocks, waiting, first, next, out, place, t);
         t += 1;
     }
     place

@@ -27,6 +27,9 @@ underOperator operator = strays (node operator 0 0 0 0)
 abbrev underDeed : ℕ → List ℕ
 underDeed deed = strays (action 1 0 deed 0 0)
 
+abbrev underPlace : ℕ → List ℕ
+underPlace place = strays (action place 0 1 0 0)
+
 abbrev zeros : List (List ℕ × List ℕ)
 zeros =
     (strays (chart 0), 1 ∷ bytes 4 15)
@@ -55,14 +58,19 @@ zeros =
     ∷ (underOperator 21, bytes 6 15)
     ∷ (underOperator 9, bytes 12 15)
     -- assign, raise, and neither
-    ∷ (underDeed 1, bytes 8 15)
-    ∷ (underDeed 2, bytes 6 15)
-    ∷ (underDeed 3, bytes 8 15)
+    ∷ (underDeed 1, bytes 10 15)
+    ∷ (underDeed 2, bytes 6 7 ++ bytes 10 15)
+    ∷ (underDeed 3, bytes 10 15)
+    -- exit, transition, waiting, and none of them
+    ∷ (underPlace 2, bytes 10 15)
+    ∷ (underPlace 3, bytes 10 15)
+    ∷ (underPlace 4, bytes 10 11)
+    ∷ (underPlace 5, bytes 10 11)
     ∷ []
 
 zero-rows : Agree zeros
 unfolding ChartFile
-zero-rows = (refl, (refl, (refl, (refl, (refl, (refl, (refl, (refl, (refl, (refl, (refl, (refl, (refl, (refl, (refl, (refl, (refl, (refl, (refl, (refl, (refl, (refl, (refl, (refl, (refl, (refl, tt))))))))))))))))))))))))))
+zero-rows = (refl, (refl, (refl, (refl, (refl, (refl, (refl, (refl, (refl, (refl, (refl, (refl, (refl, (refl, (refl, (refl, (refl, (refl, (refl, (refl, (refl, (refl, (refl, (refl, (refl, (refl, (refl, (refl, (refl, (refl, tt))))))))))))))))))))))))))))))
 
 -- ---- 5 to 9
 

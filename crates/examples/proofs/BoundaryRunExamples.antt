@@ -157,8 +157,8 @@ calls =
     ∷ (turned chartSets (waiting 49) 0 (fresh 8), shown (negsuc 8) (fresh 8))
     ∷ (done (cycleCall chartSets (waiting 49) 0 (fresh 8)), shown (negsuc 8) (fresh 8))
     ∷ (done (startCall automataTables refusedTable odd), shown (negsuc 10) odd)
-    ∷ (turned automataTables refusedTable 0 (fresh 256), shown (negsuc 10) (fresh 256))
-    ∷ (done (cycleCall automataTables refusedTable 0 (fresh 256)), shown (negsuc 10) (fresh 256))
+    ∷ (turned automataTables refusedTable 0 (fresh 384), shown (negsuc 10) (fresh 384))
+    ∷ (done (cycleCall automataTables refusedTable 0 (fresh 384)), shown (negsuc 10) (fresh 384))
     ∷ (translated (waiting 49) 3, negsuc 8 ∷ replicate 3 (pos 7))
     ∷ (translated (waiting 49) 320, negsuc 8 ∷ replicate 320 (pos 7))
     -- a start: second part, second variable, both formats
@@ -188,7 +188,7 @@ holding vars = turn (paired 0 9 65436) (run (1 ∷ []) [] vars 0 1 0)
 
 -- the twin of `alternating` in locations 2 and 3, with these clocks and with this second variable
 abbrev twinRun : List ℕ → ℤ → Run
-twinRun clocks v = record { at = padded 8 0 (2 ∷ 3 ∷ []); timers = padded 256 0 clocks; world = run [] [] (pos 1 ∷ v ∷ []) 0 1 0 .world }
+twinRun clocks v = record { at = padded 8 0 (2 ∷ 3 ∷ []); timers = padded 384 0 clocks; world = run [] [] (pos 1 ∷ v ∷ []) 0 1 0 .world }
 
 abbrev twinTurn : List ℕ → ℤ → ℤ
 twinTurn clocks v = numbered answerCode (turnCall automataTables (twinBytes alternating) 0 (twinRun clocks v) .answer)
@@ -219,7 +219,7 @@ checks =
     ∷ (twinTurn (5 ∷ 36_000 ∷ []) (negsuc 0), pos 3)
     ∷ (twinTurn (6 ∷ 36_000 ∷ []) (negsuc 0), negsuc 11)
     ∷ (twinTurn (5 ∷ 36_001 ∷ []) (negsuc 0), negsuc 11)
-    ∷ (twinTurn (replicate 255 0 ++ (1 ∷ [])) (negsuc 0), negsuc 11)
+    ∷ (twinTurn (replicate 383 0 ++ (1 ∷ [])) (negsuc 0), negsuc 11)
     ∷ (twinTurn [] (negsuc 9), pos 6)
     ∷ (twinTurn [] (negsuc 10), negsuc 11)
     ∷ (twinTurn [] (pos 0), negsuc 11)

@@ -49,9 +49,9 @@ zeros =
     ∷ (strays (39 ∷ 3 ∷ []), bytes 6 15)
     ∷ (strays (39 ∷ 8 ∷ []), bytes 8 15)
     -- assign, raise, and neither
-    ∷ (strays (40 ∷ 1 ∷ []), 5 ∷ bytes 8 15)
-    ∷ (strays (40 ∷ 2 ∷ []), bytes 5 15)
-    ∷ (strays (40 ∷ 3 ∷ []), 5 ∷ bytes 8 15)
+    ∷ (strays (40 ∷ 1 ∷ []), 5 ∷ bytes 10 15)
+    ∷ (strays (40 ∷ 2 ∷ []), bytes 5 7 ++ bytes 10 15)
+    ∷ (strays (40 ∷ 3 ∷ []), 5 ∷ bytes 10 15)
     ∷ (strays (41 ∷ []), 1 ∷ bytes 6 15)
     ∷ []
 

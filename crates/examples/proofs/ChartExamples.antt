@@ -1,27 +1,14 @@
 -- Examples of a chart's turn and of cycles, from bytes, for the rules that demand 3 cannot see. Assumes nothing.
 use mathlib.Core.Path.{_≡_, refl}
-use mathlib.Core.Option.{Option, some, none}
 use mathlib.Core.List.{List, [], _∷_}
 use Prim.Native.Nat.{ℕ}
-use Prim.Native.String.{String}
 use lib.IntN.{ℤ, pos, negsuc}
-use Rattle.records.specs.Refusal.{Refusal, refusalNumber}
 use Rattle.model.specs.Runs.{Run}
 use Rattle.model.specs.Calls.{chartSets, startCall, turnCall, cycleCall, numbered, answerCode}
-use Rattle.model.specs.Replay.{replay, Replay}
+use Rattle.model.specs.Replay.{Replay}
 use Rattle.records.proofs.Tables.{Agree}
-use Rattle.examples.proofs.ExampleSets.{ascii, inputOf, blank, assigning, grouped, raising, timing, dividing, overstepping}
-
--- the lines printed, then the number of the refusal that ended it, or 0
-abbrev ending : Option Refusal → ℕ
-ending none = 0
-ending (some w) = refusalNumber w
-
-abbrev printed : List ℕ → List ℕ → List ℕ
-printed s masks = let p = replay s (inputOf masks) in ending (p .end) ∷ p .text
-
-abbrev lines : (end : ℕ) → String → List ℕ
-lines end t = end ∷ ascii t
+use Rattle.examples.proofs.ExampleSets.{blank, assigning, grouped, raising, timing, dividing, overstepping}
+use Rattle.examples.proofs.ExampleFiles.{printed, lines}
 
 abbrev replays : List (List ℕ × List ℕ)
 replays =

@@ -66,7 +66,7 @@ refused-kept = refl
 abbrev clocked : ℕ → Run
 clocked x = record {
   at = 2 ∷ replicate 7 0;
-  timers = x ∷ replicate 255 0;
+  timers = x ∷ replicate 383 0;
   world = record { vars = replicate 64 (pos 0); events = 0; position = 1; cycles = 9 };
 }
 

@@ -1,14 +1,16 @@
--- Files with bytes put in, and the number that refuses them, for the examples. Assumes nothing: these are definitions.
+-- Files with bytes put in, and the number that refuses them, and replays, for the examples. Assumes nothing: these are definitions.
 use mathlib.Core.Option.{Option, some, none}
 use mathlib.Core.List.{List, [], _∷_, _++_}
 use Prim.Native.Nat.{ℕ, suc, _-_}
+use Prim.Native.String.{String}
 use lib.ListN.{set, replicate}
 use Rattle.prelude.specs.Lists.{gather, from}
 use Rattle.records.specs.Refusal.{Refusal, refusalNumber}
 use Rattle.model.specs.ChartFile.{chartsRefusal}
 use Rattle.model.specs.AutomataFile.{automataRefusal}
 use Rattle.model.specs.Translation.{twinBytes}
-use Rattle.examples.proofs.ExampleSets.{chart, state, transition, freely, timed, variable, action, zeroWatch, waiting, raising}
+use Rattle.model.specs.Replay.{replay}
+use Rattle.examples.proofs.ExampleSets.{ascii, inputOf, chart, state, transition, freely, timed, variable, action, zeroWatch, waiting, raising}
 
 -- bytes a to e of a record, as the paper counts them, and so many copies of a record
 abbrev pub bytes : (a e : ℕ) → List ℕ
@@ -22,7 +24,7 @@ abbrev pub edited : List ℕ → List (ℕ × ℕ) → List ℕ
 edited s [] = s
 edited s (x ∷ xs) = edited (set s (x .0) (x .1)) xs
 
-abbrev numberOf : Option Refusal → ℕ
+abbrev pub numberOf : Option Refusal → ℕ
 numberOf none = 0
 numberOf (some w) = refusalNumber w
 
@@ -57,3 +59,11 @@ editedClocks = edited clockTwin
 
 abbrev pub editedPair : List (ℕ × ℕ) → List ℕ
 editedPair = edited (twinBytes raising)
+
+-- ---- replays: the number of the refusal that ended it, or 0, then the lines printed
+
+abbrev pub printed : List ℕ → List ℕ → List ℕ
+printed s masks = let p = replay s (inputOf masks) in numberOf (p .end) ∷ p .text
+
+abbrev pub lines : (end : ℕ) → String → List ℕ
+lines end t = end ∷ ascii t

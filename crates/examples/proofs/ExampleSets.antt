@@ -1,6 +1,6 @@
 -- Files for the examples: records of each kind, text, and chart sets as bytes. Assumes nothing: these are definitions.
 use mathlib.Core.List.{List, [], _∷_, _++_, map}
-use Prim.Native.Nat.{ℕ}
+use Prim.Native.Nat.{ℕ, suc}
 use Prim.Native.Char.{code}
 use Prim.Native.String.{String, len, charAt}
 use lib.IntN.{ℤ, pos}
@@ -45,6 +45,14 @@ variable lo hi z = rec16 (4 ∷ 0 ∷ bytes2 lo ++ bytes2 hi ++ bytes2 z)
 
 abbrev pub action : (place owner deed x node : ℕ) → List ℕ
 action place owner deed x n = rec16 (6 ∷ place ∷ bytes2 owner ++ (deed ∷ x ∷ bytes2 n))
+
+-- the same with a guard, node g (request 4)
+abbrev pub guarded : (g place owner deed x node : ℕ) → List ℕ
+guarded g place owner deed x n = rec16 (6 ∷ place ∷ bytes2 owner ++ (deed ∷ x ∷ bytes2 n) ++ bytes2 (suc g))
+
+-- done every so many milliseconds while its state idles (request 4)
+abbrev pub whileIdle : (ms owner deed x node : ℕ) → List ℕ
+whileIdle ms owner deed x n = rec16 (6 ∷ 4 ∷ bytes2 owner ++ (deed ∷ x ∷ bytes2 n) ++ bytes4 0 ++ bytes4 ms)
 
 -- ---- the zero-watch set, byte for byte
 

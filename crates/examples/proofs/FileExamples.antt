@@ -59,16 +59,16 @@ files =
     ∷ (refused (edited zeroWatch ((162, 1) ∷ [])), 4)
     ∷ (refused (edited zeroWatch ((182, 1) ∷ [])), 4)
     ∷ (refused (edited zeroWatch ((188, 1) ∷ [])), 4)
-    ∷ (refused (edited zeroWatch ((264, 1) ∷ [])), 4)
-    -- under an unknown code only an unnamed byte is 4; the deed decides on 6-7, the place on nothing
+    ∷ (refused (edited zeroWatch ((266, 1) ∷ [])), 4)
+    -- under an unknown code only an unnamed byte is 4; the deed decides on 6-7, the place on 12-15
     ∷ (refused (edited zeroWatch ((70, 9) ∷ (71, 1) ∷ [])), 5)
     ∷ (refused (edited zeroWatch ((70, 9) ∷ (78, 1) ∷ [])), 4)
     ∷ (refused (edited zeroWatch ((177, 9) ∷ (182, 1) ∷ [])), 5)
     ∷ (refused (edited zeroWatch ((177, 9) ∷ (188, 1) ∷ [])), 4)
     ∷ (refused (edited zeroWatch ((260, 3) ∷ [])), 5)
-    ∷ (refused (edited zeroWatch ((260, 3) ∷ (264, 1) ∷ [])), 4)
+    ∷ (refused (edited zeroWatch ((260, 3) ∷ (266, 1) ∷ [])), 4)
     ∷ (refused (edited zeroWatch ((260, 2) ∷ [])), 4)
-    ∷ (refused (edited zeroWatch ((257, 4) ∷ (264, 1) ∷ [])), 4)
+    ∷ (refused (edited zeroWatch ((257, 5) ∷ (266, 1) ∷ [])), 4)
     -- 5: priority 0 and 17, trigger, event, milliseconds, start outside its range, operators, place, deed, raised event
     ∷ (refused (edited zeroWatch ((65, 0) ∷ [])), 5)
     ∷ (refused (edited zeroWatch ((65, 17) ∷ [])), 5)
@@ -83,7 +83,7 @@ files =
     ∷ (refused (edited zeroWatch ((145, 15) ∷ [])), 5)
     ∷ (refused (edited zeroWatch ((145, 22) ∷ [])), 5)
     ∷ (refused (edited zeroWatch ((257, 0) ∷ [])), 5)
-    ∷ (refused (edited zeroWatch ((257, 4) ∷ [])), 5)
+    ∷ (refused (edited zeroWatch ((257, 5) ∷ [])), 5)
     ∷ (refused (edited zeroWatch ((260, 0) ∷ [])), 5)
     ∷ (refused (edited zeroWatch ((260, 2) ∷ (261, 32) ∷ (262, 0) ∷ [])), 5)
     -- 6: initial state, chart, source, target, guard, operand, variable, owners, assigned variable, assigned node
@@ -178,7 +178,7 @@ tables =
     ∷ (refusedTable (editedTwin ((321, 1) ∷ [])), 11)
     ∷ (refusedTable (editedTwin ((347, 1) ∷ [])), 11)
     ∷ (refusedTable (editedTwin ((453, 1) ∷ [])), 11)
-    ∷ (refusedTable (editedTwin ((456, 1) ∷ [])), 11)
+    ∷ (refusedTable (editedTwin ((458, 1) ∷ [])), 11)
     ∷ (refusedTable (editedClocks ((292, 1) ∷ [])), 11)
     ∷ (refusedTable (editedClocks ((305, 1) ∷ [])), 11)
     ∷ (refusedTable (editedClocks ((310, 1) ∷ [])), 11)

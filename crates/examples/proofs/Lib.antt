@@ -3,6 +3,8 @@ pub mod ExampleSets
 pub mod ExampleFiles
 mod MarkedExamples
 mod ChartExamples
+mod ActionExamples
+mod WaitingExamples
 mod CheckExamples
 mod PathExamples
 mod FileExamples

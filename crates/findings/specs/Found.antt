@@ -3,9 +3,10 @@ use mathlib.Core.Path.{_≡_}
 use mathlib.Core.Bool.{Bool, true, false, not, _&&_, _||_}
 use mathlib.Core.List.{List}
 use Prim.Native.Nat.{ℕ, _*_, _/_, _<_}
-use lib.Dec.{leb, eqb}
+use lib.Dec.{leb, ltb, eqb}
 use lib.ListN.{length, take, drop}
-use Rattle.records.specs.Bytes.{byte}
+use Rattle.records.specs.Bytes.{byte, four}
+use Rattle.model.specs.Charts.{ticks}
 use Rattle.model.specs.ChartSet.{readTransition}
 use Rattle.model.specs.ChartFile.{unused, unusedAreZero, inCode, ticking}
 use Rattle.model.specs.AutomataFile.{unusedInTable, tableInCode}
@@ -19,7 +20,9 @@ abbrev pub testOf : Rule → List ℕ → Bool
 testOf SetKinds r = leb 1 (byte r 0) && leb (byte r 0) 6
 testOf SetBytes r = unusedAreZero (unused r) r
 testOf SetCodes r = inCode r
-testOf SetTicks r = not (eqb (byte r 0) 3) || ticking (readTransition r .trigger)
+testOf SetTicks r =
+    (not (eqb (byte r 0) 3) || ticking (readTransition r .trigger))
+    && (not (eqb (byte r 0) 6) || (not (eqb (byte r 1) 4) || ltb 0 (ticks (four r 12))))
 testOf TableKinds r = leb 33 (byte r 0) && leb (byte r 0) 41
 testOf TableBytes r = unusedAreZero (unusedInTable r) r
 testOf TableCodes r = tableInCode r

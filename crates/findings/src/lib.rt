@@ -3,6 +3,7 @@ ghost use mathlib.Core.Path.{_≡_};
 ghost use lib.ListN.{length};
 ghost use Rattle.findings.specs.Found.{testOf, FoundIn};
 use chart_files::timing::ticking;
+use chart_files::timing::wait_ticks;
 use chart_records::Shape;
 use chart_records::fields::trigger_of;
 use records::byte_at;
@@ -23,7 +24,7 @@ pub enum Found {
     Nowhere,
 }
 
-// The trigger of a record alone is that of transition 0 behind no other record.
+// Of a record alone: the trigger of transition 0, and the milliseconds of action 0, behind no other record.
 fn ticks(r: &[u8]) -> bool
     ensures { λ t. ⌜ t ≡ testOf Rule.SetTicks (now (r .entry)) ⌝ }
 {
@@ -35,7 +36,8 @@ fn ticks(r: &[u8]) -> bool
         nodes: 0,
         actions: 0,
     };
-    (byte_at(r, 0) != 3) | ticking(trigger_of(r, none, 0))
+    let kind = byte_at(r, 0);
+    ((kind != 3) | ticking(trigger_of(r, none, 0))) & ((kind != 6) | wait_ticks(r, none, 0))
 }
 
 fn passes(rule: Rule, r: &[u8]) -> bool

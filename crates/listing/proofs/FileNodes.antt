@@ -21,7 +21,7 @@ use Rattle.model.specs.ChartFile.{guardNodes, assignedNodes}
 use Rattle.model.specs.AutomataTable.{readAutomata}
 use Rattle.model.specs.AutomataFile.{automataRefusal, tableTests, tableNodesFit}
 use Rattle.model.specs.Replay.{Replay}
-use Rattle.model.proofs.ChartFile.{lowest-none, four-of, nodes-few, used-once}
+use Rattle.model.proofs.ChartFile.{lowest-none, five-of, nodes-few, used-once}
 use Rattle.chart_records.specs.Accepted as sets
 use Rattle.chart_records.specs.Places as set-places
 use Rattle.chart_records.specs.declared.Shape as set-shape
@@ -73,11 +73,12 @@ module _ (s : List ℕ) (ok : automataRefusal s ≡ none) where
       let tests : List (Refusal × Bool) = map (λ applies. (bad-table, applies)) (tableTests s) in
       leb→le (operandUses (nodeOf xs) (length xs) k) 1
       (upto-all (λ n. leb (operandUses (nodeOf xs) (length xs) n) 1) (length xs) k
-      (four-of (operandsFit (nodeOf xs) (length xs))
+      (five-of (operandsFit (nodeOf xs) (length xs))
       (all (λ n. isTruth (sortOf (nodeOf xs n))) (gather (λ x. guardNodes (x .1 .guard)) (readAutomata s .literals)))
-      (all (λ n. isNumber (sortOf (nodeOf xs n))) (gather (λ x. assignedNodes (x .1)) (readAutomata s .updates)))
+      (all (λ n. isTruth (sortOf (nodeOf xs n))) (gather (λ x. guardNodes (x .1 .guard)) (readAutomata s .updates)))
+      (all (λ n. isNumber (sortOf (nodeOf xs n))) (gather (λ x. assignedNodes (x .1 .deed)) (readAutomata s .updates)))
       (all (λ n. leb (operandUses (nodeOf xs) (length xs) n) 1) (upto (length xs)))
-      (not-not (tableNodesFit (readAutomata s)) (all-getD (λ x. not (x .1)) tests (bad-table, false) 9 (lowest-none tests ok) (omega arith))) .3) h)
+      (not-not (tableNodesFit (readAutomata s)) (all-getD (λ x. not (x .1)) tests (bad-table, false) 9 (lowest-none tests ok) (omega arith))) .4) h)
 
 pub table-nodes : (s : List ℕ) (sh : table-shape.Shape) → tables.Accepted s sh → leb 33 (byte s 0) ≡ true → HasNodes s (table-places.nodePart s sh)
 table-nodes s sh ok e =

@@ -9,11 +9,14 @@ use Rattle.examples.proofs.ExampleSets.{zeroWatch}
 use Rattle.lines.specs.Ascii.{ascii}
 use Rattle.guards.specs.Texts.{textOf}
 use Rattle.guards.specs.Lists.{GuardLists}
-use Rattle.listing.specs.Listing.{lineText, nodesOf, listed, guardListed}
+use Rattle.listing.specs.Listing.{lineText, guardText, nodesOf, listed, guardListed}
 
 -- the line of the i-th of its kind, of a record's first bytes, with the set's nodes, which its twin has too
 line : ℕ → List ℕ → List ℕ
 line i bytes = lineText (nodesOf zeroWatch) i (padded 16 0 bytes)
+
+alone : ℕ → List ℕ → List ℕ
+alone i bytes = guardText (nodesOf zeroWatch) i (padded 16 0 bytes)
 
 abbrev rows : List (List ℕ × List ℕ)
 rows =
@@ -31,6 +34,9 @@ rows =
     ∷ (line 7 (5 ∷ 1 ∷ 0 ∷ 0 ∷ 0 ∷ 0 ∷ 0 ∷ 0 ∷ 0 ∷ 0 ∷ 0 ∷ 128 ∷ []), ascii "node 7: constant -2147483648\n")
     ∷ (line 8 (5 ∷ 8 ∷ 1 ∷ 0 ∷ 2 ∷ 0 ∷ 3 ∷ 0 ∷ []), ascii "node 8: node 1 ? node 2 : node 3\n")
     ∷ (line 2 (6 ∷ 2 ∷ 9 ∷ 0 ∷ 2 ∷ 31 ∷ []), ascii "action 2: exit of state 9: raise event 31\n")
+    ∷ (line 3 (6 ∷ 1 ∷ 9 ∷ 0 ∷ 2 ∷ 31 ∷ 0 ∷ 0 ∷ 3 ∷ []), ascii "action 3: entry of state 9: raise event 31, guard node 2 (v0<0)\n")
+    ∷ (line 3 (6 ∷ 4 ∷ 2 ∷ 0 ∷ 1 ∷ 0 ∷ 6 ∷ 0 ∷ 0 ∷ 0 ∷ 0 ∷ 0 ∷ 200 ∷ []), ascii "action 3: waiting in state 2, every 200 ms: variable 0 := node 6\n")
+    ∷ (line 4 (6 ∷ 4 ∷ 2 ∷ 0 ∷ 2 ∷ 31 ∷ 0 ∷ 0 ∷ 3 ∷ 0 ∷ 0 ∷ 0 ∷ 128 ∷ 238 ∷ 54 ∷ []), ascii "action 4: waiting in state 2, every 3600000 ms: raise event 31, guard node 2 (v0<0)\n")
     ∷ (line 0 (33 ∷ 0 ∷ 0 ∷ 0 ∷ []), ascii "automaton 0: initial location 0\n")
     ∷ (line 2 (34 ∷ 0 ∷ []), ascii "location 2: automaton 0\n")
     ∷ (line 4 (35 ∷ 0 ∷ 0 ∷ 0 ∷ 0 ∷ 0 ∷ 1 ∷ []), ascii "edge 4: automaton 0, location 0 to location 0, idle\n")
@@ -38,9 +44,13 @@ rows =
     ∷ (line 3 (36 ∷ 1 ∷ 2 ∷ 0 ∷ 2 ∷ 0 ∷ 1 ∷ 1 ∷ 255 ∷ 255 ∷ []), ascii "literal 3: edge 2 must hold: clock 257, no guard\n")
     ∷ (line 0 (37 ∷ 3 ∷ 5 ∷ 0 ∷ []), ascii "clock 0: every 5 ticks\n")
     ∷ (line 1 (40 ∷ 1 ∷ 3 ∷ 0 ∷ 0 ∷ 0 ∷ 6 ∷ 0 ∷ []), ascii "update 1: edge 3: variable 0 := node 6\n")
+    ∷ (line 2 (40 ∷ 1 ∷ 3 ∷ 0 ∷ 0 ∷ 0 ∷ 6 ∷ 0 ∷ 3 ∷ []), ascii "update 2: edge 3: variable 0 := node 6, guard node 2 (v0<0)\n")
+    ∷ (alone 3 (6 ∷ 1 ∷ 9 ∷ 0 ∷ 2 ∷ 31 ∷ 0 ∷ 0 ∷ 3 ∷ []), ascii "action 3: guard node 2: v0<0\n")
+    ∷ (alone 2 (36 ∷ 2 ∷ 2 ∷ 0 ∷ 0 ∷ 0 ∷ 0 ∷ 0 ∷ 2 ∷ 0 ∷ []), ascii "literal 2: guard node 2: v0<0\n")
+    ∷ (alone 2 (40 ∷ 1 ∷ 3 ∷ 0 ∷ 0 ∷ 0 ∷ 6 ∷ 0 ∷ 3 ∷ []), ascii "update 2: guard node 2: v0<0\n")
     ∷ (line 0 (41 ∷ 0 ∷ 3 ∷ 0 ∷ 1 ∷ 0 ∷ []), ascii "reset 0: edge 3: clock 1\n")
     ∷ []
 
 listing-examples : Agree rows
-unfolding Replay textOf GuardLists line
-listing-examples = (refl, (refl, (refl, (refl, (refl, (refl, (refl, (refl, (refl, (refl, (refl, (refl, (refl, (refl, (refl, (refl, (refl, (refl, (refl, (refl, (refl, (refl, tt))))))))))))))))))))))
+unfolding Replay textOf GuardLists line alone
+listing-examples = (refl, (refl, (refl, (refl, (refl, (refl, (refl, (refl, (refl, (refl, (refl, (refl, (refl, (refl, (refl, (refl, (refl, (refl, (refl, (refl, (refl, (refl, (refl, (refl, (refl, (refl, (refl, (refl, (refl, tt)))))))))))))))))))))))))))))

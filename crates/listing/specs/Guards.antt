@@ -7,21 +7,21 @@ use Rattle.prelude.specs.Lists.{caseOf}
 use Rattle.records.specs.Bytes.{kind}
 use Rattle.expressions.specs.Nodes.{Node}
 use Rattle.model.specs.Limits.{mostNodes}
-use Rattle.model.specs.ChartSet.{readTransition}
-use Rattle.model.specs.AutomataTable.{readLiteral}
+use Rattle.model.specs.ChartSet.{readTransition, readAction}
+use Rattle.model.specs.AutomataTable.{readLiteral, readUpdate}
 use Rattle.model.specs.Replay.{feed}
 use Rattle.lines.specs.Ascii.{ascii}
 use Rattle.guards.specs.Texts.{textOf}
 use Rattle.guards.specs.Lists.{treeOf}
 use Rattle.listing_parts.specs.Parts.{named}
 
--- the node of a record's guard, which transitions and literals may have
+-- the node of a record's guard, which transitions, actions, literals and updates may have
 abbrev pub guardOf : List ℕ → Option ℕ
-guardOf r = caseOf (kind r) ((3, readTransition r .guard) ∷ (36, readLiteral r .1 .guard) ∷ []) none
+guardOf r = caseOf (kind r) ((3, readTransition r .guard) ∷ (6, readAction r .1 .guard) ∷ (36, readLiteral r .1 .guard) ∷ (40, readUpdate r .1 .guard) ∷ []) none
 
 -- such a record by its number i
 abbrev pub guardedText : ℕ → List ℕ → List ℕ
-guardedText i r = caseOf (kind r) ((3, named "transition " i) ∷ []) (named "literal " i)
+guardedText i r = caseOf (kind r) ((3, named "transition " i) ∷ (6, named "action " i) ∷ (36, named "literal " i) ∷ []) (named "update " i)
 
 -- a guard has 21 bytes to a node at most; a line has 256 of a record's fields besides, the parentheses around a guard and the line's end
 abbrev pub longestGuard : ℕ

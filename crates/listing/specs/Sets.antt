@@ -2,10 +2,11 @@
 use mathlib.Core.List.{List, [], _∷_, _++_}
 use Prim.Native.Nat.{ℕ}
 use Rattle.prelude.specs.Lists.{caseOf}
-use Rattle.records.specs.Bytes.{byte, two}
-use Rattle.model.specs.ChartSet.{Trigger, always, event, after, every, Transition, readDeed}
+use Rattle.records.specs.Bytes.{byte, two, four}
+use Rattle.model.specs.ChartSet.{Trigger, always, event, after, every, Transition, readAction}
 use Rattle.lines.specs.Ascii.{ascii}
-use Rattle.listing_parts.specs.Parts.{named, measured, guardText, deedText}
+use Rattle.listing_parts.specs.Parts as P
+use Rattle.listing_parts.specs.Parts.{named, measured, guardText}
 
 -- 1
 abbrev pub chartText : ℕ → ℕ → List ℕ
@@ -31,11 +32,14 @@ transitionText i t =
     ++ triggerText (t .trigger)
     ++ guardText (t .guard)
 
--- "1 place: 1 entry, 2 exit, 3 transition; 2-3 owner"
-abbrev pub ownerText : ℕ → ℕ → List ℕ
-ownerText place owner =
-    caseOf place ((1, named ": entry of state " owner) ∷ (2, named ": exit of state " owner) ∷ []) (named ": transition " owner)
+abbrev pub waitingText : ℕ → ℕ → List ℕ
+waitingText state ms = named ": waiting in state " state ++ measured ", every " ms " ms"
+
+-- "1 place: 1 entry, 2 exit, 3 transition; 2-3 owner", and place 4 with its milliseconds
+abbrev pub ownerText : ℕ → ℕ → ℕ → List ℕ
+ownerText place owner ms =
+    caseOf place ((1, named ": entry of state " owner) ∷ (2, named ": exit of state " owner) ∷ (4, waitingText owner ms) ∷ []) (named ": transition " owner)
 
 -- 6
 abbrev pub actionText : ℕ → List ℕ → List ℕ
-actionText i r = named "action " i ++ ownerText (byte r 1) (two r 2) ++ deedText (readDeed (byte r 4) (byte r 5) (two r 6))
+actionText i r = named "action " i ++ ownerText (byte r 1) (two r 2) (four r 12) ++ P.actionText (readAction r .1)

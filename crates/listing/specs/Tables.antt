@@ -2,10 +2,10 @@
 use mathlib.Core.Bool.{Bool, true, false}
 use mathlib.Core.List.{List, [], _++_}
 use Prim.Native.Nat.{ℕ}
-use Rattle.model.specs.Runs.{Deed}
+use Rattle.model.specs.Runs.{Action}
 use Rattle.model.specs.AutomataTable.{Edge, Literal, Clock, LiteralTrigger, always, event, clock, Timing, after, every}
 use Rattle.lines.specs.Ascii.{ascii}
-use Rattle.listing_parts.specs.Parts.{named, measured, guardText, deedText}
+use Rattle.listing_parts.specs.Parts.{named, measured, guardText, actionText}
 
 -- 33
 abbrev pub automatonText : ℕ → ℕ → List ℕ
@@ -46,8 +46,8 @@ abbrev pub clockText : ℕ → Clock → List ℕ
 clockText i k = named "clock " i ++ timingText (k .timing) (k .ticks)
 
 -- 40, of an edge
-abbrev pub updateText : ℕ → ℕ × Deed → List ℕ
-updateText i x = named "update " i ++ named ": edge " (x .0) ++ deedText (x .1)
+abbrev pub updateText : ℕ → ℕ × Action → List ℕ
+updateText i x = named "update " i ++ named ": edge " (x .0) ++ actionText (x .1)
 
 -- 41, of an edge
 abbrev pub resetText : ℕ → ℕ × ℕ → List ℕ

@@ -10,6 +10,7 @@ ghost use Rattle.listing.specs.Guards.{guardOf, guardedText, longestGuar
 ghost use Rattle.listing.specs.Listing.{guardText};
 use chart_records::fields::Guard;
 use chart_records::fields::guard_by;
+use chart_records::fields::guard_by_plus_one;
 use guard_writer::trees::put_tree;
 use listing_parts::texts::put_named;
 use listing_parts::texts::put_word;
@@ -21,7 +22,9 @@ fn guard_of(r: &[u8]) -> Guard
 {
     match byte_at(r, 0) {
         3 => guard_by(u16_at(r, 12)),
+        6 => guard_by_plus_one(u16_at(r, 8)),
         36 => guard_by(u16_at(r, 8)),
+        40 => guard_by_plus_one(u16_at(r, 8)),
         _ => Guard::Free,
     }
 }
@@ -47,7 +50,9 @@ fn put_guarded(out: &mut [u8], i: u32, r: &[u8]) -> usize
 {
     match byte_at(r, 0) {
         3 => put_named(out, 0, b"transition ", i),
-        _ => put_named(out, 0, b"literal ", i),
+        6 => put_named(out, 0, b"action ", i),
+        36 => put_named(out, 0, b"literal ", i),
+        _ => put_named(out, 0, b"update ", i),
     }
 }
 

@@ -1,12 +1,12 @@
 // The lines of a chart set's records, without their ends.
 ghost use Prim.Native.Nat.{_<_, _^_};
-ghost use Rattle.records.specs.Bytes.{byte, two as twoBytes};
+ghost use Rattle.records.specs.Bytes.{byte, two as twoBytes, four};
 ghost use Rattle.model.specs.ChartSet.{readTransition};
 ghost use Rattle.listing_parts.specs.Parts.{WroteNear};
-ghost use Rattle.listing.specs.Sets.{chartText, stateText, triggerText, transitionText, ownerText, actionText};
+ghost use Rattle.listing.specs.Sets.{chartText, stateText, triggerText, transitionText, waitingText, ownerText, actionText};
 use chart_records::fields::deed_by;
 use listing_parts::fields::one;
-use listing_parts::fields::put_deed;
+use listing_parts::fields::put_conditional;
 use listing_parts::fields::put_guard;
 use listing_parts::fields::two;
 use listing_parts::texts::put_measured;
@@ -53,13 +53,22 @@ pub fn put_transition(out: &mut [u8], i: u32, r: &[u8]) -> usize
     put_guard(out, guard, u16_at(r, 12))
 }
 
+fn put_waiting(out: &mut [u8], at: usize, r: &[u8]) -> usize
+    requires { ⌜ at < 2 ^ 18 ⌝ }
+    ensures { λ n. ⌜ WroteNear 84 (now (out .entry)) at (waitingText (twoBytes (now (r .entry)) 2) (four (now (r .entry)) 12)) (now (out .exit)) n ⌝ }
+{
+    let every = put_named(out, at, b": waiting in state ", two(r, 2));
+    put_measured(out, every, b", every ", u32_at(r, 12), b" ms")
+}
+
 fn put_owner(out: &mut [u8], at: usize, r: &[u8]) -> usize
     requires { ⌜ at < 2 ^ 18 ⌝ }
-    ensures { λ n. ⌜ WroteNear 32 (now (out .entry)) at (ownerText (byte (now (r .entry)) 1) (twoBytes (now (r .entry)) 2)) (now (out .exit)) n ⌝ }
+    ensures { λ n. ⌜ WroteNear 84 (now (out .entry)) at (ownerText (byte (now (r .entry)) 1) (twoBytes (now (r .entry)) 2) (four (now (r .entry)) 12)) (now (out .exit)) n ⌝ }
 {
     match byte_at(r, 1) {
         1 => put_named(out, at, b": entry of state ", two(r, 2)),
         2 => put_named(out, at, b": exit of state ", two(r, 2)),
+        4 => put_waiting(out, at, r),
         _ => put_named(out, at, b": transition ", two(r, 2)),
     }
 }
@@ -69,9 +78,10 @@ pub fn put_action(out: &mut [u8], i: u32, r: &[u8]) -> usize
 {
     let owner = put_named(out, 0, b"action ", i);
     let deed = put_owner(out, owner, r);
-    put_deed(
+    put_conditional(
         out,
         deed,
+        u16_at(r, 8),
         deed_by(byte_at(r, 4), byte_at(r, 5), u16_at(r, 6)),
     )
 }

@@ -7,7 +7,7 @@ ghost use Rattle.listing_parts.specs.Parts.{WroteNear};
 ghost use Rattle.listing.specs.Tables.{automatonText, locationText, idleText, edgeText, signText, literalTriggerText, literalText, timingText, clockText, updateText, resetText};
 use chart_records::fields::deed_by;
 use listing_parts::fields::one;
-use listing_parts::fields::put_deed;
+use listing_parts::fields::put_conditional;
 use listing_parts::fields::put_guard;
 use listing_parts::fields::two;
 use listing_parts::texts::put_measured;
@@ -106,9 +106,10 @@ pub fn put_update(out: &mut [u8], i: u32, r: &[u8]) -> usize
 {
     let edge = put_named(out, 0, b"update ", i);
     let deed = put_named(out, edge, b": edge ", two(r, 2));
-    put_deed(
+    put_conditional(
         out,
         deed,
+        u16_at(r, 8),
         deed_by(byte_at(r, 1), byte_at(r, 4), u16_at(r, 6)),
     )
 }

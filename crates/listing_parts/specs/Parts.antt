@@ -1,13 +1,13 @@
 -- The parts of a listing's lines that sets and tables share, as bytes. Assumes nothing: these are definitions.
 use mathlib.Core.Option.{Option, some, none}
-use mathlib.Core.List.{List, _++_}
+use mathlib.Core.List.{List, [], _++_}
 use Prim.Native.Nat.{ℕ, _+_, _≤_}
 use Prim.Native.String.{String}
 use lib.IntN.{ℤ}
 use Rattle.records.specs.Wrote.{Wrote}
 use Rattle.expressions.specs.Nodes.{Node, constant, variable, arithmetic, choice, comparison, negation, both, either, unknown}
 use Rattle.arithmetic.specs.Operators.{Arithmetic, sum, difference, product, quotient, remainder, Comparison, equal, less, at-most}
-use Rattle.model.specs.Runs.{Variable, Deed, assign, raise}
+use Rattle.model.specs.Runs.{Variable, Deed, assign, raise, Action}
 use Rattle.model.specs.Replay.{decimal, signedDecimal}
 use Rattle.lines.specs.Ascii.{ascii}
 
@@ -34,6 +34,14 @@ guardText (some n) = named ", guard node " n
 abbrev pub deedText : Deed → List ℕ
 deedText (assign v n) = named ": variable " v ++ named " := node " n
 deedText (raise e) = named ": raise event " e
+
+-- an action or update without a guard says nothing of it
+abbrev pub conditionText : Option ℕ → List ℕ
+conditionText none = []
+conditionText (some n) = named ", guard node " n
+
+abbrev pub actionText : Action → List ℕ
+actionText a = deedText (a .deed) ++ conditionText (a .guard)
 
 -- 4 and 38
 abbrev pub variableText : ℕ → Variable → List ℕ

@@ -5,15 +5,16 @@ ghost use lib.ListN.{length};
 ghost use Rattle.records.specs.Bytes.{byte, two as twoBytes};
 ghost use Rattle.expressions.specs.Nodes.{choice, readNode};
 ghost use Rattle.expressions.specs.Answers.{operatorOf, relationOf, nodeFor};
-ghost use Rattle.model.specs.ChartSet.{readGuard, readVariable};
+ghost use Rattle.model.specs.ChartSet.{readGuard, readPlusOne, readVariable};
 ghost use Rattle.chart_records.specs.Parts.{deedFor};
-ghost use Rattle.listing_parts.specs.Parts.{WroteNear, guardText, deedText, variableText, operandsText, arithmeticText, comparisonText, operatorText, nodeText};
+ghost use Rattle.listing_parts.specs.Parts.{WroteNear, guardText, deedText, conditionText, actionText, variableText, operandsText, arithmeticText, comparisonText, operatorText, nodeText};
 use super::texts::put_named;
 use super::texts::put_signed;
 use super::texts::put_word;
 use chart_records::fields::Deed;
 use chart_records::fields::Guard;
 use chart_records::fields::guard_by;
+use chart_records::fields::guard_by_plus_one;
 use expressions::nodes::Node;
 use expressions::nodes::Operator;
 use expressions::nodes::Relation;
@@ -44,7 +45,7 @@ pub fn put_guard(out: &mut [u8], at: usize, node: u16) -> usize
     }
 }
 
-pub fn put_deed(out: &mut [u8], at: usize, deed: Deed) -> usize
+fn put_deed(out: &mut [u8], at: usize, deed: Deed) -> usize
     requires { ⌜ at < 2 ^ 19 ⌝ }
     ensures { λ r. ⌜ WroteNear 64 (now (out .entry)) at (deedText (deedFor deed)) (now (out .exit)) r ⌝ }
 {
@@ -55,6 +56,25 @@ pub fn put_deed(out: &mut [u8], at: usize, deed: Deed) -> usize
         }
         Deed::Raise(e) => put_named(out, at, b": raise event ", e as u32),
     }
+}
+
+fn put_condition(out: &mut [u8], at: usize, guard: u16) -> usize
+    requires { ⌜ at < 2 ^ 19 ⌝ }
+    ensures { λ r. ⌜ WroteNear 32 (now (out .entry)) at (conditionText (readPlusOne guard)) (now (out .exit)) r ⌝ }
+{
+    match guard_by_plus_one(guard) {
+        Guard::Free => at,
+        Guard::Node(n) => put_named(out, at, b", guard node ", n as u32),
+    }
+}
+
+// An action or update, by its guard plus one and its deed.
+pub fn put_conditional(out: &mut [u8], at: usize, guard: u16, deed: Deed) -> usize
+    requires { ⌜ at < 2 ^ 18 ⌝ }
+    ensures { λ r. ⌜ WroteNear 96 (now (out .entry)) at (actionText (record { guard = readPlusOne guard; deed = deedFor deed })) (now (out .exit)) r ⌝ }
+{
+    let condition = put_deed(out, at, deed);
+    put_condition(out, condition, guard)
 }
 
 pub fn put_variable(out: &mut [u8], i: u32, r: &[u8]) -> usize

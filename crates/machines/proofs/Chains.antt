@@ -86,7 +86,7 @@ module _ (p : ℕ → Bool) (size : ℕ) (small : size < 65536) where
       go true d = omega (arith, eqb-true a 65535 d)
       go false d = omega (arith, one (eqb-false a 65535 d) .0)
 
-  remaining-is : (k a : ℕ) → a ≡ earliest p k (size - k) → keep p (from k (size - k)) ≡ remaining p size a
+  pub remaining-is : (k a : ℕ) → a ≡ earliest p k (size - k) → keep p (from k (size - k)) ≡ remaining p size a
   remaining-is k a h = go (eqb (earliest p k (size - k)) 65535) refl ∙ ap (remaining p size) (sym h)
     where
       go : (b : Bool) → eqb (earliest p k (size - k)) 65535 ≡ b →

@@ -9,10 +9,10 @@ use lib.Dec.{ltb, eqb}
 use lib.IntN.{ℤ}
 use lib.ListN.{length, getD, set, length-set, List·getD-eq-default}
 use lib.Seq.{getD-set-same, getD-set-other}
-use Rattle.records.specs.Refusal.{out-of-bounds, Out, val, fault, _>>=_, _>>_, fault-if}
+use Rattle.records.specs.Refusal.{out-of-bounds, Out, val, fault, _>>=_, _>>_, fault-if, choose}
 use Rattle.expressions.specs.Nodes.{Node, nodeOf}
 use Rattle.expressions.specs.Values.{number}
-use Rattle.model.specs.Runs.{Variable, World, setVar, Deed, assign, raise, deed, deeds, inBounds, noVariable}
+use Rattle.model.specs.Runs.{Variable, World, setVar, Deed, assign, raise, Action, deed, action, actions, guardHolds, inBounds, noVariable}
 use Rattle.machines.specs.Turns.{KeptWorld}
 
 pub then-kept : (w : World) (o : Out World) (next : World → Out World) → KeptWorld w o → ((v : World) → KeptWorld v (next v)) → KeptWorld w (o >>= next)
@@ -36,10 +36,18 @@ module _ (nodes : List Node) (variables : List Variable) where
           by true = tt
           by false = (refl, refl)
 
-  pub deeds-kept : (ds : List Deed) (w : World) → KeptWorld w (deeds nodes variables ds w)
-  unfolding deeds
-  deeds-kept [] w = (refl, refl)
-  deeds-kept (d ∷ ds) w = then-kept w (deed nodes variables d w) (deeds nodes variables ds) (deed-kept d w) (deeds-kept ds)
+  action-kept : (a : Action) (w : World) → KeptWorld w (action nodes variables a w)
+  action-kept a w = go (guardHolds nodes (w .vars) (a .guard))
+    where
+      go : (o : Out Bool) → KeptWorld w (choose o (deed nodes variables (a .deed) w) (val w))
+      go (val true) = deed-kept (a .deed) w
+      go (val false) = (refl, refl)
+      go (fault f) = tt
+
+  pub actions-kept : (rest : List Action) (w : World) → KeptWorld w (actions nodes variables rest w)
+  unfolding actions
+  actions-kept [] w = (refl, refl)
+  actions-kept (a ∷ rest) w = then-kept w (action nodes variables a w) (actions nodes variables rest) (action-kept a w) (actions-kept rest)
 
 -- a timer that is set to 0 has not grown, and no other has
 pub set-zero : (l : List ℕ) (c k : ℕ) → getD (set l c 0) k 0 ≤ getD l k 0

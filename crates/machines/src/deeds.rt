@@ -8,8 +8,8 @@ ghost use lib.ListN.{getD};
 ghost use lib.Signed.{leZ, mag};
 ghost use Rattle.records.specs.Refusal.{fault};
 ghost use Rattle.expressions.specs.Answers as expressions-answers;
-ghost use Rattle.model.specs.Runs.{inBounds, noVariable, present, raised, assign, deed};
-ghost use Rattle.model.specs.ChartSet.{readDeed};
+ghost use Rattle.model.specs.Runs.{inBounds, noVariable, present, raised, assign, deed, action};
+ghost use Rattle.model.specs.ChartSet.{readDeed, actionBy};
 ghost use Rattle.machines.specs.Deeds.{Doable};
 ghost use Rattle.machines.specs.Files.{variablesIn, nodesIn, HasValues};
 ghost use Rattle.answers.specs.Answers.{reasonOf};
@@ -17,8 +17,10 @@ ghost use Rattle.machines.specs.Worlds.{Moment, worldIn, worldAfter, cod
 use super::values::Values;
 use super::values::bound_within;
 use super::values::number_at;
+use super::values::plus_one_holds;
 use answers::Reason;
 use expressions::outcomes::Number;
+use expressions::outcomes::Truth;
 use records::sizes::Variables;
 
 // The events afterwards, or why there are none.
@@ -122,8 +124,8 @@ fn assign_code(s: &[u8], values: Values, v: u8, n: u16, vars: &mut Variables, ev
     }
 }
 
-// A deed by the fields of its record, an action's or an update's: code 2 raises, another assigns. The events afterwards, or the fault, as one number.
-pub fn do_deed(
+// A deed by its fields: code 2 raises, another assigns.
+fn do_deed(
     s: &[u8],
     values: Values,
     code: u8,
@@ -140,5 +142,32 @@ pub fn do_deed(
         raised(x, events) as u64
     } else {
         assign_code(s, values, x, n, vars, events)
+    }
+}
+
+// An action or update by the fields of its record: it is skipped where its guard is false. The events afterwards, or the fault, as one number.
+pub fn do_guarded(
+    s: &[u8],
+    values: Values,
+    guard: u16,
+    code: u8,
+    x: u8,
+    n: u16,
+    vars: &mut Variables,
+    events: u32,
+) -> u64
+    requires { ⌜ HasValues (now s) values × Doable (values .variables) (readDeed code x n) ⌝ }
+    ensures { λ r. ⌜ ((m : Moment) → worldBy r (now (vars .exit)) m ≡ action (nodesIn (now (s .entry)) values) (variablesIn (now (s .entry)) values) (actionBy guard code x n) (worldIn (now (vars .entry)) events m))
+        × IsCode r × (4_294_967_295 < r → now (vars .exit) ≡ now (vars .entry)) ⌝ }
+{
+    match plus_one_holds(s, values, vars, guard) {
+        Truth::Fault(w) => fault_code(w),
+        Truth::Value(holding) => {
+            if holding {
+                do_deed(s, values, code, x, n, vars, events)
+            } else {
+                events as u64
+            }
+        }
     }
 }

@@ -10,7 +10,7 @@ ghost use Rattle.expressions.specs.Nodes.{nodeOf};
 ghost use Rattle.expressions.specs.Values.{number, truth};
 ghost use Rattle.expressions.specs.Answers.{numberOf, truthOf};
 ghost use Rattle.model.specs.Runs.{guardHolds};
-ghost use Rattle.model.specs.ChartSet.{readGuard};
+ghost use Rattle.model.specs.ChartSet.{readGuard, readPlusOne};
 ghost use Rattle.machines.specs.Files.{variableIn, nodePart, nodesIn, HasValues};
 use expressions::outcomes::Number;
 use expressions::outcomes::Truth;
@@ -115,5 +115,17 @@ pub fn guard_holds(s: &[u8], values: Values, vars: &Variables, guard: u16) -> Tr
         Truth::Value(true)
     } else {
         truth_at(s, values, vars, guard)
+    }
+}
+
+// The guard of an action or update, as its node plus one, or 0 for none.
+pub fn plus_one_holds(s: &[u8], values: Values, vars: &Variables, guard: u16) -> Truth
+    requires { ⌜ HasValues (now s) values ⌝ }
+    ensures { λ r. ⌜ truthOf r ≡ guardHolds (nodesIn (now (s .entry)) values) (now (vars .entry)) (readPlusOne guard) ⌝ }
+{
+    if guard == 0 {
+        Truth::Value(true)
+    } else {
+        truth_at(s, values, vars, guard - 1)
     }
 }

@@ -23,7 +23,11 @@ fn file_meaning(number: u8) {
             STDERR_FILENO,
             b": a node of the wrong order or sort, or not used exactly once",
         ),
-        _ => io::write_all(STDERR_FILENO, b": timing trigger of 0 ticks"),
+        9 => io::write_all(STDERR_FILENO, b": timing trigger of 0 ticks"),
+        _ => io::write_all(
+            STDERR_FILENO,
+            b": waiting actions of one state with different milliseconds",
+        ),
     }
     ;
 }
@@ -73,7 +77,7 @@ fn line_meaning(number: u8) {
 pub fn say(word: &[u8], number: u8) {
     io::write_all(STDERR_FILENO, word);
     io::print_decimal(STDERR_FILENO, number as u64);
-    if number < 10 {
+    if (number < 10) | (number == 25) {
         file_meaning(number);
     } else if number < 22 {
         call_meaning(number);

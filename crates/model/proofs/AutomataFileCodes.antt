@@ -10,7 +10,7 @@ use Rattle.records.specs.Bytes.{bytes2, records}
 use Rattle.arithmetic.specs.Operators as O
 use Rattle.expressions.specs.Nodes as N
 use Rattle.expressions.specs.Nodes.{Node, writeNode}
-use Rattle.model.specs.Runs.{Variable, Deed, assign, raise}
+use Rattle.model.specs.Runs.{Variable, Deed, assign, raise, Action}
 use Rattle.model.specs.ChartFile.{unusedAreZero, isEvent}
 use Rattle.model.specs.AutomataTable as A
 use Rattle.model.specs.AutomataTable.{Automata, Edge, Literal, LiteralTrigger, Clock, sections, writeAutomata, writeEdge, writeLiteral, writeClock, writeVariable, writeUpdate, writeReset}
@@ -85,13 +85,15 @@ clean-node (N.both a b) = tt
 clean-node (N.either a b) = tt
 clean-node N.unknown = tt
 
-clean-update : (u : ℕ × Deed) → T (clean (recordOf 40 (writeUpdate u)))
+clean-update : (u : ℕ × Action) → T (clean (recordOf 40 (writeUpdate u)))
 unfolding all caseOf
-clean-update u = go (u .1)
+clean-update u = go (u .1 .deed) (u .1 .guard)
   where
-    go : (d : Deed) → T (clean (recordOf 40 (writeUpdate (u .0, d))))
-    go (assign v n) = tt
-    go (raise e) = tt
+    go : (d : Deed) (g : Option ℕ) → T (clean (recordOf 40 (writeUpdate (u .0, record { guard = g; deed = d }))))
+    go (assign v n) none = tt
+    go (assign v n) (some m) = tt
+    go (raise e) none = tt
+    go (raise e) (some m) = tt
 
 clean-initial : (i : ℕ) → T (clean (recordOf 33 (0 ∷ bytes2 i)))
 unfolding all caseOf
@@ -142,7 +144,7 @@ pub record Coded (au : Automata) : Type 0 where
   pub literals : T (all (λ x. codedLiteralTrigger (x .1 .trigger)) (au .literals))
   pub variables : T (all (λ v. fitsVariable v && ordered v) (au .variables))
   pub nodes : T (all knownNode (au .nodes))
-  pub updates : T (all (λ x. codedDeed (x .1)) (au .updates))
+  pub updates : T (all (λ x. codedDeed (x .1 .deed)) (au .updates))
 
 coded-initial : (i : ℕ) → T (tableInCode (recordOf 33 (0 ∷ bytes2 i)))
 unfolding caseOf
@@ -202,11 +204,11 @@ coded-node (N.both a b) t = tt
 coded-node (N.either a b) t = tt
 coded-node N.unknown t = absurd t
 
-coded-update : (u : ℕ × Deed) → T (codedDeed (u .1)) → T (tableInCode (recordOf 40 (writeUpdate u)))
+coded-update : (u : ℕ × Action) → T (codedDeed (u .1 .deed)) → T (tableInCode (recordOf 40 (writeUpdate u)))
 unfolding caseOf
-coded-update u t = go (u .1) t
+coded-update u t = go (u .1 .deed) t
   where
-    go : (d : Deed) → T (codedDeed d) → T (tableInCode (recordOf 40 (writeUpdate (u .0, d))))
+    go : (d : Deed) → T (codedDeed d) → T (tableInCode (recordOf 40 (writeUpdate (u .0, record { guard = u .1 .guard; deed = d }))))
     go (assign v n) t = tt
     go (raise e) t = t
 
@@ -224,5 +226,5 @@ written-coded au ok =
     (section-all-pass tableInCode 37 writeClock coded-clock (au .clocks))
     (section-passes tableInCode 38 writeVariable (λ v. fitsVariable v && ordered v) coded-variable (au .variables) (ok .variables))
     (section-passes tableInCode 39 writeNode knownNode coded-node (au .nodes) (ok .nodes))
-    (section-passes tableInCode 40 writeUpdate (λ x. codedDeed (x .1)) coded-update (au .updates) (ok .updates))
+    (section-passes tableInCode 40 writeUpdate (λ x. codedDeed (x .1 .deed)) coded-update (au .updates) (ok .updates))
     (section-all-pass tableInCode 41 writeReset coded-reset (au .resets))

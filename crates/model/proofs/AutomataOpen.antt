@@ -194,17 +194,27 @@ module _ (R : ℕ → Out Bool) (i : ℕ) where
       split e k false q = h e k q ∙ ap val (sym q)
       split e k true q = rw (eqb→eq e i (of-true q)) (hi ∙ ap val (sym (is-true (eqb-refl i))))
 
--- The law whole: a row of transitions with conditions f, edges L among which each of the row stands once, and the idle edge i, and nothing else.
+-- The law whole: a row of transitions with conditions f, edges L among which each of the row stands once, the idle edge i that is open where the chart idles,
+-- and no others but such as are closed there and have the row's must-nots.
 module _ (f : ℕ → Out Bool) (lit : Bool → ℕ → Literal) (g : Literal → Out Bool)
     (yes : (t : ℕ) → g (lit true t) ≡ f t) (no : (t : ℕ) → g (lit false t) ≡ choose (f t) (val false) (val true))
-    (row L : List ℕ) (i : ℕ) (R : ℕ → Out Bool)
-    (row-once : T (distinct row)) (edges-once : T (distinct L)) (has-idle : T (mem i L)) (idle-apart : mem i row ≡ false)
-    (only : (e : ℕ) → T (mem e L) → eqb e i ≡ false → T (mem e row)) (has : (t : ℕ) → T (mem t row) → T (mem t L))
-    (reads-own : (t : ℕ) → T (mem t row) → R t ≡ own f lit g yes no t row) (reads-idle : R i ≡ reads g (map (lit false) row ++ [])) where
-  pub opens-first : opens R L ≡ (firstThat f row >>= λ a. val (edgeFor i a ∷ []))
-  unfolding reads
-  opens-first =
-      opens-agreeing R i (firstThat f row) L edges-once has-idle
-      (λ e k n. subst (λ b. Agrees e (firstThat f row) b) (sym (reads-own e (only e k n))) (edge-agrees f lit g yes no e row row-once (only e k n)))
-      (reads-idle ∙ reads-nots f lit g yes no row [])
-      (λ u e. let m : T (mem u row) = firstThat-mem f row u e in (has u m, eqb-comm i u ∙ mem-apart i u row m idle-apart))
+    (row L : List ℕ) (i : ℕ) (R : ℕ → Out Bool) where
+  abbrev pub Closed : ℕ → Type 0
+  Closed e = (mem e row ≡ false) × (R e ≡ (firstThat f row >>= λ a. onward a (val false)))
+
+  module _ (row-once : T (distinct row)) (edges-once : T (distinct L)) (has-idle : T (mem i L)) (idle-apart : mem i row ≡ false)
+      (only : (e : ℕ) → T (mem e L) → eqb e i ≡ false → T (mem e row) ⊎ Closed e) (has : (t : ℕ) → T (mem t row) → T (mem t L))
+      (reads-own : (t : ℕ) → T (mem t row) → R t ≡ own f lit g yes no t row) (reads-idle : R i ≡ (firstThat f row >>= λ a. onward a (val true))) where
+    closed-agrees : (e : ℕ) → mem e row ≡ false → (o : Out (Option ℕ)) → firstThat f row ≡ o → Agrees e o (o >>= λ a. onward a (val false))
+    closed-agrees e n (fault w) q = inl refl
+    closed-agrees e n (val none) q = refl
+    closed-agrees e n (val (some u)) q = ap val (sym (eqb-comm e u ∙ mem-apart e u row (firstThat-mem f row u q) n))
+
+    agrees : (e : ℕ) → T (mem e row) ⊎ Closed e → Agrees e (firstThat f row) (R e)
+    agrees e (inl m) = subst (λ b. Agrees e (firstThat f row) b) (sym (reads-own e m)) (edge-agrees f lit g yes no e row row-once m)
+    agrees e (inr c) = subst (λ b. Agrees e (firstThat f row) b) (sym (c .1)) (closed-agrees e (c .0) (firstThat f row) refl)
+
+    pub opens-first : opens R L ≡ (firstThat f row >>= λ a. val (edgeFor i a ∷ []))
+    opens-first =
+        opens-agreeing R i (firstThat f row) L edges-once has-idle (λ e k n. agrees e (only e k n)) reads-idle
+        (λ u e. let m : T (mem u row) = firstThat-mem f row u e in (has u m, eqb-comm i u ∙ mem-apart i u row m idle-apart))

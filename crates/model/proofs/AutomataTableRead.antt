@@ -3,7 +3,7 @@ use mathlib.Core.Path.{_≡_, refl, ap, _∙_}
 use mathlib.Core.Option.{Option, some, none}
 use mathlib.Core.Bool.{Bool, true, false, cond, _&&_}
 use mathlib.Core.List.{List, [], _∷_, map, append-nil}
-use Prim.Native.Nat.{ℕ, _+_, _*_, _/_, _%_, _^_, _<_}
+use Prim.Native.Nat.{ℕ, _+_, _*_, _/_, _%_, _^_, _<_, _-_}
 use native.Mathlib.Omega.{arith}
 use lib.Dec.{T, ltb, eqb, ltb→lt}
 use lib.IntN.{ℤ}
@@ -14,11 +14,11 @@ use Rattle.records.proofs.RoundTrips.{two-bytes2, two±-bytes2±, four±-bytes4
 use Rattle.arithmetic.specs.Operators as O
 use Rattle.expressions.specs.Nodes as N
 use Rattle.expressions.specs.Nodes.{Node, readNode, writeNode}
-use Rattle.model.specs.Runs.{Variable, Deed, assign, raise}
-use Rattle.model.specs.ChartSet.{readGuard, readVariable}
+use Rattle.model.specs.Runs.{Variable, Deed, assign, raise, Action}
+use Rattle.model.specs.ChartSet.{readGuard, readPlusOne, readVariable}
 use Rattle.model.specs.AutomataTable as A
 use Rattle.prelude.specs.Lists.{bit}
-use Rattle.model.specs.AutomataTable.{Automata, Edge, Literal, LiteralTrigger, Clock, sections, writeAutomata, readAutomata, writeEdge, writeLiteral, writeGuard, writeClock, writeVariable, writeUpdate, writeReset, readEdge, readLiteral, readClock, readUpdate, readReset, timingCode}
+use Rattle.model.specs.AutomataTable.{Automata, Edge, Literal, LiteralTrigger, Clock, sections, writeAutomata, readAutomata, writeEdge, writeLiteral, writeGuard, writeClock, writeVariable, writePlusOne, writeUpdate, writeReset, readEdge, readLiteral, readClock, readUpdate, readReset, timingCode}
 use Rattle.prelude.proofs.Bools.{and-left, and-right, ne→eqb}
 use Rattle.prelude.proofs.Lists.{all-cons, all-nil}
 use Rattle.model.proofs.AutomataTableRecords.{recordOf, recordsOf, written-kind}
@@ -62,6 +62,9 @@ abbrev pub fitsDeed : Deed → Bool
 fitsDeed (assign v n) = short n
 fitsDeed (raise e) = true
 
+abbrev pub fitsUpdate : ℕ × Action → Bool
+fitsUpdate u = short (u .0) && fitsGuard (u .1 .guard) && fitsDeed (u .1 .deed)
+
 pub record Fits (au : Automata) : Type 0 where
   pub initial : T (all short (au .initial))
   pub edges : T (all fitsEdge (au .edges))
@@ -69,7 +72,7 @@ pub record Fits (au : Automata) : Type 0 where
   pub clocks : T (all (λ c. short (c .ticks)) (au .clocks))
   pub variables : T (all fitsVariable (au .variables))
   pub nodes : T (all fitsNode (au .nodes))
-  pub updates : T (all (λ u. short (u .0) && fitsDeed (u .1)) (au .updates))
+  pub updates : T (all fitsUpdate (au .updates))
   pub resets : T (all (λ x. short (x .0) && short (x .1)) (au .resets))
 
 -- ---- each thing back
@@ -163,13 +166,24 @@ node-back (N.both a b) t = λ i. N.both (two-of a (and-left (short a) (short b) 
 node-back (N.either a b) t = λ i. N.either (two-of a (and-left (short a) (short b) t) i) (two-of b (and-right (short a) (short b) t) i)
 node-back N.unknown t = refl
 
-pub update-back : (u : ℕ × Deed) → T (short (u .0) && fitsDeed (u .1)) → readUpdate (recordOf 40 (writeUpdate u)) ≡ u
+plus-one-back : (g : Option ℕ) → T (fitsGuard g) → readPlusOne (two (writePlusOne g) 0) ≡ g
+plus-one-back none t = refl
+plus-one-back (some n) t =
+    let h : n < 65535 = ltb→lt n 65535 t in
+    ap readPlusOne (two-bytes2 (n + 1) (omega arith)) ∙ rw (ne→eqb {a = n + 1} {b = 0} (λ e. omega arith)) (ap some (let e : n + 1 - 1 ≡ n = omega arith in e))
+
+pub update-back : (u : ℕ × Action) → T (fitsUpdate u) → readUpdate (recordOf 40 (writeUpdate u)) ≡ u
 unfolding caseOf
-update-back u t = go (u .1) (and-left (short (u .0)) (fitsDeed (u .1)) t) (and-right (short (u .0)) (fitsDeed (u .1)) t)
+update-back u t =
+    let owner : T (short (u .0) && fitsGuard (u .1 .guard)) = and-left (short (u .0) && fitsGuard (u .1 .guard)) (fitsDeed (u .1 .deed)) t in
+    go (u .1 .deed) (u .1 .guard) (and-left (short (u .0)) (fitsGuard (u .1 .guard)) owner) (and-right (short (u .0)) (fitsGuard (u .1 .guard)) owner) (and-right (short (u .0) && fitsGuard (u .1 .guard)) (fitsDeed (u .1 .deed)) t)
   where
-    go : (d : Deed) → T (short (u .0)) → T (fitsDeed d) → readUpdate (recordOf 40 (writeUpdate (u .0, d))) ≡ (u .0, d)
-    go (assign v n) a b = λ i. (two-of (u .0) a i, assign v (two-of n b i))
-    go (raise x) a b = λ i. (two-of (u .0) a i, raise x)
+    go : (d : Deed) (g : Option ℕ) → T (short (u .0)) → T (fitsGuard g) → T (fitsDeed d) →
+        readUpdate (recordOf 40 (writeUpdate (u .0, record { guard = g; deed = d }))) ≡ (u .0, record { guard = g; deed = d })
+    go (assign v n) none a b c = λ i. (two-of (u .0) a i, record { guard = none; deed = assign v (two-of n c i) })
+    go (assign v n) (some m) a b c = λ i. (two-of (u .0) a i, record { guard = plus-one-back (some m) b i; deed = assign v (two-of n c i) })
+    go (raise x) none a b c = λ i. (two-of (u .0) a i, record { guard = none; deed = raise x })
+    go (raise x) (some m) a b c = λ i. (two-of (u .0) a i, record { guard = plus-one-back (some m) b i; deed = raise x })
 
 pub reset-back : (x : ℕ × ℕ) → T (short (x .0) && short (x .1)) → readReset (recordOf 41 (writeReset x)) ≡ x
 reset-back x t = λ i. (two-of (x .0) (and-left (short (x .0)) (short (x .1)) t) i, two-of (x .1) (and-right (short (x .0)) (short (x .1)) t) i)
@@ -204,7 +218,7 @@ module _ (au : Automata) where
     clocks = things-back 37 readClock writeClock (au .clocks) (λ c. short (c .ticks)) (append-nil _) clock-back (ok .clocks) i;
     variables = things-back 38 readVariable writeVariable (au .variables) fitsVariable (append-nil _) variable-back (ok .variables) i;
     nodes = things-back 39 readNode writeNode (au .nodes) fitsNode (append-nil _) node-back (ok .nodes) i;
-    updates = things-back 40 readUpdate writeUpdate (au .updates) (λ u. short (u .0) && fitsDeed (u .1)) (append-nil _) update-back (ok .updates) i;
+    updates = things-back 40 readUpdate writeUpdate (au .updates) fitsUpdate (append-nil _) update-back (ok .updates) i;
     resets = things-back 41 readReset writeReset (au .resets) (λ x. short (x .0) && short (x .1)) (append-nil _) reset-back (ok .resets) i;
   }
     where

@@ -12,9 +12,9 @@ use Rattle.prelude.specs.Lists.{all, keep, gather, padded}
 use Rattle.records.specs.Bytes.{bytes2, cut, records, kind, ofKind}
 use Rattle.expressions.specs.Nodes as N
 use Rattle.expressions.specs.Nodes.{Node, writeNode}
-use Rattle.model.specs.Runs.{Deed, assign, raise}
+use Rattle.model.specs.Runs.{Deed, assign, raise, Action}
 use Rattle.model.specs.AutomataTable as A
-use Rattle.model.specs.AutomataTable.{Automata, LiteralTrigger, Literal, sections, automataRecords, writeAutomata, writeEdge, writeLiteral, writeLiteralTrigger, writeGuard, writeClock, writeVariable, writeDeed, writeUpdate, writeReset}
+use Rattle.model.specs.AutomataTable.{Automata, LiteralTrigger, Literal, sections, automataRecords, writeAutomata, writeEdge, writeLiteral, writeLiteralTrigger, writeGuard, writeClock, writeVariable, writeUpdate, writeReset}
 use Rattle.prelude.proofs.Bools.{and-left, and-right, both-of, of-true, eq→eqb}
 use Rattle.prelude.proofs.Lists.{keep-append, all-gather, all-cons, all-nil, all-map}
 
@@ -117,9 +117,14 @@ node-short (N.both a b) = tt
 node-short (N.either a b) = tt
 node-short N.unknown = tt
 
-deed-short : (e : ℕ) (d : Deed) → T (fifteen (writeDeed e d))
-deed-short e (assign v n) = tt
-deed-short e (raise x) = tt
+update-short : (u : ℕ × Action) → T (fifteen (writeUpdate u))
+update-short u = go (u .1 .deed) (u .1 .guard)
+  where
+    go : (d : Deed) (g : Option ℕ) → T (fifteen (writeUpdate (u .0, record { guard = g; deed = d })))
+    go (assign v n) none = tt
+    go (assign v n) (some m) = tt
+    go (raise x) none = tt
+    go (raise x) (some m) = tt
 
 module _ (au : Automata) where
   bodies-short : T (all (λ x. all fifteen (x .1)) (sections au))
@@ -131,7 +136,7 @@ module _ (au : Automata) where
       (all-cons _ _ _ (all-map fifteen writeClock (λ x. tt) (au .clocks))
       (all-cons _ _ _ (all-map fifteen writeVariable (λ x. tt) (au .variables))
       (all-cons _ _ _ (all-map fifteen writeNode node-short (au .nodes))
-      (all-cons _ _ _ (all-map fifteen writeUpdate (λ u. deed-short (u .0) (u .1)) (au .updates))
+      (all-cons _ _ _ (all-map fifteen writeUpdate update-short (au .updates))
       (all-cons _ _ _ (all-map fifteen writeReset (λ x. tt) (au .resets)) (all-nil _)))))))))
 
   pub sixteen-records : T (all sixteen (automataRecords au))

@@ -1,5 +1,5 @@
 -- What holds of a chart set that is not refused: amounts, codes, names, structure and nodes, each as a fact of its own. Assumes nothing.
-use mathlib.Core.Path.{_≡_, refl, _∙_, subst}
+use mathlib.Core.Path.{_≡_, refl, sym, _∙_, subst}
 use mathlib.Core.Option.{some, none}
 use mathlib.Core.Bool.{Bool, true, false, not, cond, _&&_, _||_}
 use mathlib.Core.List.{List, [], _∷_, _++_, map}
@@ -19,9 +19,10 @@ use Rattle.expressions.specs.Nodes.{Node, nodeOf, readNode}
 use Rattle.expressions.specs.Sorts.{sortOf, isNumber, isTruth, nodesNamed, operandsFit}
 use Rattle.model.specs.Owned.{home}
 use Rattle.model.specs.Runs.{Variable, Deed, assign, raise}
-use Rattle.model.specs.ChartSet.{Trigger, always, event, after, every, Transition, ChartSet, readCharts, readTransition, readVariable, readDeed, readActions, transition, noTransition}
-use Rattle.model.specs.ChartFile.{chartLimits, chartTests, chartsRefusal, inCode, transitionInCode, variableInCode, nodeInCode, actionInCode, deedInCode, between, isEvent, isDuration, guardNamed, actionsNamed, allNamed, insideCharts, initialFits, prioritiesDiffer, atMostEight, structured, leavingState, unconditional, guards, assigned, uses, nodesFit, ticking}
-use Rattle.prelude.proofs.Bools.{and-left, and-right, both-of, not-not, or-right, is-false, of-true, eqb-comm, eqb-ne}
+use Rattle.model.specs.ChartSet.{Trigger, always, event, after, every, Transition, ChartSet, readCharts, readTransition, readVariable, readDeed, readAction, ofPlace, readActions, transition, noTransition}
+use Rattle.model.specs.ChartFile.{chartLimits, chartTests, chartsRefusal, inCode, transitionInCode, variableInCode, nodeInCode, actionInCode, deedInCode, between, isEvent, isDuration, guardNamed, actionsNamed, allNamed, insideCharts, initialFits, prioritiesDiffer, atMostEight, structured, leavingState, unconditional, guards, assigned, uses, nodesFit, ticking, allTicking}
+use Rattle.model.specs.Charts.{ticks}
+use Rattle.prelude.proofs.Bools.{and-left, and-right, both-of, not-not, or-right, is-false, of-true, eqb-comm, eqb-ne, is-true}
 use Rattle.prelude.proofs.Lists.{all-getD, all-getD-or, any-off, all-kept, all-mapped, all-keep, all-imp, mem-from, mem-left, mem-right, upto-all}
 
 -- ---- tests in a row, none of which applies
@@ -59,6 +60,11 @@ seven-of a b c d e f g t =
     let u : T (a && b && c && d && e && f) = and-left (a && b && c && d && e && f) g t in
     let h : T a × T b × T c × T d × T e = five-of a b c d e (and-left (a && b && c && d && e) f u) in
     (h .0, h .1, h .2, h .3, h .4, and-right (a && b && c && d && e) f u, and-right (a && b && c && d && e && f) g t)
+
+eight-of : (a b c d e f g h : Bool) → T (a && b && c && d && e && f && g && h) → T a × T b × T c × T d × T e × T f × T g × T h
+eight-of a b c d e f g h t =
+    let u : T a × T b × T c × T d × T e × T f × T g = seven-of a b c d e f g (and-left (a && b && c && d && e && f && g) h t) in
+    (u .0, u .1, u .2, u .3, u .4, u .5, u .6, and-right (a && b && c && d && e && f && g) h t)
 
 -- ---- codes, of what was read
 
@@ -149,7 +155,7 @@ module _ (s : List ℕ) (ok : chartsRefusal s ≡ none) where
   abbrev cs : ChartSet
   cs = readCharts s
 
-  off : (k : ℕ) → k < 9 → T (not (getD (chartTests s) k (odd-length, false) .1))
+  off : (k : ℕ) → k < 10 → T (not (getD (chartTests s) k (odd-length, false) .1))
   off k h = all-getD (λ x. not (x .1)) (chartTests s) (odd-length, false) k (lowest-none (chartTests s) ok) h
 
   -- ---- amounts
@@ -211,12 +217,25 @@ module _ (s : List ℕ) (ok : chartsRefusal s ≡ none) where
   unfolding caseOf
   nodes-known = all-mapped nodeInCode knownNode readNode coded-node (ofKind 5 s) (codes-of 5)
 
-  pub deeds-coded : (place : ℕ) → T (all (λ x. codedDeed (x .1)) (readActions place s))
+  pub deeds-coded : (place : ℕ) → T (all (λ x. codedDeed (x .1 .deed)) (readActions place s))
   unfolding caseOf
   deeds-coded place =
-      all-mapped actionInCode (λ x. codedDeed (x .1)) (λ r. (two r 2, readDeed (byte r 4) (byte r 5) (two r 6)))
-      (λ r t. coded-deed (byte r 4) (byte r 5) (two r 6) (and-right (between 1 3 (byte r 1)) (deedInCode (byte r 4) (byte r 5)) t))
+      all-mapped actionInCode (λ x. codedDeed (x .1 .deed)) readAction
+      (λ r t. coded-deed (byte r 4) (byte r 5) (two r 6) (three-of (between 1 4 (byte r 1)) (deedInCode (byte r 4) (byte r 5)) (caseOf (byte r 1) ((4, isDuration (four r 12)) ∷ []) true) t .1))
       (keep (λ r. eqb (byte r 1) place) (ofKind 6 s)) (all-keep actionInCode (λ r. eqb (byte r 1) place) (ofKind 6 s) (codes-of 6))
+
+  -- of waiting actions
+  pub waits-coded : T (all (λ x. isDuration (x .1)) (cs .waiting-times))
+  unfolding caseOf
+  waits-coded =
+      all-mapped (λ r. isDuration (four r 12)) (λ x. isDuration (x .1)) (λ r. (two r 2, four r 12)) (λ r t. t) (ofPlace 4 s)
+      (all-kept actionInCode (λ r. eqb (byte r 1) 4) (λ r. isDuration (four r 12))
+      (λ r t e. go r (eqb (byte r 1) 4) (is-true e) (three-of (between 1 4 (byte r 1)) (deedInCode (byte r 4) (byte r 5)) (caseOf (byte r 1) ((4, isDuration (four r 12)) ∷ []) true) t .2))
+      (ofKind 6 s) (codes-of 6))
+    where
+      go : (r : List ℕ) (b : Bool) → b ≡ true → T (cond b (isDuration (four r 12)) true) → T (isDuration (four r 12))
+      go r true e t = t
+      go r false e t = absurd (subst T (sym e) tt)
 
   -- ---- names
 
@@ -228,8 +247,9 @@ module _ (s : List ℕ) (ok : chartsRefusal s ≡ none) where
       × T (actionsNamed cs (length (cs .homes)) (cs .entries))
       × T (actionsNamed cs (length (cs .homes)) (cs .exits))
       × T (actionsNamed cs (length (cs .transitions)) (cs .transition-actions))
+      × T (actionsNamed cs (length (cs .homes)) (cs .waiting-actions))
   names =
-      seven-of
+      eight-of
       (all (λ z. ltb z (length (cs .homes))) (cs .initial))
       (all (λ c. ltb c (length (cs .initial))) (cs .homes))
       (all (namedTransition cs) (cs .transitions))
@@ -237,6 +257,7 @@ module _ (s : List ℕ) (ok : chartsRefusal s ≡ none) where
       (actionsNamed cs (length (cs .homes)) (cs .entries))
       (actionsNamed cs (length (cs .homes)) (cs .exits))
       (actionsNamed cs (length (cs .transitions)) (cs .transition-actions))
+      (actionsNamed cs (length (cs .homes)) (cs .waiting-actions))
       (not-not (allNamed cs) (off 5 (omega arith)))
 
   pub initial-named : T (all (λ z. ltb z (length (cs .homes))) (cs .initial))
@@ -259,6 +280,9 @@ module _ (s : List ℕ) (ok : chartsRefusal s ≡ none) where
 
   pub transition-actions-named : T (actionsNamed cs (length (cs .transitions)) (cs .transition-actions))
   transition-actions-named = names .6
+
+  pub waiting-actions-named : T (actionsNamed cs (length (cs .homes)) (cs .waiting-actions))
+  waiting-actions-named = names .7
 
   -- of transition t
   module _ (t : ℕ) (h : t < length (cs .transitions)) where
@@ -312,14 +336,14 @@ module _ (s : List ℕ) (ok : chartsRefusal s ≡ none) where
       T (insideCharts cs)
       × T (all (initialFits cs) (upto (length (cs .initial))))
       × T (all (prioritiesDiffer cs) (upto (length (cs .homes))))
-      × T (all (atMostEight (cs .entries ++ cs .exits)) (upto (length (cs .homes))))
+      × T (all (atMostEight (cs .entries ++ cs .exits ++ cs .waiting-actions)) (upto (length (cs .homes))))
       × T (all (atMostEight (cs .transition-actions)) (upto (length (cs .transitions))))
   shape =
       five-of
       (insideCharts cs)
       (all (initialFits cs) (upto (length (cs .initial))))
       (all (prioritiesDiffer cs) (upto (length (cs .homes))))
-      (all (atMostEight (cs .entries ++ cs .exits)) (upto (length (cs .homes))))
+      (all (atMostEight (cs .entries ++ cs .exits ++ cs .waiting-actions)) (upto (length (cs .homes))))
       (all (atMostEight (cs .transition-actions)) (upto (length (cs .transitions))))
       (not-not (structured cs) (off 6 (omega arith)))
 
@@ -348,10 +372,10 @@ module _ (s : List ℕ) (ok : chartsRefusal s ≡ none) where
   pub priorities-differ : (z : ℕ) → z < length (cs .homes) → T (prioritiesDiffer cs z)
   priorities-differ z h = upto-all (prioritiesDiffer cs) (length (cs .homes)) z (shape .2) h
 
-  pub state-actions-few : (z : ℕ) → z < length (cs .homes) → count (λ x. eqb (x .0) z) (cs .entries ++ cs .exits) ≤ 8
+  pub state-actions-few : (z : ℕ) → z < length (cs .homes) → count (λ x. eqb (x .0) z) (cs .entries ++ cs .exits ++ cs .waiting-actions) ≤ 8
   state-actions-few z h =
-      leb→le (count (λ x. eqb (x .0) z) (cs .entries ++ cs .exits)) 8
-      (upto-all (atMostEight (cs .entries ++ cs .exits)) (length (cs .homes)) z (shape .3) h)
+      leb→le (count (λ x. eqb (x .0) z) (cs .entries ++ cs .exits ++ cs .waiting-actions)) 8
+      (upto-all (atMostEight (cs .entries ++ cs .exits ++ cs .waiting-actions)) (length (cs .homes)) z (shape .3) h)
 
   pub transition-actions-few : (t : ℕ) → t < length (cs .transitions) → count (λ x. eqb (x .0) t) (cs .transition-actions) ≤ 8
   transition-actions-few t h =
@@ -387,5 +411,11 @@ module _ (s : List ℕ) (ok : chartsRefusal s ≡ none) where
 
   -- ---- ticks
 
+  ticks-some : T (allTicking cs)
+  ticks-some = not-not (allTicking cs) (off 8 (omega arith))
+
   pub triggers-tick : T (all (λ t. ticking (t .trigger)) (cs .transitions))
-  triggers-tick = not-not (all (λ t. ticking (t .trigger)) (cs .transitions)) (off 8 (omega arith))
+  triggers-tick = and-left (all (λ t. ticking (t .trigger)) (cs .transitions)) (all (λ x. ltb 0 (ticks (x .1))) (cs .waiting-times)) ticks-some
+
+  pub waits-tick : T (all (λ x. ltb 0 (ticks (x .1))) (cs .waiting-times))
+  waits-tick = and-right (all (λ t. ticking (t .trigger)) (cs .transitions)) (all (λ x. ltb 0 (ticks (x .1))) (cs .waiting-times)) ticks-some

@@ -20,10 +20,10 @@ use Rattle.expressions.specs.Nodes.{nodeOf}
 use Rattle.expressions.specs.Sorts.{nodesNamed}
 use Rattle.prelude.specs.Owned.{of}
 use Rattle.model.specs.Owned.{home}
-use Rattle.model.specs.Runs.{World, Run, Answer, taken, idle, Machine, parts, possible, timePassed, deeds, cycle}
+use Rattle.model.specs.Runs.{World, Run, Answer, taken, idle, Machine, parts, possible, timePassed, actions, cycle}
 use Rattle.model.specs.ChartSet.{ChartSet, readCharts, transition}
-use Rattle.model.specs.Charts.{row, transitionHolds, firstThat, acted, follow, charts}
-use Rattle.model.specs.ChartFile.{chartsRefusal, between, guardNamed, deedNamed}
+use Rattle.model.specs.Charts.{row, transitionHolds, firstThat, acted, waited, follow, charts}
+use Rattle.model.specs.ChartFile.{chartsRefusal, between, guardNamed, actionNamed}
 use Rattle.model.specs.AutomataTable.{Automata, readAutomata, readClock, edge, noEdge, clockAt, noClock}
 use Rattle.model.specs.Automata.{top, grown, literalHolds, reads, opens, theOne, reset, leaving, openEdges, automata}
 use Rattle.model.specs.AutomataFile.{automataLimits, tableTests, automataRefusal, literalTriggerNamed, tableNamed, clocksTick, insideAutomata}
@@ -34,7 +34,7 @@ use Rattle.model.proofs.ChartsRow.{row-mem}
 use Rattle.model.proofs.AutomataOpen.{firstThat-mem}
 use Rattle.model.proofs.CorrespondenceTime.{grown-top}
 use Rattle.model.proofs.TranslationClocks.{length-reset, reset-le}
-use Rattle.model.proofs.WorldDeeds.{Kept, deeds-kept, acted-updates}
+use Rattle.model.proofs.WorldDeeds.{Kept, actions-kept, acted-updates, waited-updates}
 use Rattle.model.proofs.CorrespondenceStep.{Sound}
 use Rattle.model.proofs.CorrespondenceTurn.{mapFrom-still}
 use Rattle.model.proofs.ChartFile.{lowest-none, or-off, three-of, seven-of}
@@ -71,6 +71,19 @@ module _ (m : Machine) (few : parts m ≤ 8) (r : Run) (f : Fits m r) where
           let z : getD (set (r .at) c g) d 0 ≡ getD (r .at) d 0 = getD-set-other (r .at) c d g 0 (eqb-ne e) in
           (subst (λ n. n < length (m .homes)) (sym z) (f .home d d-in .0), ap (λ n. getD (m .homes) n 0) z ∙ f .home d d-in .1)
 
+-- ---- a part stays, and the world alone changes
+
+pub idled-fits : (m : Machine) (r : Run) → Fits m r → (w : World) → Kept (m .variables) (r .world) w → Fits m (record { at = r .at; timers = r .timers; world = w })
+idled-fits m r f w kept = record {
+  room = f .room;
+  home = f .home;
+  rest = f .rest;
+  valued = kept .2 (f .valued);
+  timer-room = f .timer-room;
+  timer-low = λ k h. subst (λ n. T (m .timer-possible n k (getD (r .timers) k 0))) (sym (kept .0)) (f .timer-low k h);
+  timer-rest = f .timer-rest;
+}
+
 -- time: each timer in use goes on
 module _ (m : Machine) (r : Run) (f : Fits m r) (grow : ℕ → ℕ → ℕ) (room : m .timers-used ≤ m .timers-room) where
   pub grown-timers-fit : m .passed r ≡ mapFrom 0 (λ k x. cond (ltb k (m .timers-used)) (grow k x) x) (r .timers) →
@@ -104,7 +117,7 @@ module _ (cs : ChartSet) (ok : Sound cs) where
       took t m (fault w) q e = let z : _≡_ {A = ℕ} 0 1 = cc in absurd (omega arith)
       took t m (val w) q e =
           let z : (taken t, after t w) ≡ x = cc in
-          let k : Kept (cs .variables) (r .world) w = deeds-kept (cs .nodes) (cs .variables) _ (r .world) w (sym (acted-updates cs t (r .world)) ∙ q) in
+          let k : Kept (cs .variables) (r .world) w = actions-kept (cs .nodes) (cs .variables) _ (r .world) w (sym (acted-updates cs t (r .world)) ∙ q) in
           let h : (t < transitionCount cs) × (transition cs t .source ≡ getD (r .at) c 0) = row-mem cs (getD (r .at) c 0) t m in
           subst (Keeps (charts cs) r) z (
             entered-fits (charts cs) (ok .charts-fit) r f c (transition cs t .target) (c ∷ []) w c-in (ok .targets t (h .0))
@@ -115,9 +128,16 @@ module _ (cs : ChartSet) (ok : Sound cs) where
             tt,
           )
 
+      stayed : (o : Out World) → waited cs (getD (r .at) c 0) (getD (r .timers) c 0) (r .world) ≡ o → (o >>= λ w. val (idle, record { at = r .at; timers = r .timers; world = w })) ≡ val x → Keeps (charts cs) r x
+      stayed (fault w) q e = let z : _≡_ {A = ℕ} 0 1 = cc in absurd (omega arith)
+      stayed (val w) q e =
+          let z : (idle, record { at = r .at; timers = r .timers; world = w }) ≡ x = cc in
+          let k : Kept (cs .variables) (r .world) w = actions-kept (cs .nodes) (cs .variables) _ (r .world) w (sym (waited-updates cs (getD (r .at) c 0) (getD (r .timers) c 0) (r .world)) ∙ q) in
+          subst (Keeps (charts cs) r) z (idled-fits (charts cs) r f w k, k .0, k .1, tt)
+
       go : (o : Out (Option ℕ)) → firstThat (transitionHolds cs (r .world) (getD (r .timers) c 0)) (row cs (getD (r .at) c 0)) ≡ o → (o >>= follow cs c r) ≡ val x → Keeps (charts cs) r x
       go (fault w) q e = let z : _≡_ {A = ℕ} 0 1 = cc in absurd (omega arith)
-      go (val none) q e = let z : (idle, r) ≡ x = cc in subst (Keeps (charts cs) r) z (f, refl, refl, tt)
+      go (val none) q e = stayed (waited cs (getD (r .at) c 0) (getD (r .timers) c 0) (r .world)) refl e
       go (val (some t)) q e = took t (firstThat-mem (transitionHolds cs (r .world) (getD (r .timers) c 0)) (row cs (getD (r .at) c 0)) t q) (acted cs t (r .world)) refl e
 
   pub steady-charts : Steady (charts cs)
@@ -162,12 +182,12 @@ module _ (au : Automata) (ok : SoundTable au) where
   unfolding mem
   edge-keeps a r x a-in f q = go (openEdges au a r) refl q
     where
-      took : (e : ℕ) → T (mem e (leaving au a (getD (r .at) a 0))) → (o : Out World) → deeds (au .nodes) (au .variables) (of e (au .updates)) (r .world) ≡ o →
+      took : (e : ℕ) → T (mem e (leaving au a (getD (r .at) a 0))) → (o : Out World) → actions (au .nodes) (au .variables) (of e (au .updates)) (r .world) ≡ o →
           (o >>= λ w. val (taken e, record { at = set (r .at) a (edge au e .target); timers = reset (of e (au .resets)) (r .timers); world = w })) ≡ val x → Keeps (automata au) r x
       took e m (fault w) i q = let z : _≡_ {A = ℕ} 0 1 = cc in absurd (omega arith)
       took e m (val w) i q =
           let z : (taken e, record { at = set (r .at) a (edge au e .target); timers = reset (of e (au .resets)) (r .timers); world = w }) ≡ x = cc in
-          let k : Kept (au .variables) (r .world) w = deeds-kept (au .nodes) (au .variables) (of e (au .updates)) (r .world) w i in
+          let k : Kept (au .variables) (r .world) w = actions-kept (au .nodes) (au .variables) (of e (au .updates)) (r .world) w i in
           let h : T (eqb (edge au e .automaton) a && eqb (edge au e .source) (getD (r .at) a 0)) × T (mem e (upto (length (au .edges))))
           = keep-mem (λ e. eqb (edge au e .automaton) a && eqb (edge au e .source) (getD (r .at) a 0)) e (upto (length (au .edges))) m in
           let own : edge au e .automaton ≡ a = eqb→eq (edge au e .automaton) a (and-left (eqb (edge au e .automaton) a) (eqb (edge au e .source) (getD (r .at) a 0)) (h .0)) in
@@ -182,19 +202,19 @@ module _ (au : Automata) (ok : SoundTable au) where
           )
 
       one : (es : List ℕ) → openEdges au a r ≡ val es →
-          (theOne es >>= λ e. deeds (au .nodes) (au .variables) (of e (au .updates)) (r .world) >>= λ w. val (taken e, record { at = set (r .at) a (edge au e .target); timers = reset (of e (au .resets)) (r .timers); world = w })) ≡ val x →
+          (theOne es >>= λ e. actions (au .nodes) (au .variables) (of e (au .updates)) (r .world) >>= λ w. val (taken e, record { at = set (r .at) a (edge au e .target); timers = reset (of e (au .resets)) (r .timers); world = w })) ≡ val x →
           Keeps (automata au) r x
       one [] i q = let z : _≡_ {A = ℕ} 0 1 = cc in absurd (omega arith)
       one (e ∷ []) i q =
           took e (open-mem (λ e. reads (literalHolds au r) (of e (au .literals))) (leaving au a (getD (r .at) a 0)) (e ∷ []) e i (to-left (eqb e e) false (eqb-same e)))
-          (deeds (au .nodes) (au .variables) (of e (au .updates)) (r .world)) refl q
+          (actions (au .nodes) (au .variables) (of e (au .updates)) (r .world)) refl q
         where
           eqb-same : (e : ℕ) → T (eqb e e)
           eqb-same e = eqb-refl e
       one (e ∷ e′ ∷ es) i q = let z : _≡_ {A = ℕ} 0 1 = cc in absurd (omega arith)
 
       go : (o : Out (List ℕ)) → openEdges au a r ≡ o →
-          (o >>= λ es. theOne es >>= λ e. deeds (au .nodes) (au .variables) (of e (au .updates)) (r .world) >>= λ w. val (taken e, record { at = set (r .at) a (edge au e .target); timers = reset (of e (au .resets)) (r .timers); world = w })) ≡ val x →
+          (o >>= λ es. theOne es >>= λ e. actions (au .nodes) (au .variables) (of e (au .updates)) (r .world) >>= λ w. val (taken e, record { at = set (r .at) a (edge au e .target); timers = reset (of e (au .resets)) (r .timers); world = w })) ≡ val x →
           Keeps (automata au) r x
       go (fault w) i q = let z : _≡_ {A = ℕ} 0 1 = cc in absurd (omega arith)
       go (val es) i q = one es i q
@@ -244,7 +264,7 @@ module _ (s : List ℕ) (ok : automataRefusal s ≡ none) where
           (all (λ e. ltb (e .automaton) (length (au .initial)) && ltb (e .source) (length (au .homes)) && ltb (e .target) (length (au .homes))) (au .edges))
           (all (λ x. ltb (x .0) (length (au .edges)) && literalTriggerNamed (length (au .clocks)) (x .1 .trigger) && guardNamed (length (au .nodes)) (x .1 .guard)) (au .literals))
           (nodesNamed (nodeOf (au .nodes)) (length (au .nodes)) (length (au .variables)))
-          (all (λ x. ltb (x .0) (length (au .edges)) && deedNamed (length (au .variables)) (length (au .nodes)) (x .1)) (au .updates))
+          (all (λ x. ltb (x .0) (length (au .edges)) && actionNamed (length (au .variables)) (length (au .nodes)) (x .1)) (au .updates))
           (all (λ x. ltb (x .0) (length (au .edges)) && ltb (x .1) (length (au .clocks))) (au .resets))
           (not-not (tableNamed au) (off 5 (omega arith))) .2
 

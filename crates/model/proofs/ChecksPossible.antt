@@ -307,7 +307,7 @@ module _ (cs : ChartSet) (ok : Sound cs) where
 
   start-timed : Timed cs (start (charts cs) .at) (replicate mostCharts 0) (replicate mostClocks 0) 0
   start-timed = record {
-    same = λ c t x c-in t-in e f. getD-zeros mostClocks (clockOf cs t) ∙ sym (ap (clockFor (x .timing) (x .ticks)) (getD-zeros mostCharts c) ∙ clockFor-fresh (x .timing) (x .ticks));
+    same = λ c k x c-in o. getD-zeros mostClocks k ∙ sym (ap (clockFor (x .timing) (x .ticks)) (getD-zeros mostCharts c) ∙ clockFor-fresh (x .timing) (x .ticks));
     age-room = refl;
     age-low = λ c c-in. rw (getD-zeros mostCharts c) zero-le;
     age-rest = λ k l. getD-zeros mostCharts k;

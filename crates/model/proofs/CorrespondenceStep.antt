@@ -1,37 +1,38 @@
 -- What holds between a chart set's run and its twin's at all times, and that a chart's turn keeps it. Assumes nothing.
 use mathlib.Core.Path.{_≡_, refl, sym, ap, _∙_, subst}
+use mathlib.Core.Logic.{_⊎_, inl, inr}
 use mathlib.Core.Option.{Option, some, none}
-use mathlib.Core.Bool.{Bool, true, false, cond}
-use mathlib.Core.List.{List, [], _∷_}
+use mathlib.Core.Bool.{Bool, true, false, cond, _||_}
+use mathlib.Core.List.{List, [], _∷_, map}
 use Prim.Native.Nat.{ℕ, _-_, _≤_, _<_, zero-le}
 use native.Mathlib.Nat.{le-trans}
 use native.Mathlib.Omega.{arith}
 use lib.Dec.{T, eqb, eqb→eq}
 use lib.ListN.{length, getD, set, length-set}
 use lib.Seq.{getD-set-same, getD-set-other, set-getD}
-use Rattle.prelude.specs.Lists.{mem}
+use Rattle.prelude.specs.Lists.{any, mem}
 use Rattle.records.specs.Refusal.{Out, val, fault, _>>=_, choose}
 use Rattle.model.specs.Limits.{mostCharts, mostStates, mostTransitions, mostVariables, mostClocks, mostPriorities}
 use Rattle.prelude.specs.Owned.{of}
 use Rattle.model.specs.Owned.{home}
-use Rattle.model.specs.Runs.{World, Run, Answer, taken, idle, time, Deed, deeds, present, guardHolds, noVariable, inBounds}
+use Rattle.model.specs.Runs.{World, Run, Answer, taken, idle, time, Action, actions, present, guardHolds, noVariable, inBounds}
 use Rattle.model.specs.ChartSet as C
-use Rattle.model.specs.ChartSet.{ChartSet, Trigger, transition}
-use Rattle.model.specs.Charts.{ticks, triggered, row, transitionHolds, firstThat, follow, chartStep}
+use Rattle.model.specs.ChartSet.{ChartSet, Trigger, transition, waits}
+use Rattle.model.specs.Charts.{ticks, everyHolds, triggered, due, row, transitionHolds, firstThat, follow, chartStep}
 use Rattle.model.specs.ChartFile.{prioritiesDiffer}
 use Rattle.model.specs.AutomataTable as A
 use Rattle.model.specs.AutomataTable.{Clock, edge, clockAt}
 use Rattle.model.specs.Automata.{top, reset, literalTriggerHolds, conditionHolds, openEdges, theOne, edgeStep}
-use Rattle.model.specs.Translation.{from-transition, from-idling, stateCount, transitionCount, edgeNumber, edgeOf, clocksOf, clockOf, literalTriggerOf, literal, updatesOf, clocksLeaving, resetsOf, twin}
+use Rattle.model.specs.Translation.{from-transition, from-idling, stateCount, transitionCount, edgeNumber, edgeOf, clocksOf, clockOf, waitingClock, literalTriggerOf, literal, updatesOf, clocksOfState, resetsOf, twin}
 use Rattle.model.specs.Correspondence.{clockFor, AnswersMatch}
 use Rattle.prelude.proofs.Bools.{is-false, of-true, not-of, eqb-ne}
 use Rattle.model.proofs.CorrespondenceTime.{timingHolds, clockFor-holds, clockFor-fresh}
 use Rattle.model.proofs.ChartsRow.{row-mem}
 use Rattle.model.proofs.AutomataOpen.{edgeFor, firstThat-mem}
-use Rattle.model.proofs.TranslationOrigins.{edge-of, of-origin}
-use Rattle.model.proofs.TranslationEdges.{openEdges-first}
-use Rattle.model.proofs.TranslationClocks.{Timing, clockOf-at, clockOf-in, clockOf-injective, clocksLeaving-mem, mem-clocksLeaving, length-reset, reset-out, reset-le, reset-in}
-use Rattle.model.proofs.WorldDeeds.{Valued, Kept, deeds-kept, acted-updates}
+use Rattle.model.proofs.TranslationOrigins.{IsOrigin, idleFor, edge-of, of-origin}
+use Rattle.model.proofs.TranslationEdges.{is-idle, openEdges-first}
+use Rattle.model.proofs.TranslationClocks.{ClockOf, own-at, own-in, own-once, clocksOfState-mem, mem-clocksOfState, length-reset, reset-out, reset-le, reset-in}
+use Rattle.model.proofs.WorldDeeds.{Valued, Kept, actions-kept, acted-updates, waited-updates}
 
 -- what an accepted set has
 pub record Sound (cs : ChartSet) : Type 0 where
@@ -56,8 +57,7 @@ pub record Placed (cs : ChartSet) (at : List ℕ) : Type 0 where
 
 -- ages and clocks after so many cycles
 pub record Timed (cs : ChartSet) (at ages clocks : List ℕ) (cycles : ℕ) : Type 0 where
-  pub same : (c t : ℕ) (x : Clock) → c < length (cs .initial) → t < transitionCount cs → transition cs t .source ≡ getD at c 0 → clocksOf (transition cs t .trigger) ≡ x ∷ [] →
-      getD clocks (clockOf cs t) 0 ≡ clockFor (x .timing) (x .ticks) (getD ages c 0)
+  pub same : (c k : ℕ) (x : Clock) → c < length (cs .initial) → ClockOf cs (getD at c 0) k x → getD clocks k 0 ≡ clockFor (x .timing) (x .ticks) (getD ages c 0)
   pub age-room : length ages ≡ mostCharts
   pub age-low : (c : ℕ) → c < length (cs .initial) → getD ages c 0 ≤ cycles
   pub age-rest : (k : ℕ) → length (cs .initial) ≤ k → getD ages k 0 ≡ 0
@@ -77,7 +77,9 @@ abbrev pub StepTaken : ChartSet → Run → Answer → Answer → Run → Type 0
 StepTaken cs r (taken t) (taken e) r₁ =
     let c = r .world .position - 1 in
     (e ≡ t) × (t < transitionCount cs) × (transition cs t .source ≡ getD (r .at) c 0) × (r₁ .at ≡ set (r .at) c (transition cs t .target))
-StepTaken cs r idle (taken e) r₁ = (e ≡ edgeNumber cs (from-idling (getD (r .at) (r .world .position - 1) 0))) × (r₁ .at ≡ r .at)
+StepTaken cs r idle (taken e) r₁ =
+    let s = getD (r .at) (r .world .position - 1) 0 in
+    ((due : Bool) × (e ≡ edgeNumber cs (idleFor due s)) × IsOrigin cs (idleFor due s)) × (r₁ .at ≡ r .at)
 StepTaken cs r (taken t) idle r₁ = ⊥
 StepTaken cs r (taken t) time r₁ = ⊥
 StepTaken cs r idle idle r₁ = ⊥
@@ -99,6 +101,13 @@ StepsMatch cs r q (val x) (fault v) = ⊥
 -- ---- a chart's turn
 
 module _ (cs : ChartSet) (ok : Sound cs) (r q : Run) (al : Alike cs r q) (c : ℕ) (c-in : c < length (cs .initial)) where
+  -- a clock of the present state holds where its age says
+  clock-holds : (k : ℕ) (x : Clock) → ClockOf cs (getD (r .at) c 0) k x → eqb (getD (q .timers) k 0) (clockAt (twin cs) k .ticks) ≡ timingHolds (x .timing) (x .ticks) (getD (r .timers) c 0)
+  clock-holds k x o =
+      let d : clockAt (twin cs) k ≡ x = own-at cs (getD (r .at) c 0) k x o in
+      rw (al .timed .same c k x c-in o, d)
+      (clockFor-holds (x .timing) (x .ticks) (getD (r .timers) c 0) (subst (λ z. 0 < z .ticks) d (ok .ticking k (own-in cs (getD (r .at) c 0) k x o))))
+
   -- a trigger holds where its literal's trigger holds
   literal-trigger-holds : (t : ℕ) → T (mem t (row cs (getD (r .at) c 0))) →
       literalTriggerHolds (twin cs) q (literalTriggerOf cs t (transition cs t .trigger)) ≡ triggered (transition cs t .trigger) (getD (r .timers) c 0) (r .world .events)
@@ -110,9 +119,7 @@ module _ (cs : ChartSet) (ok : Sound cs) (r q : Run) (al : Alike cs r q) (c : �
       timing : (x : Clock) → clocksOf (transition cs t .trigger) ≡ x ∷ [] →
           eqb (getD (q .timers) (clockOf cs t) 0) (clockAt (twin cs) (clockOf cs t) .ticks) ≡ timingHolds (x .timing) (x .ticks) (getD (r .timers) c 0)
       timing x e =
-          let d : clockAt (twin cs) (clockOf cs t) ≡ x = clockOf-at cs t x (h .0) e in
-          rw (al .timed .same c t x c-in (h .0) (h .1) e, d)
-          (clockFor-holds (x .timing) (x .ticks) (getD (r .timers) c 0) (subst (λ z. 0 < z .ticks) d (ok .ticking (clockOf cs t) (clockOf-in cs t x (h .0) e))))
+          clock-holds (clockOf cs t) x (inl (t, h .0, h .1, refl, e))
 
       go : (g : Trigger) → transition cs t .trigger ≡ g → literalTriggerHolds (twin cs) q (literalTriggerOf cs t g) ≡ triggered g (getD (r .timers) c 0) (r .world .events)
       go C.always e = refl
@@ -166,17 +173,17 @@ module _ (cs : ChartSet) (ok : Sound cs) (r q : Run) (al : Alike cs r q) (c : �
               let z : getD (set (r .at) c (transition cs t .target)) d 0 ≡ getD (r .at) d 0 = getD-set-other (r .at) c d (transition cs t .target) 0 (eqb-ne e) in
               (subst (λ n. n < stateCount cs) (sym z) (al .placed .home d d-in .0), ap (home (cs .homes)) z ∙ al .placed .home d d-in .1)
 
-      entered-timed : Timed cs (set (r .at) c (transition cs t .target)) (set (r .timers) c 0) (reset (clocksLeaving cs (transition cs t .target)) (q .timers)) (r .world .cycles)
+      entered-timed : Timed cs (set (r .at) c (transition cs t .target)) (set (r .timers) c 0) (reset (clocksOfState cs (transition cs t .target)) (q .timers)) (r .world .cycles)
       entered-timed = record {
-        same = λ d u x d-in u-in e f. clock-part d u x d-in u-in e f (eqb d c) refl;
+        same = λ d k x d-in o. clock-part d k x d-in o (eqb d c) refl;
         age-room = length-set (r .timers) c 0 ∙ al .timed .age-room;
         age-low = λ d d-in. age-part d d-in (eqb d c) refl;
         age-rest = λ k l. getD-set-other (r .timers) c k 0 0 (λ e. omega arith) ∙ al .timed .age-rest k l;
-        clock-room = length-reset (clocksLeaving cs g) (q .timers) ∙ al .timed .clock-room;
-        clock-low = λ k l. le-trans (reset-le (clocksLeaving cs g) (q .timers) k) (al .timed .clock-low k l);
+        clock-room = length-reset (clocksOfState cs g) (q .timers) ∙ al .timed .clock-room;
+        clock-low = λ k l. le-trans (reset-le (clocksOfState cs g) (q .timers) k) (al .timed .clock-low k l);
         clock-rest = λ k l.
             let z : getD (q .timers) k 0 ≡ 0 = al .timed .clock-rest k l in
-            let y : getD (reset (clocksLeaving cs g) (q .timers)) k 0 ≤ getD (q .timers) k 0 = reset-le (clocksLeaving cs g) (q .timers) k in
+            let y : getD (reset (clocksOfState cs g) (q .timers)) k 0 ≤ getD (q .timers) k 0 = reset-le (clocksOfState cs g) (q .timers) k in
             omega arith;
       }
         where
@@ -187,57 +194,53 @@ module _ (cs : ChartSet) (ok : Sound cs) (r q : Run) (al : Alike cs r q) (c : �
           age-part d d-in true e = rw (eqb→eq d c (of-true e), getD-set-same (r .timers) c 0 0 c-age) zero-le
           age-part d d-in false e = rw (getD-set-other (r .timers) c d 0 0 (eqb-ne e)) (al .timed .age-low d d-in)
 
-          clock-part : (d u : ℕ) (x : Clock) → d < length (cs .initial) → u < transitionCount cs → transition cs u .source ≡ getD (set (r .at) c g) d 0 → clocksOf (transition cs u .trigger) ≡ x ∷ [] →
-              (p : Bool) → eqb d c ≡ p → getD (reset (clocksLeaving cs g) (q .timers)) (clockOf cs u) 0 ≡ clockFor (x .timing) (x .ticks) (getD (set (r .timers) c 0) d 0)
-          clock-part d u x d-in u-in e f true p =
+          clock-part : (d k : ℕ) (x : Clock) → d < length (cs .initial) → ClockOf cs (getD (set (r .at) c g) d 0) k x → (p : Bool) → eqb d c ≡ p →
+              getD (reset (clocksOfState cs g) (q .timers)) k 0 ≡ clockFor (x .timing) (x .ticks) (getD (set (r .timers) c 0) d 0)
+          clock-part d k x d-in o true p =
               let dc : d ≡ c = eqb→eq d c (of-true p) in
-              let e′ : transition cs u .source ≡ g = e ∙ ap (λ n. getD (set (r .at) c g) n 0) dc ∙ getD-set-same (r .at) c g 0 c-place in
-              let k : clockOf cs u < length (twin cs .clocks) = clockOf-in cs u x u-in f in
-              let fit : length (twin cs .clocks) ≤ mostClocks = ok .clocks-fit in
-              let room : length (q .timers) ≡ mostClocks = al .timed .clock-room in
-              reset-in (clocksLeaving cs g) (q .timers) (clockOf cs u) (mem-clocksLeaving cs g u x u-in e′ f) (omega arith)
+              let here : getD (set (r .at) c g) d 0 ≡ g = ap (λ n. getD (set (r .at) c g) n 0) dc ∙ getD-set-same (r .at) c g 0 c-place in
+              let o′ : ClockOf cs g k x = subst (λ s. ClockOf cs s k x) here o in
+              reset-in (clocksOfState cs g) (q .timers) k (mem-clocksOfState cs g k x o′) (omega (arith, own-in cs g k x o′, ok .clocks-fit, al .timed .clock-room))
               ∙ sym (ap (clockFor (x .timing) (x .ticks)) (ap (λ n. getD (set (r .timers) c 0) n 0) dc ∙ getD-set-same (r .timers) c 0 0 c-age) ∙ clockFor-fresh (x .timing) (x .ticks))
-          clock-part d u x d-in u-in e f false p =
-              let e′ : transition cs u .source ≡ getD (r .at) d 0 = e ∙ getD-set-other (r .at) c d g 0 (eqb-ne p) in
-              reset-out (clocksLeaving cs g) (q .timers) (clockOf cs u)
-              (is-false {b = mem (clockOf cs u) (clocksLeaving cs g)} (not-of (mem (clockOf cs u) (clocksLeaving cs g)) (λ n. other e′ (clocksLeaving-mem cs g (clockOf cs u) n))))
-              ∙ al .timed .same d u x d-in u-in e′ f
+          clock-part d k x d-in o false p =
+              let o′ : ClockOf cs (getD (r .at) d 0) k x = subst (λ s. ClockOf cs s k x) (getD-set-other (r .at) c d g 0 (eqb-ne p)) o in
+              reset-out (clocksOfState cs g) (q .timers) k
+              (is-false {b = mem k (clocksOfState cs g)} (not-of (mem k (clocksOfState cs g)) (λ n. other o′ (clocksOfState-mem cs g k (ok .targets t (t-from .0)) n))))
+              ∙ al .timed .same d k x d-in o′
               ∙ ap (clockFor (x .timing) (x .ticks)) (sym (getD-set-other (r .timers) c d 0 0 (eqb-ne p)))
             where
               -- a clock of the target's is no clock of another chart's state
-              other : transition cs u .source ≡ getD (r .at) d 0 → Timing cs g (clockOf cs u) → ⊥
-              other e′ y =
-                  let uv : u ≡ y .0 = clockOf-injective cs u (y .0) x (y .4 .0) u-in (y .1) f (y .4 .1) (y .3) in
-                  let dg : d ≡ c = sym (al .placed .home d d-in .1) ∙ ap (home (cs .homes)) (sym e′ ∙ ap (λ z. transition cs z .source) uv ∙ y .2) ∙ target-home in
-                  eqb-ne p dg
+              other : ClockOf cs (getD (r .at) d 0) k x → (y : Clock) × ClockOf cs g k y → ⊥
+              other o′ y = eqb-ne p (sym (al .placed .home d d-in .1) ∙ ap (home (cs .homes)) (own-once cs (getD (r .at) d 0) g k x (y .0) o′ (y .1)) ∙ target-home)
 
       entered : (w : World) → Kept (cs .variables) (r .world) w →
           Alike cs (record { at = set (r .at) c (transition cs t .target); timers = set (r .timers) c 0; world = w })
-          (record { at = set (q .at) c (transition cs t .target); timers = reset (clocksLeaving cs (transition cs t .target)) (q .timers); world = w })
+          (record { at = set (q .at) c (transition cs t .target); timers = reset (clocksOfState cs (transition cs t .target)) (q .timers); world = w })
       entered w k = record {
         worlds = refl;
         ats = ap (λ l. set l c (transition cs t .target)) (al .ats);
         placed = entered-placed;
         valued = k .2 (al .valued);
-        timed = subst (λ n. Timed cs (set (r .at) c (transition cs t .target)) (set (r .timers) c 0) (reset (clocksLeaving cs (transition cs t .target)) (q .timers)) n) (sym (k .0)) entered-timed;
+        timed = subst (λ n. Timed cs (set (r .at) c (transition cs t .target)) (set (r .timers) c 0) (reset (clocksOfState cs (transition cs t .target)) (q .timers)) n) (sym (k .0)) entered-timed;
       }
 
     -- ---- none taken
 
-    idled : Alike cs r (record { at = set (q .at) c (getD (r .at) c 0); timers = q .timers; world = q .world })
-    idled = record {
-      worlds = al .worlds;
+    idled : (w : World) → Kept (cs .variables) (r .world) w →
+        Alike cs (record { at = r .at; timers = r .timers; world = w }) (record { at = set (q .at) c (getD (r .at) c 0); timers = q .timers; world = w })
+    idled w k = record {
+      worlds = refl;
       ats = al .ats ∙ sym (ap (λ l. set (q .at) c (getD l c 0)) (al .ats) ∙ set-getD (q .at) c 0);
       placed = al .placed;
-      valued = al .valued;
-      timed = al .timed;
+      valued = k .2 (al .valued);
+      timed = subst (λ n. Timed cs (r .at) (r .timers) (q .timers) n) (sym (k .0)) (al .timed);
     }
 
     -- ---- the twin's turn
 
     -- once its edge e is found, with its updates, resets and target
-    along : ℕ → List Deed → List ℕ → ℕ → World → Out (Answer × Run)
-    along e ds ks g w = deeds (cs .nodes) (cs .variables) ds w >>= λ w₁. val (taken e, record { at = set (q .at) c g; timers = reset ks (q .timers); world = w₁ })
+    along : ℕ → List Action → List ℕ → ℕ → World → Out (Answer × Run)
+    along e ds ks g w = actions (cs .nodes) (cs .variables) ds w >>= λ w₁. val (taken e, record { at = set (q .at) c g; timers = reset ks (q .timers); world = w₁ })
 
     along-edge : ℕ → Out (Answer × Run)
     along-edge e = along e (of e (twin cs .updates)) (of e (twin cs .resets)) (edge (twin cs) e .target) (q .world)
@@ -251,7 +254,7 @@ module _ (cs : ChartSet) (ok : Sound cs) (r q : Run) (al : Alike cs r q) (c : �
         subst (λ z. StepsMatch cs r q (follow cs c r (some t)) z) (sym same)
         (subst (λ o. StepsMatch cs r q (o >>= λ w. val (taken t, record { at = set (r .at) c (transition cs t .target); timers = set (r .timers) c 0; world = w })) (along t (updatesOf cs (from-transition t)) (resetsOf cs (from-transition t)) (transition cs t .target) (r .world)))
         (sym (acted-updates cs t (r .world)))
-        (done (deeds (cs .nodes) (cs .variables) (updatesOf cs (from-transition t)) (r .world)) refl))
+        (done (actions (cs .nodes) (cs .variables) (updatesOf cs (from-transition t)) (r .world)) refl))
       where
         t-in : t < transitionCount cs
         t-in = row-mem cs (getD (r .at) c 0) t m .0
@@ -266,52 +269,99 @@ module _ (cs : ChartSet) (ok : Sound cs) (r q : Run) (al : Alike cs r q) (c : �
         taken-from : transition cs t .source ≡ getD (r .at) (r .world .position - 1) 0
         taken-from = row-mem cs (getD (r .at) c 0) t m .1 ∙ ap (λ n. getD (r .at) n 0) (sym here)
 
-        done : (o : Out World) → deeds (cs .nodes) (cs .variables) (updatesOf cs (from-transition t)) (r .world) ≡ o →
+        done : (o : Out World) → actions (cs .nodes) (cs .variables) (updatesOf cs (from-transition t)) (r .world) ≡ o →
             StepsMatch cs r q
             (o >>= λ w. val (taken t, record { at = set (r .at) c (transition cs t .target); timers = set (r .timers) c 0; world = w }))
-            (o >>= λ w. val (taken t, record { at = set (q .at) c (transition cs t .target); timers = reset (clocksLeaving cs (transition cs t .target)) (q .timers); world = w }))
+            (o >>= λ w. val (taken t, record { at = set (q .at) c (transition cs t .target); timers = reset (clocksOfState cs (transition cs t .target)) (q .timers); world = w }))
         done (fault w) e = refl
         done (val w) e =
-            let k : Kept (cs .variables) (r .world) w = deeds-kept (cs .nodes) (cs .variables) (updatesOf cs (from-transition t)) (r .world) w e in
+            let k : Kept (cs .variables) (r .world) w = actions-kept (cs .nodes) (cs .variables) (updatesOf cs (from-transition t)) (r .world) w e in
             ((refl, opened t op), (refl, t-in, taken-from, ap (λ n. set (r .at) n (transition cs t .target)) (sym here)), k .0, k .1, entered t m w k)
 
-    stayed : openEdges (twin cs) c q ≡ val ((edgeNumber cs (from-idling (getD (r .at) c 0))) ∷ []) → StepsMatch cs r q (follow cs c r none) (along-edge (edgeNumber cs (from-idling (getD (r .at) c 0))))
-    unfolding along-edge along deeds reset
-    stayed op =
-        subst (λ z. StepsMatch cs r q (follow cs c r none) z) (sym same)
-        ((ap (λ x. x .idles) ed, source-there, target-there, opened k op), (ap (λ n. edgeNumber cs (from-idling (getD (r .at) n 0))) (sym here), refl), refl, refl, idled)
+    -- whether the waiting actions are due, by the chart
+    abbrev isDue : Bool
+    isDue = due cs (getD (r .at) c 0) (getD (r .timers) c 0)
+
+    abbrev idleEdge : ℕ
+    idleEdge = edgeNumber cs (idleFor isDue (getD (r .at) c 0))
+
+    undue : waits cs (getD (r .at) c 0) ≡ [] → isDue ≡ false
+    unfolding any
+    undue w = ap (any (λ ms. everyHolds (ticks ms) (getD (r .timers) c 0))) w
+
+    at-clock : (ms : ℕ) → waits cs (getD (r .at) c 0) ≡ ms ∷ [] →
+        eqb (getD (q .timers) (waitingClock cs (getD (r .at) c 0)) 0) (clockAt (twin cs) (waitingClock cs (getD (r .at) c 0)) .ticks) ≡ isDue
+    unfolding any
+    at-clock ms w =
+        clock-holds (waitingClock cs (getD (r .at) c 0)) (record { timing = A.every; ticks = ticks ms }) (inr (in-states, refl, ap (map (λ ms. record { timing = A.every; ticks = ticks ms })) w))
+        ∙ or-none (everyHolds (ticks ms) (getD (r .timers) c 0))
+        ∙ sym (ap (any (λ ms. everyHolds (ticks ms) (getD (r .timers) c 0))) w)
       where
-        k : ℕ
-        k = edgeNumber cs (from-idling (getD (r .at) c 0))
+        or-none : (b : Bool) → b ≡ (b || false)
+        or-none true = refl
+        or-none false = refl
 
-        ed : edge (twin cs) k ≡ edgeOf cs (from-idling (getD (r .at) c 0))
-        ed = edge-of cs (from-idling (getD (r .at) c 0)) in-states
+    no-resets : (d : Bool) → resetsOf cs (idleFor d (getD (r .at) c 0)) ≡ []
+    no-resets true = refl
+    no-resets false = refl
 
-        same : along-edge k ≡ along k [] [] (getD (r .at) c 0) (q .world)
-        same = λ i. along k
-            (of-origin cs (updatesOf cs) (from-idling (getD (r .at) c 0)) in-states i)
-            (of-origin cs (resetsOf cs) (from-idling (getD (r .at) c 0)) in-states i)
-            (ed i .target)
-            (q .world)
+    idle-edge : (d : Bool) → edgeOf cs (idleFor d (getD (r .at) c 0)) ≡ edgeOf cs (from-idling (getD (r .at) c 0))
+    idle-edge true = refl
+    idle-edge false = refl
 
-        source-there : edge (twin cs) k .source ≡ getD (r .at) (r .world .position - 1) 0
+    stayed : IsOrigin cs (idleFor isDue (getD (r .at) c 0)) → openEdges (twin cs) c q ≡ val (idleEdge ∷ []) → StepsMatch cs r q (follow cs c r none) (along-edge idleEdge)
+    unfolding along-edge along reset
+    stayed i op =
+        subst (λ z. StepsMatch cs r q (follow cs c r none) z) (sym same)
+        (subst (λ o. StepsMatch cs r q (o >>= λ w. val (idle, record { at = r .at; timers = r .timers; world = w })) (along idleEdge (updatesOf cs (idleFor isDue (getD (r .at) c 0))) [] (getD (r .at) c 0) (r .world)))
+        (sym (waited-updates cs (getD (r .at) c 0) (getD (r .timers) c 0) (r .world)))
+        (done (actions (cs .nodes) (cs .variables) (updatesOf cs (idleFor isDue (getD (r .at) c 0))) (r .world)) refl))
+      where
+        ed : edge (twin cs) idleEdge ≡ edgeOf cs (from-idling (getD (r .at) c 0))
+        ed = edge-of cs (idleFor isDue (getD (r .at) c 0)) i ∙ idle-edge isDue
+
+        same : along-edge idleEdge ≡ along idleEdge (updatesOf cs (idleFor isDue (getD (r .at) c 0))) [] (getD (r .at) c 0) (r .world)
+        same = λ j. along idleEdge
+            (of-origin cs (updatesOf cs) (idleFor isDue (getD (r .at) c 0)) i j)
+            ((of-origin cs (resetsOf cs) (idleFor isDue (getD (r .at) c 0)) i ∙ no-resets isDue) j)
+            (ed j .target)
+            (sym (al .worlds) j)
+
+        source-there : edge (twin cs) idleEdge .source ≡ getD (r .at) (r .world .position - 1) 0
         source-there = ap (λ x. x .source) ed ∙ ap (λ n. getD (r .at) n 0) (sym here)
 
-        target-there : edge (twin cs) k .target ≡ getD (r .at) (r .world .position - 1) 0
+        target-there : edge (twin cs) idleEdge .target ≡ getD (r .at) (r .world .position - 1) 0
         target-there = ap (λ x. x .target) ed ∙ ap (λ n. getD (r .at) n 0) (sym here)
+
+        done : (o : Out World) → actions (cs .nodes) (cs .variables) (updatesOf cs (idleFor isDue (getD (r .at) c 0))) (r .world) ≡ o →
+            StepsMatch cs r q (o >>= λ w. val (idle, record { at = r .at; timers = r .timers; world = w }))
+            (o >>= λ w. val (taken idleEdge, record { at = set (q .at) c (getD (r .at) c 0); timers = q .timers; world = w }))
+        done (fault w) e = refl
+        done (val w) e =
+            let k : Kept (cs .variables) (r .world) w = actions-kept (cs .nodes) (cs .variables) (updatesOf cs (idleFor isDue (getD (r .at) c 0))) (r .world) w e in (
+              (ap (λ x. x .idles) ed, source-there, target-there, opened idleEdge op),
+              ((isDue, ap (λ n. edgeNumber cs (idleFor isDue (getD (r .at) n 0))) (sym here), subst (λ n. IsOrigin cs (idleFor isDue (getD (r .at) n 0))) (sym here) i), refl),
+              k .0,
+              k .1,
+              idled w k,
+            )
 
     pub chartStep-edgeStep : StepsMatch cs r q (chartStep cs c r) (edgeStep (twin cs) c q)
     unfolding along-edge along
     chartStep-edgeStep =
         go (firstThat (transitionHolds cs (r .world) (getD (r .timers) c 0)) (row cs (getD (r .at) c 0))) refl
         (openEdges-first cs c (getD (r .at) c 0) (ok .ranks) (ok .differ (getD (r .at) c 0) in-states) (al .placed .home c c-in .1) in-states q
-        (transitionHolds cs (r .world) (getD (r .timers) c 0)) literal-holds (ap (λ l. getD l c 0) (sym (al .ats))))
+        (transitionHolds cs (r .world) (getD (r .timers) c 0)) literal-holds (ap (λ l. getD l c 0) (sym (al .ats))) isDue undue at-clock)
       where
         go : (o : Out (Option ℕ)) → firstThat (transitionHolds cs (r .world) (getD (r .timers) c 0)) (row cs (getD (r .at) c 0)) ≡ o →
-            openEdges (twin cs) c q ≡ (o >>= λ a. val (edgeFor (edgeNumber cs (from-idling (getD (r .at) c 0))) a ∷ [])) →
+            openEdges (twin cs) c q ≡ (o >>= λ a. val (edgeFor idleEdge a ∷ [])) →
             StepsMatch cs r q (o >>= follow cs c r) (openEdges (twin cs) c q >>= λ os. theOne os >>= along-edge)
         go (fault w) e op = subst (λ z. StepsMatch cs r q (fault w) (z >>= λ os. theOne os >>= along-edge)) (sym op) refl
         go (val (some t)) e op =
             subst (λ z. StepsMatch cs r q (follow cs c r (some t)) (z >>= λ os. theOne os >>= along-edge)) (sym op)
             (took t (firstThat-mem (transitionHolds cs (r .world) (getD (r .timers) c 0)) (row cs (getD (r .at) c 0)) t e) op)
-        go (val none) e op = subst (λ z. StepsMatch cs r q (follow cs c r none) (z >>= λ os. theOne os >>= along-edge)) (sym op) (stayed op)
+        go (val none) e op = subst (λ z. StepsMatch cs r q (follow cs c r none) (z >>= λ os. theOne os >>= along-edge)) (sym op)
+            (stayed
+            (is-idle cs c (getD (r .at) c 0) (ok .ranks) (ok .differ (getD (r .at) c 0) in-states) (al .placed .home c c-in .1) in-states q
+            (transitionHolds cs (r .world) (getD (r .timers) c 0)) literal-holds (ap (λ l. getD l c 0) (sym (al .ats))) isDue undue at-clock)
+            op)

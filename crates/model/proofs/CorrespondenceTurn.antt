@@ -15,12 +15,12 @@ use Rattle.model.specs.ChartSet.{ChartSet}
 use Rattle.model.specs.Charts.{chartStep, charts}
 use Rattle.model.specs.AutomataTable.{clockAt}
 use Rattle.model.specs.Automata.{grown, edgeStep, automata}
-use Rattle.model.specs.Translation.{clockOf, twin}
+use Rattle.model.specs.Translation.{twin}
 use Rattle.model.specs.Correspondence.{clockFor, AnswersMatch}
 use Rattle.prelude.proofs.Bools.{is-true, is-false, of-true, clash, not-of, not-false}
 use Rattle.prelude.proofs.Lists.{getD-mapFrom, length-mapFrom}
 use Rattle.model.proofs.CorrespondenceTime.{clockFor-grown, grown-top}
-use Rattle.model.proofs.TranslationClocks.{clockOf-at, clockOf-in}
+use Rattle.model.proofs.TranslationClocks.{own-at, own-in}
 use Rattle.model.proofs.CorrespondenceStep.{Sound, Timed, Alike, StepTaken, StepsMatch, chartStep-edgeStep}
 
 -- What a turn, taken in r, comes to: the answers, and the run after it.
@@ -92,11 +92,11 @@ module _ (cs : ChartSet) (ok : Sound cs) (r q : Run) (al : Alike cs r q) where
 
   passed-timed : Timed cs (r .at) (charts cs .passed r) (automata (twin cs) .passed q) (r .world .cycles + 1)
   passed-timed = record {
-    same = λ c t x c-in t-in e f.
-        let d : clockAt (twin cs) (clockOf cs t) ≡ x = clockOf-at cs t x t-in f in
-        let k : clockOf cs t < length (twin cs .clocks) = clockOf-in cs t x t-in f in
-        clock-next (clockOf cs t) k
-        ∙ rw (d, al .timed .same c t x c-in t-in e f) (clockFor-grown (x .timing) (x .ticks) (getD (r .timers) c 0) (subst (λ z. 0 < z .ticks) d (ok .ticking (clockOf cs t) k)))
+    same = λ c k x c-in o.
+        let d : clockAt (twin cs) k ≡ x = own-at cs (getD (r .at) c 0) k x o in
+        let l : k < length (twin cs .clocks) = own-in cs (getD (r .at) c 0) k x o in
+        clock-next k l
+        ∙ rw (d, al .timed .same c k x c-in o) (clockFor-grown (x .timing) (x .ticks) (getD (r .timers) c 0) (subst (λ z. 0 < z .ticks) d (ok .ticking k l)))
         ∙ ap (clockFor (x .timing) (x .ticks)) (sym (age-next c c-in));
     age-room = length-mapFrom (λ c age. cond (ltb c (length (cs .initial))) (age + 1) age) (r .timers) 0 ∙ al .timed .age-room;
     age-low = λ c c-in. rw (age-next c c-in) (let h : getD (r .timers) c 0 ≤ r .world .cycles = al .timed .age-low c c-in in omega arith);

@@ -24,7 +24,8 @@ use Rattle.model.specs.PathBack.{Walk, Row, timeMark, walkStart, timeFit
 use Rattle.model.specs.Calls.{chartSets}
 use Rattle.model.specs.TakenPath.{markOf, rowOf, whenDone, ofTurns, ofTrace, ofCalls, takenPath, takenRows}
 use Rattle.prelude.proofs.Bools.{is-true, of-true, both-of, eq→eqb, ne→eqb, eqb-ne}
-use Rattle.model.proofs.TranslationOrigins.{origins-count, edges-count, edgeNumber-in, originOf-edgeNumber, originOf-past, edge-of}
+use Rattle.model.proofs.TranslationOrigins.{IsOrigin, idleFor, edges-count, edgeNumber-in, originOf-edgeNumber, originOf-past, edge-of}
+use Rattle.model.proofs.TranslationCounts.{origins-few}
 use Rattle.model.proofs.CallsTrace.{runLeft}
 use Rattle.model.proofs.CorrespondenceStep.{Sound, Placed}
 use Rattle.model.proofs.ChartFileSound.{sound}
@@ -82,7 +83,7 @@ module _ (cs : ChartSet) (ok : Sound cs) (w : Walk) (r r₁ : Run) (b : Beside c
       (goes : r₁ .at ≡ set (r .at) (r .world .position - 1) (x .target)) (next-position : r₁ .world .position ≡ r .world .position + 1) (same-cycle : r₁ .world .cycles ≡ r .world .cycles) where
     no-time : eqb e timeMark ≡ false
     no-time =
-        ne→eqb {a = e} {b = timeMark} (λ d. omega (arith, origins-count cs, ok .transitions-fit, ok .states-fit))
+        ne→eqb {a = e} {b = timeMark} (λ d. omega (arith, origins-few cs, ok .transitions-fit, ok .states-fit))
 
     edge-fits : T (edgeFits cs e w)
     edge-fits =
@@ -154,13 +155,30 @@ module _ (cs : ChartSet) (ok : Sound cs) (w : Walk) (r r₁ : Run) (b : Beside c
   turn-led high idle (taken e) g q₀ =
       let c-in : r .world .position - 1 < length (cs .initial) = omega (arith, g .1) in
       let home : (getD (r .at) (r .world .position - 1) 0 < stateCount cs) × (home (cs .homes) (getD (r .at) (r .world .position - 1) 0) ≡ r .world .position - 1) = placed .home (r .world .position - 1) c-in in
-      let s-in : getD (r .at) (r .world .position - 1) 0 < stateCount cs = home .0 in
-      subst (λ n. Led cs (n ∷ []) [] w r₁) (sym (g .0 .0))
-      (edge-led (edgeNumber cs o) (edgeOf cs o) (edge-of cs o s-in) (edgeNumber-in cs o s-in) (g .1) (home .1) refl
-      (g .0 .1 ∙ sym (set-getD (r .at) (r .world .position - 1) 0)) (g .2) (g .3) [] (ap (λ o. rowsFrom cs o w) (originOf-edgeNumber cs o s-in)))
+      let o : Origin = idleFor (g .0 .0 .0) (getD (r .at) (r .world .position - 1) 0) in
+      let is : IsOrigin cs o = g .0 .0 .2 in
+      subst (λ n. Led cs (n ∷ []) [] w r₁) (sym (g .0 .0 .1))
+      (edge-led (edgeNumber cs o) (edgeOf cs o) (edge-of cs o is) (edgeNumber-in cs o is) (g .1) (own (g .0 .0 .0) (home .1)) (there (g .0 .0 .0))
+      (g .0 .1 ∙ sym (ap (set (r .at) (r .world .position - 1)) (stays (g .0 .0 .0)) ∙ set-getD (r .at) (r .world .position - 1) 0)) (g .2) (g .3) [] (ap (λ o. rowsFrom cs o w) (originOf-edgeNumber cs o is) ∙ rowless (g .0 .0 .0)))
     where
-      o : Origin
-      o = from-idling (getD (r .at) (r .world .position - 1) 0)
+      s : ℕ
+      s = getD (r .at) (r .world .position - 1) 0
+
+      own : (d : Bool) → home (cs .homes) s ≡ r .world .position - 1 → edgeOf cs (idleFor d s) .automaton ≡ r .world .position - 1
+      own true e = e
+      own false e = e
+
+      there : (d : Bool) → edgeOf cs (idleFor d s) .source ≡ getD (r .at) (r .world .position - 1) 0
+      there true = refl
+      there false = refl
+
+      stays : (d : Bool) → edgeOf cs (idleFor d s) .target ≡ getD (r .at) (r .world .position - 1) 0
+      stays true = refl
+      stays false = refl
+
+      rowless : (d : Bool) → rowsFrom cs (idleFor d s) w ≡ []
+      rowless true = refl
+      rowless false = refl
   turn-led high time time g q₀ = record {
     end = record { locations = w .locations; position = 1; cycles = w .cycles + 1 };
     beside = record {
@@ -179,7 +197,7 @@ module _ (cs : ChartSet) (ok : Sound cs) (w : Walk) (r r₁ : Run) (b : Beside c
           is-true {b = stepFits cs timeMark w} (both-of (ltb (w .cycles) mostCycles) (timeFits cs w) in-time (of-true (eq→eqb {a = w .position} {b = length (cs .initial) + 1} (omega arith))))
 
       no-row : stepRows cs timeMark w ≡ []
-      no-row = ap (λ o. rowsFrom cs o w) (originOf-past cs timeMark (omega (arith, origins-count cs, ok .transitions-fit, ok .states-fit)))
+      no-row = ap (λ o. rowsFrom cs o w) (originOf-past cs timeMark (omega (arith, origins-few cs, ok .transitions-fit, ok .states-fit)))
 
       time-led : (rest : List ℕ) → ledBack cs (timeMark ∷ rest) w ≡ (ledBack cs rest (record { locations = w .locations; position = 1; cycles = w .cycles + 1 }) >>= λ more. val more)
       time-led rest = λ i. fault-if (not (fits i)) broken-path >>= λ _. (ledBack cs rest (record { locations = w .locations; position = 1; cycles = w .cycles + 1 }) >>= λ more. val (no-row i ++ more))

@@ -122,12 +122,12 @@ module _ (s : List ℕ) (ok : chartsRefusal s ≡ none) where
   twin-coded bytes = record {
     literals = all-imp (λ x. ltb (x .0) (length (twin cs .edges)) && codedLiteralTrigger (x .1 .trigger)) (λ x. codedLiteralTrigger (x .1 .trigger))
         (λ x t. and-right (ltb (x .0) (length (twin cs .edges))) (codedLiteralTrigger (x .1 .trigger)) t) (twin cs .literals)
-        (all-literals cs (λ l. codedLiteralTrigger (l .trigger)) (λ m t h. coded-literal-trigger t));
+        (all-literals cs (λ l. codedLiteralTrigger (l .trigger)) (λ m t h. coded-literal-trigger t) (λ m z h. tt));
     variables = all-both fitsVariable ordered (cs .variables) (twin-fits s ok bytes .variables) (variables-ordered s ok);
     nodes = nodes-known s ok;
-    updates = all-imp (λ x. ltb (x .0) (length (twin cs .edges)) && codedDeed (x .1)) (λ x. codedDeed (x .1))
-        (λ x t. and-right (ltb (x .0) (length (twin cs .edges))) (codedDeed (x .1)) t) (twin cs .updates)
-        (all-updates cs codedDeed (deeds-coded s ok 2) (deeds-coded s ok 3) (deeds-coded s ok 1));
+    updates = all-imp (λ x. ltb (x .0) (length (twin cs .edges)) && codedDeed (x .1 .deed)) (λ x. codedDeed (x .1 .deed))
+        (λ x t. and-right (ltb (x .0) (length (twin cs .edges))) (codedDeed (x .1 .deed)) t) (twin cs .updates)
+        (all-updates cs (λ a. codedDeed (a .deed)) (deeds-coded s ok 2) (deeds-coded s ok 3) (deeds-coded s ok 1) (deeds-coded s ok 4));
   }
 
 pub twin-accepted : (s : List ℕ) → T (all (λ b. ltb b 256) s) → chartsRefusal s ≡ none → automataRefusal (twinBytes s) ≡ none

@@ -1,5 +1,6 @@
 -- How many records the twin of an accepted set has of each kind: never more than an automata file may have. Assumes nothing.
 use mathlib.Core.Path.{_≡_, refl, sym, ap, _∙_}
+use mathlib.Core.Logic.{_⊎_, inl, inr}
 use mathlib.Core.Option.{none}
 use mathlib.Core.Bool.{Bool, true, false, cond, _&&_}
 use mathlib.Core.List.{List, [], _∷_, _++_, map}
@@ -9,18 +10,20 @@ use native.Mathlib.Omega.{arith}
 use borrow.Author.Tests.{ltb-true}
 use lib.Dec.{leb, ltb, eqb, eqb→eq}
 use lib.ListN.{length, length-append, length-map}
-use Rattle.prelude.specs.Lists.{keep, count, upto}
+use Rattle.prelude.specs.Lists.{keep, count, gather, upto}
 use Rattle.prelude.proofs.Counts.{length-keep}
 use Rattle.model.specs.Limits.{mostEdges, mostLiterals, mostClocks, mostUpdates, mostResets, mostPriorities, mostOwned}
 use Rattle.prelude.specs.Owned.{of}
 use Rattle.model.specs.ChartSet as C
-use Rattle.model.specs.ChartSet.{ChartSet, Trigger, readCharts, transition, noTransition}
+use Rattle.model.specs.ChartSet.{ChartSet, Trigger, readCharts, transition, noTransition, waits}
+use Rattle.model.specs.Charts.{ticks}
+use Rattle.model.specs.AutomataTable as A
 use Rattle.model.specs.ChartFile.{chartsRefusal, leavingState, between}
 use Rattle.prelude.specs.Lists.{bit}
-use Rattle.model.specs.Translation.{Origin, from-transition, from-idling, clocksOf, stateCount, transitionCount, byEdge, clockOf, literal, triedBefore, literalsOf, updatesOf, clocksLeaving, resetsOf, twin}
+use Rattle.model.specs.Translation.{Origin, from-transition, from-waiting, from-idling, clocksOf, stateCount, transitionCount, idleOrigins, origins, byEdge, transitionClocks, waitingClocks, clockOf, waitingClock, literal, triedBefore, mustNots, waitingLiteral, literalsOf, updatesOf, clocksLeaving, resetsOf, twin}
 use Rattle.prelude.proofs.Bools.{and-left, of-true, eqb-comm, eqb-ne}
 use Rattle.prelude.proofs.Lists.{length-gather, all-mapped, all-keep}
-use Rattle.model.proofs.TranslationOrigins.{origins-count, edges-count, byEdge-sum}
+use Rattle.model.proofs.TranslationOrigins.{waits-one, origins-count, idle-length, edges-count, byEdge-sum}
 use Rattle.prelude.proofs.Sums.{sumFrom, sum-le, sum-alike, sum-add, sum-most, sum-least, sum-swap, sum-zero, count-from, once-most, once-least, count-keep, count-append, count-places, count-below, distinct-few, length-gathered, length-of}
 use Rattle.model.proofs.ChartFile.{codedTransition, codedTrigger, states-few, transitions-few, transitions-coded, source-in, target-in, priority-low, priorities-differ, state-actions-few, transition-actions-few}
 
@@ -137,22 +140,61 @@ module _ (cs : ChartSet) where
 
   -- ---- of edges
 
-  -- each transition's edge has at most m, idle edges none
-  pub byEdge-most : {A : Type 0} (f : Origin → List A) (m : ℕ) → ((t : ℕ) → t < transitionCount cs → length (f (from-transition t)) ≤ m) → ((z : ℕ) → length (f (from-idling z)) ≡ 0) →
-      length (byEdge cs f) ≤ transitionCount cs * m
-  byEdge-most f m h idle =
+  -- what the edges of a state's idling have together: where it waits, the due and the other
+  idle-most : {A : Type 0} (f : Origin → List A) (z : ℕ) → length (gather f (idleOrigins cs z)) ≤ length (f (from-waiting z)) + length (f (from-idling z))
+  unfolding gather
+  idle-most f z = go (waits-one cs z)
+    where
+      go : (waits cs z ≡ []) ⊎ ((ms : ℕ) × (waits cs z ≡ ms ∷ [])) → length (gather f (idleOrigins cs z)) ≤ length (f (from-waiting z)) + length (f (from-idling z))
+      go (inl w) = omega (arith, ap (λ l. length (gather f (map (λ _. from-waiting z) l ++ (from-idling z ∷ [])))) w, length-append (f (from-idling z)) [])
+      go (inr w) =
+          omega (
+            arith,
+            ap (λ l. length (gather f (map (λ _. from-waiting z) l ++ (from-idling z ∷ [])))) (w .1),
+            length-append (f (from-waiting z)) (f (from-idling z) ++ []),
+            length-append (f (from-idling z)) [],
+          )
+
+  -- each transition's edge has at most m, those of each state's idling k
+  pub byEdge-most : {A : Type 0} (f : Origin → List A) (m k : ℕ) → ((t : ℕ) → t < transitionCount cs → length (f (from-transition t)) ≤ m) →
+      ((z : ℕ) → z < stateCount cs → length (f (from-waiting z)) + length (f (from-idling z)) ≤ k) → length (byEdge cs f) ≤ transitionCount cs * m + stateCount cs * k
+  byEdge-most f m k h idle =
       omega (
         arith,
         byEdge-sum cs f,
         sum-most (λ t. length (f (from-transition t))) m 0 (transitionCount cs) (λ t l. h t (omega arith)),
-        sum-alike (λ z. length (f (from-idling z))) (λ z. 0) 0 (stateCount cs) (λ z a b. idle z),
-        sum-zero 0 (stateCount cs),
+        sum-most (λ z. length (gather f (idleOrigins cs z))) k 0 (stateCount cs) (λ z l. le-trans (idle-most f z) (idle z (omega arith))),
+      )
+
+  -- ---- edges
+
+  waits-few : (z : ℕ) → length (waits cs z) ≤ 1
+  waits-few z = go (waits-one cs z)
+    where
+      go : (waits cs z ≡ []) ⊎ ((ms : ℕ) × (waits cs z ≡ ms ∷ [])) → length (waits cs z) ≤ 1
+      go (inl w) = omega (arith, ap length w)
+      go (inr w) = omega (arith, ap length (w .1))
+
+  pub origins-few : length (origins cs) ≤ transitionCount cs + stateCount cs * 2
+  origins-few =
+      omega (
+        arith,
+        origins-count cs,
+        length-gathered (idleOrigins cs) 0 (stateCount cs),
+        sum-most (λ z. length (idleOrigins cs z)) 2 0 (stateCount cs) (λ z l. omega (arith, idle-length cs z, waits-few z)),
       )
 
   -- ---- clocks
 
-  pub clocks-length : length (twin cs .clocks) ≤ transitionCount cs
-  clocks-length = length-gather (λ x. clocksOf (x .trigger)) (λ x. clocksOf-few (x .trigger)) (cs .transitions)
+  pub clocks-length : length (twin cs .clocks) ≤ transitionCount cs + stateCount cs
+  clocks-length =
+      omega (
+        arith,
+        length-append (transitionClocks cs) (gather (waitingClocks cs) (upto (stateCount cs))),
+        length-gather (λ x. clocksOf (x .trigger)) (λ x. clocksOf-few (x .trigger)) (cs .transitions),
+        length-gathered (waitingClocks cs) 0 (stateCount cs),
+        sum-most (λ z. length (waitingClocks cs z)) 1 0 (stateCount cs) (λ z l. omega (arith, length-map {B = A.Clock} (waits cs z) (λ ms. record { timing = A.every; ticks = ticks ms }), waits-few z)),
+      )
 
   pub clocksLeaving-length : (z : ℕ) → length (clocksLeaving cs z) ≤ leavers z
   clocksLeaving-length z =
@@ -182,10 +224,10 @@ module _ (s : List ℕ) (ok : chartsRefusal s ≡ none) where
       )
 
   pub edges-few : length (twin cs .edges) ≤ mostEdges
-  edges-few = omega (arith, edges-count cs, origins-count cs, transitions-few s ok, states-few s ok)
+  edges-few = omega (arith, edges-count cs, origins-few cs, transitions-few s ok, states-few s ok)
 
   pub clocks-few : length (twin cs .clocks) ≤ mostClocks
-  clocks-few = le-trans (clocks-length cs) (transitions-few s ok)
+  clocks-few = omega (arith, clocks-length cs, transitions-few s ok, states-few s ok)
 
   -- of one edge
   pub updatesOf-few : (t : ℕ) → t < transitionCount cs → length (updatesOf cs (from-transition t)) ≤ 3 * mostOwned
@@ -197,7 +239,9 @@ module _ (s : List ℕ) (ok : chartsRefusal s ≡ none) where
         length-of source (cs .exits),
         length-of t (cs .transition-actions),
         length-of target (cs .entries),
+        count-append (λ x. eqb (x .0) source) (cs .entries ++ cs .exits) (cs .waiting-actions),
         count-append (λ x. eqb (x .0) source) (cs .entries) (cs .exits),
+        count-append (λ x. eqb (x .0) target) (cs .entries ++ cs .exits) (cs .waiting-actions),
         count-append (λ x. eqb (x .0) target) (cs .entries) (cs .exits),
         state-actions-few s ok source (source-in s ok t h),
         state-actions-few s ok target (target-in s ok t h),
@@ -210,8 +254,19 @@ module _ (s : List ℕ) (ok : chartsRefusal s ≡ none) where
       target : ℕ
       target = transition cs t .target
 
-  pub resetsOf-few : (t : ℕ) → t < transitionCount cs → length (resetsOf cs (from-transition t)) ≤ mostPriorities
-  resetsOf-few t h = le-trans (clocksLeaving-length cs (transition cs t .target)) (leavers-few (transition cs t .target) (target-in s ok t h))
+  pub waitingUpdates-few : (z : ℕ) → z < stateCount cs → length (updatesOf cs (from-waiting z)) ≤ mostOwned
+  waitingUpdates-few z h = omega (arith, length-of z (cs .waiting-actions), count-append (λ x. eqb (x .0) z) (cs .entries ++ cs .exits) (cs .waiting-actions), state-actions-few s ok z h)
+
+  pub resetsOf-few : (t : ℕ) → t < transitionCount cs → length (resetsOf cs (from-transition t)) ≤ mostPriorities + 1
+  resetsOf-few t h =
+      omega (
+        arith,
+        length-append (clocksLeaving cs (transition cs t .target)) (map (λ _. waitingClock cs (transition cs t .target)) (waits cs (transition cs t .target))),
+        length-map (waits cs (transition cs t .target)) (λ _. waitingClock cs (transition cs t .target)),
+        waits-few cs (transition cs t .target),
+        clocksLeaving-length cs (transition cs t .target),
+        leavers-few (transition cs t .target) (target-in s ok t h),
+      )
 
   -- its must-nots, and its own
   pub literalsOf-few : (t : ℕ) → t < transitionCount cs → length (literalsOf cs (from-transition t)) ≤ nots cs t + 1
@@ -224,17 +279,29 @@ module _ (s : List ℕ) (ok : chartsRefusal s ≡ none) where
         count-from (before cs (transition cs t .source) (transition cs t .priority)) 0 (transitionCount cs),
       )
 
-  pub idleLiterals-few : (z : ℕ) → length (literalsOf cs (from-idling z)) ≤ leavers cs z
-  idleLiterals-few z = rw (length-map (triedBefore cs z (mostPriorities + 1)) (literal cs false)) (triedBefore-leavers cs z (mostPriorities + 1) (omega arith))
+  mustNots-few : (z : ℕ) → length (mustNots cs z) ≤ leavers cs z
+  mustNots-few z = rw (length-map (triedBefore cs z (mostPriorities + 1)) (literal cs false)) (triedBefore-leavers cs z (mostPriorities + 1) (omega arith))
+
+  -- of the idling in a state: the must-nots and the clock, twice
+  pub idleLiterals-few : (z : ℕ) → length (literalsOf cs (from-waiting z)) + length (literalsOf cs (from-idling z)) ≤ leavers cs z + leavers cs z + 2
+  idleLiterals-few z =
+      omega (
+        arith,
+        length-append (mustNots cs z) (waitingLiteral cs true z ∷ []),
+        length-append (mustNots cs z) (map (λ _. waitingLiteral cs false z) (waits cs z)),
+        length-map (waits cs z) (λ _. waitingLiteral cs false z),
+        waits-few cs z,
+        mustNots-few z,
+      )
 
   -- all together
   pub updates-few : length (twin cs .updates) ≤ mostUpdates
-  updates-few = omega (arith, byEdge-most cs (updatesOf cs) (3 * mostOwned) updatesOf-few (λ z. refl), transitions-few s ok)
+  updates-few = omega (arith, byEdge-most cs (updatesOf cs) (3 * mostOwned) mostOwned updatesOf-few (λ z h. omega (arith, waitingUpdates-few z h)), transitions-few s ok, states-few s ok)
 
   pub resets-few : length (twin cs .resets) ≤ mostResets
-  resets-few = omega (arith, byEdge-most cs (resetsOf cs) mostPriorities resetsOf-few (λ z. refl), transitions-few s ok)
+  resets-few = omega (arith, byEdge-most cs (resetsOf cs) (mostPriorities + 1) 0 resetsOf-few (λ z h. omega arith), transitions-few s ok, states-few s ok)
 
-  -- Two transitions have at most 15 must-nots and 2 literals of their own, and idle edges have 2 for them: 19 for two, 2,432 for 256.
+  -- Two transitions have at most 15 must-nots and 2 literals of their own, and the idle edges of their states 4 for them: 21 for two, 2,688 for 256; and the clocks of 128 states are read twice, 2,944 in all.
   pub literals-few : length (twin cs .literals) ≤ mostLiterals
   literals-few =
       omega (
@@ -243,7 +310,11 @@ module _ (s : List ℕ) (ok : chartsRefusal s ≡ none) where
         sum-le (λ t. length (literalsOf cs (from-transition t))) (λ t. nots cs t + 1) 0 (transitionCount cs) (λ t l. literalsOf-few t (omega arith)),
         sum-add (nots cs) (λ t. 1) 0 (transitionCount cs),
         sum-most (λ t. 1) 1 0 (transitionCount cs) (λ t l. omega arith),
-        sum-le (λ z. length (literalsOf cs (from-idling z))) (leavers cs) 0 (stateCount cs) (λ z l. idleLiterals-few z),
+        sum-le (λ z. length (gather (literalsOf cs) (idleOrigins cs z))) (λ z. leavers cs z + leavers cs z + 2) 0 (stateCount cs) (λ z l. le-trans (idle-most cs (literalsOf cs) z) (idleLiterals-few z)),
+        sum-add (λ z. leavers cs z + leavers cs z) (λ z. 2) 0 (stateCount cs),
+        sum-add (leavers cs) (leavers cs) 0 (stateCount cs),
+        sum-most (λ z. 2) 2 0 (stateCount cs) (λ z l. omega arith),
+        states-few s ok,
         leavers-sum cs (stateCount cs),
         leavers-pairs cs,
         sum-most (λ t. leavers cs (transition cs t .source)) mostPriorities 0 (transitionCount cs) (λ t l. leavers-few (transition cs t .source) (source-in s ok t (omega arith))),

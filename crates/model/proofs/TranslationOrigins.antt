@@ -1,38 +1,55 @@
 -- Origins and the numbers of their edges: what stands above goes by an origin, never by a sum of counts. Assumes nothing.
 use mathlib.Core.Path.{_≡_, refl, sym, ap, _∙_, subst}
+use mathlib.Core.Logic.{_⊎_, inl, inr}
 use mathlib.Core.Bool.{Bool, true, false, _&&_}
-use mathlib.Core.List.{List, map}
+use mathlib.Core.List.{List, [], _∷_, _++_, map}
 use Prim.Native.Nat.{ℕ, _+_, _-_, _≤_, _<_}
-use native.Mathlib.Nat.{zero-add}
 use native.Mathlib.Omega.{arith}
-use borrow.Author.Tests.{ltb-true, ltb-false}
-use lib.Dec.{T, ltb, lt→ltb}
-use lib.ListN.{length, length-append, length-map, List·getD-append, List·getD-eq-default}
-use Rattle.prelude.specs.Lists.{all, upto}
+use borrow.Author.Tests.{ltb-true, ltb-false, eqb-true, eqb-false}
+use lib.Dec.{T, ltb, eqb, lt→ltb}
+use lib.ListN.{length, getD, take, length-append, length-map, List·getD-append, List·getD-eq-default}
+use Rattle.prelude.specs.Lists.{all, gather, upto}
 use Rattle.prelude.specs.Owned.{of}
-use Rattle.model.specs.ChartSet.{ChartSet}
+use Rattle.model.specs.ChartSet.{ChartSet, waits}
 use Rattle.model.specs.AutomataTable.{Edge, noEdge, edge}
-use Rattle.model.specs.Translation.{Origin, from-transition, from-idling, stateCount, transitionCount, origins, edgeNumber, originOf, edgeOf, byEdge, twin}
+use Rattle.model.specs.Translation.{Origin, from-transition, from-waiting, from-idling, stateCount, transitionCount, idleOrigins, origins, firstIdle, edgeNumber, originOf, edgeOf, byEdge, twin}
 use Rattle.prelude.proofs.Bools.{both-of}
 use Rattle.prelude.proofs.Counts.{is-table}
-use Rattle.prelude.proofs.Lists.{of-byOwner, getD-map-upto, getD-append-at, getD-mapped, length-map-upto, all-append, all-numbers, all-mapped, all-imp, all-owned}
-use Rattle.prelude.proofs.Sums.{sumFrom, sum-alike, sum-append, sum-moved, length-owned}
+use Rattle.prelude.proofs.Lists.{of-byOwner, getD-map-upto, getD-append-at, getD-mapped, length-map-upto, all-append, all-numbers, all-mapped, all-imp, all-owned, all-cons, all-nil, gather-all, gather-append}
+use Rattle.prelude.proofs.Maps.{gather-map}
+use Rattle.prelude.proofs.Gathered.{gather-gather}
+use Rattle.prelude.proofs.Gathers.{before, before-less, gathered-at, gathered-place, sum-places}
+use Rattle.prelude.proofs.Sums.{sumFrom, length-gathered, length-owned}
+
+-- the origin of the idle edge that is taken, by whether the waiting actions are due
+abbrev pub idleFor : Bool → ℕ → Origin
+idleFor true s = from-waiting s
+idleFor false s = from-idling s
+
+-- a state's waiting time is one, or none
+pub waits-one : (cs : ChartSet) (s : ℕ) → (waits cs s ≡ []) ⊎ ((ms : ℕ) × (waits cs s ≡ ms ∷ []))
+waits-one cs s = go (of s (cs .waiting-times))
+  where
+    go : (l : List ℕ) → (take 1 l ≡ []) ⊎ ((ms : ℕ) × (take 1 l ≡ ms ∷ []))
+    go [] = inl refl
+    go (ms ∷ l) = inr (ms, refl)
 
 module _ (cs : ChartSet) where
-  -- the transitions, then the idlings
+  -- the transitions, then of each state those of its idling
   abbrev transitions : List Origin
   transitions = map from-transition (upto (transitionCount cs))
 
   abbrev idlings : List Origin
-  idlings = map from-idling (upto (stateCount cs))
+  idlings = gather (idleOrigins cs) (upto (stateCount cs))
 
   -- an origin of this set
   abbrev pub IsOrigin : Origin → Type 0
   IsOrigin (from-transition t) = t < transitionCount cs
+  IsOrigin (from-waiting s) = (s < stateCount cs) × ((ms : ℕ) × (waits cs s ≡ ms ∷ []))
   IsOrigin (from-idling s) = s < stateCount cs
 
-  pub origins-count : length (origins cs) ≡ transitionCount cs + stateCount cs
-  origins-count = length-append transitions idlings ∙ rw (length-map-upto from-transition (transitionCount cs), length-map-upto from-idling (stateCount cs))
+  pub origins-count : length (origins cs) ≡ firstIdle cs (stateCount cs)
+  origins-count = length-append transitions idlings ∙ ap (λ n. n + length idlings) (length-map-upto from-transition (transitionCount cs))
 
   pub edges-count : length (twin cs .edges) ≡ length (origins cs)
   edges-count = length-map (origins cs) (edgeOf cs)
@@ -43,40 +60,72 @@ module _ (cs : ChartSet) where
 
   -- ---- an origin's number, and back
 
+  -- of the origins of a state's idling, the j-th
+  module _ (s j : ℕ) (h : s < stateCount cs) (l : j < length (idleOrigins cs s)) where
+    idle-in : firstIdle cs s + j < length (origins cs)
+    idle-in = omega (arith, origins-count, before-less (idleOrigins cs) (stateCount cs) s h)
+
+    idle-at : originOf cs (firstIdle cs s + j) ≡ getD (idleOrigins cs s) j (from-idling 0)
+    idle-at =
+        ap (originOf cs) (let e : firstIdle cs s + j ≡ transitionCount cs + (before (idleOrigins cs) s + j) = omega arith in e)
+        ∙ getD-append-at transitions idlings (transitionCount cs) (before (idleOrigins cs) s + j) (from-idling 0) (length-map-upto from-transition (transitionCount cs))
+        ∙ gathered-at (idleOrigins cs) (stateCount cs) s j (from-idling 0) h l
+
+  -- where one waits, both stand; else the idling alone
+  pub idle-length : (s : ℕ) → length (idleOrigins cs s) ≡ length (waits cs s) + 1
+  idle-length s = length-append (map (λ _. from-waiting s) (waits cs s)) (from-idling s ∷ []) ∙ ap (λ n. n + 1) (length-map (waits cs s) (λ _. from-waiting s))
+
   pub edgeNumber-in : (o : Origin) → IsOrigin o → edgeNumber cs o < length (origins cs)
   edgeNumber-in (from-transition t) h = omega (arith, origins-count)
-  edgeNumber-in (from-idling s) h = omega (arith, origins-count)
+  edgeNumber-in (from-waiting s) h = omega (arith, idle-in s 0 (h .0) (omega (arith, idle-length s)))
+  edgeNumber-in (from-idling s) h = idle-in s (length (waits cs s)) h (omega (arith, idle-length s))
 
   pub originOf-edgeNumber : (o : Origin) → IsOrigin o → originOf cs (edgeNumber cs o) ≡ o
   originOf-edgeNumber (from-transition t) h =
       List·getD-append transitions idlings (from-idling 0) t (rw (length-map-upto from-transition (transitionCount cs)) h) ∙ getD-map-upto from-transition (from-idling 0) (transitionCount cs) t h
+  originOf-edgeNumber (from-waiting s) h =
+      ap (originOf cs) (let e : firstIdle cs s ≡ firstIdle cs s + 0 = omega arith in e)
+      ∙ idle-at s 0 (h .0) (omega (arith, idle-length s))
+      ∙ ap (λ l. getD (map (λ _. from-waiting s) l ++ (from-idling s ∷ [])) 0 (from-idling 0)) (h .1 .1)
   originOf-edgeNumber (from-idling s) h =
-      getD-append-at transitions idlings (transitionCount cs) s (from-idling 0) (length-map-upto from-transition (transitionCount cs)) ∙ getD-map-upto from-idling (from-idling 0) (stateCount cs) s h
+      idle-at s (length (waits cs s)) h (omega (arith, idle-length s))
+      ∙ ap (λ n. getD (idleOrigins cs s) n (from-idling 0)) (let e : length (waits cs s) ≡ length (waits cs s) + 0 = omega arith in e)
+      ∙ getD-append-at (map (λ _. from-waiting s) (waits cs s)) (from-idling s ∷ []) (length (waits cs s)) 0 (from-idling 0) (length-map (waits cs s) (λ _. from-waiting s))
 
   pub originOf-past : (e : ℕ) → length (origins cs) ≤ e → originOf cs e ≡ from-idling 0
   originOf-past e h = List·getD-eq-default (origins cs) (from-idling 0) h
-
-  -- from the transitions' edges on there are idlings alone
-  pub originOf-idling : (e : ℕ) → transitionCount cs ≤ e → (s : ℕ) × (originOf cs e ≡ from-idling s)
-  originOf-idling e h = go (ltb e (length (origins cs))) refl
-    where
-      go : (b : Bool) → ltb e (length (origins cs)) ≡ b → (s : ℕ) × (originOf cs e ≡ from-idling s)
-      go true q =
-          let l : e < length (origins cs) = ltb-true e (length (origins cs)) q in
-          let back : e ≡ transitionCount cs + (e - transitionCount cs) = omega arith in
-          (e - transitionCount cs, ap (originOf cs) back ∙ originOf-edgeNumber (from-idling (e - transitionCount cs)) (omega (arith, origins-count)))
-      go false q = (0, originOf-past e (ltb-false e (length (origins cs)) q))
 
   -- every edge has its origin: what holds of all origins' edges holds of all edges
   pub by-origin : (P : ℕ → Type 0) → ((o : Origin) → IsOrigin o → P (edgeNumber cs o)) → (e : ℕ) → e < length (origins cs) → P e
   by-origin P f e h = go (ltb e (transitionCount cs)) refl
     where
+      idle : (s j : ℕ) → s < stateCount cs → j < length (idleOrigins cs s) → e ≡ firstIdle cs s + j → (waits cs s ≡ []) ⊎ ((ms : ℕ) × (waits cs s ≡ ms ∷ [])) → P e
+      idle s j i l q (inl w) = subst P (sym (q ∙ omega (arith, idle-length s, ap length w))) (f (from-idling s) i)
+      idle s j i l q (inr w) = two (eqb j 0) refl
+        where
+          two : (b : Bool) → eqb j 0 ≡ b → P e
+          two true z = subst P (sym (q ∙ omega (arith, eqb-true j 0 z))) (f (from-waiting s) (i, w))
+          two false z = subst P (sym (q ∙ omega (arith, eqb-false j 0 z, idle-length s, ap length (w .1)))) (f (from-idling s) i)
+
       go : (b : Bool) → ltb e (transitionCount cs) ≡ b → P e
       go true q = f (from-transition e) (ltb-true e (transitionCount cs) q)
       go false q =
           let l : transitionCount cs ≤ e = ltb-false e (transitionCount cs) q in
-          let back : transitionCount cs + (e - transitionCount cs) ≡ e = omega arith in
-          subst P back (f (from-idling (e - transitionCount cs)) (omega (arith, origins-count)))
+          let p = gathered-place (idleOrigins cs) (stateCount cs) (e - transitionCount cs) (omega (arith, origins-count)) in
+          idle (p .0) (p .1) (p .2) (p .3) (omega (arith, p .4)) (waits-one cs (p .0))
+
+  -- from the transitions' edges on none came of a transition
+  pub originOf-idle : {A : Type 0} (f : Origin → A) (a : A) → ((s : ℕ) → f (from-waiting s) ≡ a) → ((s : ℕ) → f (from-idling s) ≡ a) → (e : ℕ) → transitionCount cs ≤ e → f (originOf cs e) ≡ a
+  originOf-idle f a wait idle e h = go (ltb e (length (origins cs))) refl
+    where
+      go : (b : Bool) → ltb e (length (origins cs)) ≡ b → f (originOf cs e) ≡ a
+      go true q = by-origin (λ n. transitionCount cs ≤ n → f (originOf cs n) ≡ a) each e (ltb-true e (length (origins cs)) q) h
+        where
+          each : (o : Origin) → IsOrigin o → transitionCount cs ≤ edgeNumber cs o → f (originOf cs (edgeNumber cs o)) ≡ a
+          each (from-transition t) i l = absurd (omega arith)
+          each (from-waiting s) i l = ap f (originOf-edgeNumber (from-waiting s) i) ∙ wait s
+          each (from-idling s) i l = ap f (originOf-edgeNumber (from-idling s) i) ∙ idle s
+      go false q = ap f (originOf-past e (ltb-false e (length (origins cs)) q)) ∙ idle 0
 
   -- ---- what an origin's edge is, and what it has
 
@@ -92,7 +141,13 @@ module _ (cs : ChartSet) where
   all-origins p h =
       all-append p transitions idlings
       (all-numbers p from-transition 0 (transitionCount cs) (λ t l. h (from-transition t) (omega arith)))
-      (all-numbers p from-idling 0 (stateCount cs) (λ s l. h (from-idling s) (omega arith)))
+      (gather-all p (idleOrigins cs) 0 (stateCount cs) (λ s l. both s (omega arith) (waits-one cs s)))
+    where
+      both : (s : ℕ) → s < stateCount cs → (waits cs s ≡ []) ⊎ ((ms : ℕ) × (waits cs s ≡ ms ∷ [])) → T (all p (idleOrigins cs s))
+      both s l (inl w) = subst (λ x. T (all p (map (λ _. from-waiting s) x ++ (from-idling s ∷ [])))) (sym w) (all-cons p (from-idling s) [] (h (from-idling s) l) (all-nil p))
+      both s l (inr w) =
+          subst (λ x. T (all p (map (λ _. from-waiting s) x ++ (from-idling s ∷ [])))) (sym (w .1))
+          (all-cons p (from-waiting s) (from-idling s ∷ []) (h (from-waiting s) (l, w)) (all-cons p (from-idling s) [] (h (from-idling s) l) (all-nil p)))
 
   pub all-edges : (p : Edge → Bool) → ((o : Origin) → IsOrigin o → T (p (edgeOf cs o))) → T (all p (twin cs .edges))
   all-edges p h = all-mapped (λ o. p (edgeOf cs o)) p (edgeOf cs) (λ o t. t) (origins cs) (all-origins (λ o. p (edgeOf cs o)) h)
@@ -112,26 +167,12 @@ module _ (cs : ChartSet) where
 
   -- ---- how many
 
-  -- what the transitions' edges have, and what the idle ones have
+  -- what the transitions' edges have, and what those of each state's idling have
   pub byEdge-sum : {A : Type 0} (f : Origin → List A) →
-      length (byEdge cs f) ≡ sumFrom (λ t. length (f (from-transition t))) 0 (transitionCount cs) + sumFrom (λ z. length (f (from-idling z))) 0 (stateCount cs)
+      length (byEdge cs f) ≡ sumFrom (λ t. length (f (from-transition t))) 0 (transitionCount cs) + sumFrom (λ z. length (gather f (idleOrigins cs z))) 0 (stateCount cs)
   byEdge-sum f =
       length-owned (length (origins cs)) (λ e. f (originOf cs e))
-      ∙ ap (sumFrom size 0) origins-count
-      ∙ sum-append size 0 (transitionCount cs) (stateCount cs)
-      ∙ (λ i. sum-alike size (λ t. length (f (from-transition t))) 0 (transitionCount cs) (λ t a b. ap (λ o. length (f o)) (originOf-edgeNumber (from-transition t) (omega arith))) i + idles i)
-    where
-      size : ℕ → ℕ
-      size e = length (f (originOf cs e))
-
-      idle : (e : ℕ) → transitionCount cs ≤ e → e < transitionCount cs + stateCount cs → size e ≡ length (f (from-idling (e - transitionCount cs)))
-      idle e a b =
-          let back : e ≡ transitionCount cs + (e - transitionCount cs) = omega arith in
-          ap (λ n. length (f (originOf cs n))) back ∙ ap (λ o. length (f o)) (originOf-edgeNumber (from-idling (e - transitionCount cs)) (omega arith))
-
-      idles : sumFrom size (0 + transitionCount cs) (stateCount cs) ≡ sumFrom (λ z. length (f (from-idling z))) 0 (stateCount cs)
-      idles =
-          ap (λ k. sumFrom size k (stateCount cs)) (zero-add (transitionCount cs))
-          ∙ sum-alike size (λ e. length (f (from-idling (e - transitionCount cs)))) (transitionCount cs) (stateCount cs) idle
-          ∙ ap (λ k. sumFrom (λ e. length (f (from-idling (e - transitionCount cs)))) k (stateCount cs)) (let d : transitionCount cs ≡ transitionCount cs + 0 = omega arith in d)
-          ∙ sum-moved (λ z. length (f (from-idling z))) (transitionCount cs) 0 (stateCount cs)
+      ∙ sum-places f (from-idling 0) (origins cs)
+      ∙ ap length (gather-append f transitions idlings)
+      ∙ length-append (gather f transitions) (gather f idlings)
+      ∙ (λ i. (ap length (gather-map from-transition f (upto (transitionCount cs))) ∙ length-gathered (λ t. f (from-transition t)) 0 (transitionCount cs)) i + (ap length (gather-gather f (idleOrigins cs) (upto (stateCount cs))) ∙ length-gathered (λ z. gather f (idleOrigins cs z)) 0 (stateCount cs)) i)

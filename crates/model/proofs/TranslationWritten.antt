@@ -13,17 +13,17 @@ use Rattle.records.specs.Bytes.{byte, two, two±, four±, cut, records, kind, o
 use Rattle.records.proofs.RoundTrips.{of-bytes, two-low, two±-low, four±-low}
 use Rattle.expressions.specs.Nodes as N
 use Rattle.expressions.specs.Nodes.{readNode}
-use Rattle.model.specs.Runs.{Deed, assign, raise}
+use Rattle.model.specs.Runs.{Deed, assign, raise, Action}
 use Rattle.model.specs.ChartSet.{ChartSet, readCharts, readVariable}
-use Rattle.model.specs.ChartFile.{chartsRefusal, between, guardNamed, deedNamed}
+use Rattle.model.specs.ChartFile.{chartsRefusal, between, guardNamed, deedNamed, actionNamed}
 use Rattle.model.specs.AutomataTable as A
 use Rattle.model.specs.AutomataTable.{Edge, Literal, LiteralTrigger, Clock, readAutomata}
 use Rattle.model.specs.AutomataFile.{literalTriggerNamed}
 use Rattle.model.specs.Translation.{stateCount, twin, twinBytes}
 use Rattle.prelude.proofs.Bools.{and-left, and-right, both-of, is-true}
 use Rattle.prelude.proofs.Lists.{all-take, all-drop, all-keep, all-imp, all-mapped, all-cons, all-nil, case-all}
-use Rattle.model.proofs.AutomataTableRead.{short, fitsLiteralTrigger, fitsGuard, fitsEdge, fitsLiteral, fitsVariable, fitsNode, fitsDeed, Fits, readAutomata-written}
-use Rattle.model.proofs.ChartFile.{states-few, nodes-few, initial-named, three-of}
+use Rattle.model.proofs.AutomataTableRead.{short, fitsLiteralTrigger, fitsGuard, fitsEdge, fitsLiteral, fitsVariable, fitsNode, fitsDeed, fitsUpdate, Fits, readAutomata-written}
+use Rattle.model.proofs.ChartFile.{states-few, nodes-few, initial-named, three-of, target-in}
 use Rattle.model.proofs.TranslationCounts.{edges-few, clocks-few}
 use Rattle.model.proofs.TranslationNames.{edgeNamed, literalNamed, updateNamed, resetNamed, edges-named, literals-named, updates-named, resets-named, twin-ticks}
 
@@ -109,11 +109,14 @@ module _ (s : List ℕ) (ok : chartsRefusal s ≡ none) where
   clock-fits : (c : Clock) → T (between 1 36_000 (c .ticks)) → T (short (c .ticks))
   clock-fits c t = let l : c .ticks ≤ 36_000 = leb→le (c .ticks) 36_000 (and-right (leb 1 (c .ticks)) (leb (c .ticks) 36_000) t) in lt→ltb (c .ticks) 65536 (omega arith)
 
-  update-fits : (x : ℕ × Deed) → T (updateNamed (twin cs) x) → T (short (x .0) && fitsDeed (x .1))
+  update-fits : (x : ℕ × Action) → T (updateNamed (twin cs) x) → T (fitsUpdate x)
   update-fits x t =
-      both-of (short (x .0)) (fitsDeed (x .1))
-      (small (x .0) (length (twin cs .edges)) edges-short (and-left (ltb (x .0) (length (twin cs .edges))) (deedNamed (length (cs .variables)) (length (cs .nodes)) (x .1)) t))
-      (deed-fits (length (cs .variables)) (length (cs .nodes)) (x .1) (omega (arith, nodes-short)) (and-right (ltb (x .0) (length (twin cs .edges))) (deedNamed (length (cs .variables)) (length (cs .nodes)) (x .1)) t))
+      let named : T (actionNamed (length (cs .variables)) (length (cs .nodes)) (x .1)) = and-right (ltb (x .0) (length (twin cs .edges))) (actionNamed (length (cs .variables)) (length (cs .nodes)) (x .1)) t in
+      both-of (short (x .0) && fitsGuard (x .1 .guard)) (fitsDeed (x .1 .deed))
+      (both-of (short (x .0)) (fitsGuard (x .1 .guard))
+      (small (x .0) (length (twin cs .edges)) edges-short (and-left (ltb (x .0) (length (twin cs .edges))) (actionNamed (length (cs .variables)) (length (cs .nodes)) (x .1)) t))
+      (guard-fits (length (cs .nodes)) (x .1 .guard) nodes-short (and-left (guardNamed (length (cs .nodes)) (x .1 .guard)) (deedNamed (length (cs .variables)) (length (cs .nodes)) (x .1 .deed)) named)))
+      (deed-fits (length (cs .variables)) (length (cs .nodes)) (x .1 .deed) (omega (arith, nodes-short)) (and-right (guardNamed (length (cs .nodes)) (x .1 .guard)) (deedNamed (length (cs .variables)) (length (cs .nodes)) (x .1 .deed)) named))
 
   reset-fits : (x : ℕ × ℕ) → T (resetNamed (twin cs) x) → T (short (x .0) && short (x .1))
   reset-fits x t =
@@ -129,8 +132,8 @@ module _ (s : List ℕ) (ok : chartsRefusal s ≡ none) where
     clocks = all-imp (λ c. between 1 36_000 (c .ticks)) (λ c. short (c .ticks)) clock-fits (twin cs .clocks) (twin-ticks s ok);
     variables = all-mapped ofBytes fitsVariable readVariable variable-fits (ofKind 4 s) (kind-bytes s bytes 4);
     nodes = all-mapped ofBytes fitsNode readNode node-fits (ofKind 5 s) (kind-bytes s bytes 5);
-    updates = all-imp (updateNamed (twin cs)) (λ u. short (u .0) && fitsDeed (u .1)) update-fits (twin cs .updates) (updates-named s ok);
-    resets = all-imp (resetNamed (twin cs)) (λ x. short (x .0) && short (x .1)) reset-fits (twin cs .resets) (resets-named cs);
+    updates = all-imp (updateNamed (twin cs)) fitsUpdate update-fits (twin cs .updates) (updates-named s ok);
+    resets = all-imp (resetNamed (twin cs)) (λ x. short (x .0) && short (x .1)) reset-fits (twin cs .resets) (resets-named cs (target-in s ok));
   }
 
 -- the twin's file says what the translation is

@@ -8,7 +8,7 @@ use Rattle.prelude.specs.Lists.{keep, mapFrom, upto}
 use Rattle.records.specs.Refusal.{none-open, many-open, Out, val, fault, _>>=_, choose}
 use Rattle.model.specs.Limits.{mostClocks}
 use Rattle.prelude.specs.Owned.{of}
-use Rattle.model.specs.Runs.{Run, present, deeds, guardHolds, Answer, taken, Machine, Runs}
+use Rattle.model.specs.Runs.{Run, present, actions, guardHolds, Answer, taken, Machine, Runs}
 use Rattle.model.specs.AutomataTable.{LiteralTrigger, always, event, clock, Literal, Timing, after, every, Automata, edge, clockAt, AutomataTable}
 
 -- ---- time
@@ -75,7 +75,7 @@ module _ (au : Automata) where
   edgeStep a r = do
     es ← openEdges a r
     e ← theOne es
-    w ← deeds (au .nodes) (au .variables) (of e (au .updates)) (r .world)
+    w ← actions (au .nodes) (au .variables) (of e (au .updates)) (r .world)
     val (taken e, record { at = set (r .at) a (edge au e .target); timers = reset (of e (au .resets)) (r .timers); world = w })
 
   abbrev pub clocksGrown : Run → List ℕ

@@ -14,7 +14,7 @@ use Rattle.expressions.specs.Sorts.{sortOf, isNumber, isTruth, nodesNamed, oper
 use Rattle.model.specs.Limits.{mostCharts, mostStates, mostVariables, mostNodes, mostEdges, mostLiterals, mostClocks, mostUpdates, mostResets, mostTicks}
 use Rattle.model.specs.Owned.{home}
 use Rattle.model.specs.AutomataTable.{LiteralTrigger, always, event, clock, Automata, readAutomata, AutomataTable}
-use Rattle.model.specs.ChartFile.{unusedAreZero, unusedVariable, unusedNode, between, isEvent, variableInCode, nodeInCode, deedInCode, guardNamed, deedNamed, guardNodes, assignedNodes}
+use Rattle.model.specs.ChartFile.{unusedAreZero, unusedVariable, unusedNode, between, isEvent, variableInCode, nodeInCode, deedInCode, guardNamed, actionNamed, guardNodes, assignedNodes}
 
 -- ---- "1 to 6 read for kinds 33 to 41"
 
@@ -27,7 +27,7 @@ abbrev pub unusedLiteral : List ℕ → List (ℕ × ℕ)
 unusedLiteral r = (10, 15) ∷ caseOf (byte r 4) ((0, (5, 7) ∷ []) ∷ (1, (6, 7) ∷ []) ∷ (2, (5, 5) ∷ []) ∷ []) []
 
 abbrev pub unusedUpdate : List ℕ → List (ℕ × ℕ)
-unusedUpdate r = (5, 5) ∷ (8, 15) ∷ caseOf (byte r 1) ((2, (6, 7) ∷ []) ∷ []) []
+unusedUpdate r = (5, 5) ∷ (10, 15) ∷ caseOf (byte r 1) ((2, (6, 7) ∷ []) ∷ []) []
 
 abbrev pub unusedInTable : List ℕ → List (ℕ × ℕ)
 unusedInTable r =
@@ -79,7 +79,7 @@ tableNamed au =
     && all (λ e. ltb (e .automaton) automata && ltb (e .source) locations && ltb (e .target) locations) (au .edges)
     && all (λ x. ltb (x .0) edges && literalTriggerNamed clocks (x .1 .trigger) && guardNamed nodes (x .1 .guard)) (au .literals)
     && nodesNamed (nodeOf (au .nodes)) nodes variables
-    && all (λ x. ltb (x .0) edges && deedNamed variables nodes (x .1)) (au .updates)
+    && all (λ x. ltb (x .0) edges && actionNamed variables nodes (x .1)) (au .updates)
     && all (λ x. ltb (x .0) edges && ltb (x .1) clocks) (au .resets)
 
 -- ---- the rest
@@ -99,12 +99,13 @@ module _ (au : Automata) where
   abbrev pub idleEdgesStay : Bool
   idleEdgesStay = all (λ e. not (e .idles) || eqb (e .source) (e .target)) (au .edges)
 
-  -- not "node sorts or order; a node operand twice"; a literal's guard is a truth, an update's node a number
+  -- not "node sorts or order; a node operand twice"; a literal's and an update's guard is a truth, an update's node a number
   abbrev pub tableNodesFit : Bool
   tableNodesFit =
       operandsFit (nodeOf (au .nodes)) (length (au .nodes))
       && all (λ n. isTruth (sortOf (nodeOf (au .nodes) n))) (gather (λ x. guardNodes (x .1 .guard)) (au .literals))
-      && all (λ n. isNumber (sortOf (nodeOf (au .nodes) n))) (gather (λ x. assignedNodes (x .1)) (au .updates))
+      && all (λ n. isTruth (sortOf (nodeOf (au .nodes) n))) (gather (λ x. guardNodes (x .1 .guard)) (au .updates))
+      && all (λ n. isNumber (sortOf (nodeOf (au .nodes) n))) (gather (λ x. assignedNodes (x .1 .deed)) (au .updates))
       && all (λ n. leb (operandUses (nodeOf (au .nodes)) (length (au .nodes)) n) 1) (upto (length (au .nodes)))
 
 -- which of them apply, in the paper's order; the number is 11 whichever it is

@@ -2,14 +2,14 @@
 use mathlib.Core.Option.{Option, some, none}
 use mathlib.Core.Bool.{Bool, false, cond}
 use mathlib.Core.List.{List, [], _∷_, _++_, map}
-use Prim.Native.Nat.{ℕ}
+use Prim.Native.Nat.{ℕ, _+_}
 use lib.Dec.{eqb}
 use lib.ListN.{getD}
 use Rattle.prelude.specs.Lists.{gather, caseOf, padded, Lists, bit}
 use Rattle.records.specs.Bytes.{byte, two, bytes2, bytes2±, ofKind, Bytes}
 use Rattle.expressions.specs.Nodes.{Node, readNode, writeNode}
-use Rattle.model.specs.Runs.{Variable, Deed, assign, raise}
-use Rattle.model.specs.ChartSet.{readVariable, readGuard, readDeed}
+use Rattle.model.specs.Runs.{Variable, Deed, assign, raise, Action}
+use Rattle.model.specs.ChartSet.{readVariable, readGuard, actionBy}
 
 -- a literal's trigger: "0 none, 1 event, 2 clock"
 pub data LiteralTrigger : Type 0 where
@@ -48,7 +48,7 @@ pub record Automata : Type 0 where
   pub variables : List Variable
   pub nodes : List Node
   -- each with its edge
-  pub updates : List (ℕ × Deed)
+  pub updates : List (ℕ × Action)
   pub resets : List (ℕ × ℕ)
 
 -- ---- reading
@@ -72,9 +72,9 @@ readLiteral r = (
 abbrev pub readClock : List ℕ → Clock
 readClock r = record { timing = caseOf (byte r 1) ((2, after) ∷ []) every; ticks = two r 2 }
 
--- "40 update: 1 deed, 2-3 edge, 4 variable or event, 6-7 node"
-abbrev pub readUpdate : List ℕ → ℕ × Deed
-readUpdate r = (two r 2, readDeed (byte r 1) (byte r 4) (two r 6))
+-- "40 update: 1 deed, 2-3 edge, 4 variable or event, 6-7 node", and 8-9 the guard (request 4)
+abbrev pub readUpdate : List ℕ → ℕ × Action
+readUpdate r = (two r 2, actionBy (two r 8) (byte r 1) (byte r 4) (two r 6))
 
 -- "41 reset: 2-3 edge, 4-5 clock"
 abbrev pub readReset : List ℕ → ℕ × ℕ
@@ -124,8 +124,12 @@ abbrev pub writeDeed : ℕ → Deed → List ℕ
 writeDeed e (assign v n) = 1 ∷ bytes2 e ++ (v ∷ 0 ∷ bytes2 n)
 writeDeed e (raise x) = 2 ∷ bytes2 e ++ (x ∷ 0 ∷ bytes2 0)
 
-abbrev pub writeUpdate : ℕ × Deed → List ℕ
-writeUpdate u = writeDeed (u .0) (u .1)
+abbrev pub writePlusOne : Option ℕ → List ℕ
+writePlusOne none = bytes2 0
+writePlusOne (some n) = bytes2 (n + 1)
+
+abbrev pub writeUpdate : ℕ × Action → List ℕ
+writeUpdate u = writeDeed (u .0) (u .1 .deed) ++ writePlusOne (u .1 .guard)
 
 abbrev pub writeReset : ℕ × ℕ → List ℕ
 writeReset x = 0 ∷ bytes2 (x .0) ++ bytes2 (x .1)

@@ -7,15 +7,16 @@ use lib.Dec.{leb, ltb, eqb}
 use lib.ListN.{length, getD, take, drop}
 use lib.Signed.{leZ}
 use Rattle.prelude.specs.Lists.{keep, all, any, count, caseOf, gather, upto, distinct}
-use Rattle.records.specs.Refusal.{Refusal, stray-byte, broken-code, dangling-number, broken-structure, broken-node, zero-ticks, lowest}
+use Rattle.records.specs.Refusal.{Refusal, stray-byte, broken-code, dangling-number, broken-structure, broken-node, zero-ticks, unlike-waits, lowest}
 use Rattle.records.specs.Bytes.{byte, four, two±, records, kind}
 use Rattle.framing.specs.Framing.{framingTests, Framing}
 use Rattle.expressions.specs.Nodes.{nodeOf}
 use Rattle.expressions.specs.Sorts.{sortOf, isNumber, isTruth, nodesNamed, operandsFit, operandUses, Sorts}
 use Rattle.model.specs.Limits.{mostCharts, mostStates, mostTransitions, mostVariables, mostNodes, mostActions, lastEvent, mostPriorities, mostOwned, mostMilliseconds}
+use Rattle.prelude.specs.Owned.{of}
 use Rattle.model.specs.Owned.{home}
-use Rattle.model.specs.Runs.{Deed, assign, raise}
-use Rattle.model.specs.ChartSet.{Trigger, always, event, after, every, Transition, ChartSet, readCharts, ChartSet·}
+use Rattle.model.specs.Runs.{Deed, assign, raise, Action}
+use Rattle.model.specs.ChartSet.{Trigger, always, event, after, every, Transition, ChartSet, readCharts, waits, ChartSet·}
 use Rattle.model.specs.Charts.{ticks}
 
 -- ---- 1 to 3: "Chart set, with the most of each kind", from kind 1 on
@@ -45,8 +46,12 @@ unusedNode r =
     ((1, (2, 7) ∷ []) ∷ (2, (4, 11) ∷ []) ∷ (8, (8, 11) ∷ []) ∷ (19, (4, 11) ∷ [])
     ∷ map (λ o. (o, (6, 11) ∷ [])) (3 ∷ 4 ∷ 5 ∷ 6 ∷ 7 ∷ 16 ∷ 17 ∷ 18 ∷ 20 ∷ 21 ∷ [])) []
 
+-- a place other than 4 leaves the milliseconds unused
 abbrev pub unusedAction : List ℕ → List (ℕ × ℕ)
-unusedAction r = (8, 15) ∷ caseOf (byte r 4) ((2, (6, 7) ∷ []) ∷ []) []
+unusedAction r =
+    (10, 11)
+    ∷ caseOf (byte r 1) (map (λ p. (p, (12, 15) ∷ [])) (1 ∷ 2 ∷ 3 ∷ [])) []
+    ++ caseOf (byte r 4) ((2, (6, 7) ∷ []) ∷ []) []
 
 abbrev pub unused : List ℕ → List (ℕ × ℕ)
 unused r =
@@ -93,7 +98,7 @@ abbrev pub deedInCode : ℕ → ℕ → Bool
 deedInCode code x = between 1 2 code && caseOf code ((2, isEvent x) ∷ []) true
 
 abbrev pub actionInCode : List ℕ → Bool
-actionInCode r = between 1 3 (byte r 1) && deedInCode (byte r 4) (byte r 5)
+actionInCode r = between 1 4 (byte r 1) && deedInCode (byte r 4) (byte r 5) && caseOf (byte r 1) ((4, isDuration (four r 12)) ∷ []) true
 
 abbrev pub inCode : List ℕ → Bool
 inCode r = caseOf (kind r) ((3, transitionInCode r) ∷ (4, variableInCode r) ∷ (5, nodeInCode r) ∷ (6, actionInCode r) ∷ []) true
@@ -109,9 +114,13 @@ abbrev pub deedNamed : ℕ → ℕ → Deed → Bool
 deedNamed variables nodes (assign v n) = ltb v variables && ltb n nodes
 deedNamed variables nodes (raise e) = true
 
+-- an action's or an update's
+abbrev pub actionNamed : ℕ → ℕ → Action → Bool
+actionNamed variables nodes a = guardNamed nodes (a .guard) && deedNamed variables nodes (a .deed)
+
 -- actions whose owners are of so many
-abbrev pub actionsNamed : ChartSet → ℕ → List (ℕ × Deed) → Bool
-actionsNamed cs owners actions = all (λ x. ltb (x .0) owners && deedNamed (length (cs .variables)) (length (cs .nodes)) (x .1)) actions
+abbrev pub actionsNamed : ChartSet → ℕ → List (ℕ × Action) → Bool
+actionsNamed cs owners actions = all (λ x. ltb (x .0) owners && actionNamed (length (cs .variables)) (length (cs .nodes)) (x .1)) actions
 
 abbrev pub allNamed : ChartSet → Bool
 allNamed cs =
@@ -125,6 +134,7 @@ allNamed cs =
     && actionsNamed cs states (cs .entries)
     && actionsNamed cs states (cs .exits)
     && actionsNamed cs (length (cs .transitions)) (cs .transition-actions)
+    && actionsNamed cs states (cs .waiting-actions)
 
 -- ---- 7
 
@@ -136,8 +146,8 @@ unconditional (event e) g = false
 unconditional (after ms) g = false
 unconditional (every ms) g = false
 
--- not "a ninth action" ("at most 8 an owner"; a state's entry and exit actions count together)
-abbrev pub atMostEight : List (ℕ × Deed) → ℕ → Bool
+-- not "a ninth action" ("at most 8 an owner"; a state's entry, exit and waiting actions count together)
+abbrev pub atMostEight : List (ℕ × Action) → ℕ → Bool
 atMostEight actions owner = leb (count (λ x. eqb (x .0) owner) actions) mostOwned
 
 module _ (cs : ChartSet) where
@@ -169,7 +179,7 @@ module _ (cs : ChartSet) where
       insideCharts
       && all initialFits (upto (length (cs .initial)))
       && all prioritiesDiffer (upto (length (cs .homes)))
-      && all (atMostEight (cs .entries ++ cs .exits)) (upto (length (cs .homes)))
+      && all (atMostEight (cs .entries ++ cs .exits ++ cs .waiting-actions)) (upto (length (cs .homes)))
       && all (atMostEight (cs .transition-actions)) (upto (length (cs .transitions)))
 
 -- ---- 8
@@ -183,11 +193,21 @@ assignedNodes (assign v n) = n ∷ []
 assignedNodes (raise e) = []
 
 module _ (cs : ChartSet) where
+  -- of all places
+  abbrev pub allActions : List (ℕ × Action)
+  allActions = cs .entries ++ cs .exits ++ cs .transition-actions ++ cs .waiting-actions
+
+  abbrev pub transitionGuards : List ℕ
+  transitionGuards = gather (λ t. guardNodes (t .guard)) (cs .transitions)
+
+  abbrev pub actionGuards : List ℕ
+  actionGuards = gather (λ x. guardNodes (x .1 .guard)) allActions
+
   abbrev pub guards : List ℕ
-  guards = gather (λ t. guardNodes (t .guard)) (cs .transitions)
+  guards = transitionGuards ++ actionGuards
 
   abbrev pub assigned : List ℕ
-  assigned = gather (λ x. assignedNodes (x .1)) (cs .entries ++ cs .exits ++ cs .transition-actions)
+  assigned = gather (λ x. assignedNodes (x .1 .deed)) allActions
 
   -- as an operand, a guard and an assigned node, all together
   abbrev pub uses : ℕ → ℕ
@@ -201,13 +221,21 @@ module _ (cs : ChartSet) where
       && all (λ n. isNumber (sortOf (nodeOf (cs .nodes) n))) assigned
       && all (λ n. eqb (uses n) 1) (upto (length (cs .nodes)))
 
--- ---- 9: not "timing trigger of 0 ticks"
+-- ---- 9: not "timing trigger of 0 ticks"; a waiting action's refusal 9 is that of the timing triggers (request 4)
 
 abbrev pub ticking : Trigger → Bool
 ticking always = true
 ticking (event e) = true
 ticking (after ms) = ltb 0 (ticks ms)
 ticking (every ms) = ltb 0 (ticks ms)
+
+abbrev pub allTicking : ChartSet → Bool
+allTicking cs = all (λ t. ticking (t .trigger)) (cs .transitions) && all (λ x. ltb 0 (ticks (x .1))) (cs .waiting-times)
+
+-- ---- 25: not "waiting actions of one state with different milliseconds" (request 4)
+
+abbrev pub waitAlike : ChartSet → Bool
+waitAlike cs = all (λ s. all (λ ms. all (eqb ms) (waits cs s)) (of s (cs .waiting-times))) (upto (length (cs .homes)))
 
 -- ---- all
 
@@ -220,7 +248,8 @@ chartTests s =
     ∷ (dangling-number, not (allNamed cs))
     ∷ (broken-structure, not (structured cs))
     ∷ (broken-node, not (nodesFit cs))
-    ∷ (zero-ticks, not (all (λ t. ticking (t .trigger)) (cs .transitions)))
+    ∷ (zero-ticks, not (allTicking cs))
+    ∷ (unlike-waits, not (waitAlike cs))
     ∷ [])
 
 -- why a chart file is refused, if it is

@@ -2,13 +2,14 @@
 use mathlib.Core.Option.{Option, some, none}
 use mathlib.Core.Bool.{cond}
 use mathlib.Core.List.{List, [], _∷_, map}
-use Prim.Native.Nat.{ℕ}
+use Prim.Native.Nat.{ℕ, _-_}
 use lib.Dec.{eqb}
-use lib.ListN.{getD}
+use lib.ListN.{getD, take}
 use Rattle.prelude.specs.Lists.{keep, caseOf, Lists}
+use Rattle.prelude.specs.Owned.{of}
 use Rattle.records.specs.Bytes.{byte, two, four, two±, ofKind, Bytes}
 use Rattle.expressions.specs.Nodes.{Node, readNode}
-use Rattle.model.specs.Runs.{Variable, Deed, assign, raise}
+use Rattle.model.specs.Runs.{Variable, Deed, assign, raise, Action}
 
 -- "6 trigger: 0 none, 1 event, 2 after, 3 every"; of the timing ones, milliseconds
 pub data Trigger : Type 0 where
@@ -32,9 +33,12 @@ pub record ChartSet : Type 0 where
   pub variables : List Variable
   pub nodes : List Node
   -- actions in file order, each with its owner: a state, a state, a transition
-  pub entries : List (ℕ × Deed)
-  pub exits : List (ℕ × Deed)
-  pub transition-actions : List (ℕ × Deed)
+  pub entries : List (ℕ × Action)
+  pub exits : List (ℕ × Action)
+  pub transition-actions : List (ℕ × Action)
+  -- those done while a state idles, and of each its state and its milliseconds (request 4)
+  pub waiting-actions : List (ℕ × Action)
+  pub waiting-times : List (ℕ × ℕ)
 
 -- "12-13 guard node, 65,535 for none"
 abbrev pub readGuard : ℕ → Option ℕ
@@ -58,9 +62,24 @@ readVariable r = record { lowest = two± r 2; highest = two± r 4; start = two±
 abbrev pub readDeed : ℕ → ℕ → ℕ → Deed
 readDeed code x n = caseOf code ((2, raise x) ∷ []) (assign x n)
 
--- the actions of a place: "1 place: 1 entry, 2 exit, 3 transition; 2-3 owner; 4 deed; 5 variable or event; 6-7 node"
-abbrev pub readActions : ℕ → List ℕ → List (ℕ × Deed)
-readActions place s = map (λ r. (two r 2, readDeed (byte r 4) (byte r 5) (two r 6))) (keep (λ r. eqb (byte r 1) place) (ofKind 6 s))
+-- "guard node plus one, zero for none" (request 4)
+abbrev pub readPlusOne : ℕ → Option ℕ
+readPlusOne n = cond (eqb n 0) none (some (n - 1))
+
+-- an action or update by its guard plus one and its deed
+abbrev pub actionBy : ℕ → ℕ → ℕ → ℕ → Action
+actionBy guard code x n = record { guard = readPlusOne guard; deed = readDeed code x n }
+
+-- "2-3 owner; 4 deed; 5 variable or event; 6-7 node", and 8-9 the guard (request 4)
+abbrev pub readAction : List ℕ → ℕ × Action
+readAction r = (two r 2, actionBy (two r 8) (byte r 4) (byte r 5) (two r 6))
+
+-- the actions of a place: "1 place: 1 entry, 2 exit, 3 transition", "place 4 is an action done while a state idles" (request 4)
+abbrev pub ofPlace : ℕ → List ℕ → List (List ℕ)
+ofPlace place s = keep (λ r. eqb (byte r 1) place) (ofKind 6 s)
+
+abbrev pub readActions : ℕ → List ℕ → List (ℕ × Action)
+readActions place s = map readAction (ofPlace place s)
 
 abbrev pub readCharts : List ℕ → ChartSet
 readCharts s = record {
@@ -72,6 +91,8 @@ readCharts s = record {
   entries = readActions 1 s;
   exits = readActions 2 s;
   transition-actions = readActions 3 s;
+  waiting-actions = readActions 4 s;
+  waiting-times = map (λ r. (two r 2, four r 12)) (ofPlace 4 s);
 }
 
 abbrev pub noTransition : Transition
@@ -79,6 +100,10 @@ noTransition = record { priority = 0; source = 0; target = 0; trigger = always; 
 
 abbrev pub transition : ChartSet → ℕ → Transition
 transition cs t = getD (cs .transitions) t noTransition
+
+-- the milliseconds of a state's waiting actions, which are the same for all of them (25); none where it has no such action
+abbrev pub waits : ChartSet → ℕ → List ℕ
+waits cs s = take 1 (of s (cs .waiting-times))
 
 -- what a proof that computes with these opens
 unfoldable pub ChartSet· : Type 0

@@ -5,12 +5,12 @@ use mathlib.Core.List.{List, [], _∷_}
 use Prim.Native.Nat.{ℕ, _+_, _/_, _%_}
 use lib.Dec.{leb, ltb, eqb}
 use lib.ListN.{length, getD, set}
-use Rattle.prelude.specs.Lists.{keep, sorted, mapFrom, upto}
+use Rattle.prelude.specs.Lists.{any, keep, sorted, mapFrom, upto}
 use Rattle.records.specs.Refusal.{Out, val, _>>=_, choose}
 use Rattle.model.specs.Limits.{mostCharts}
 use Rattle.prelude.specs.Owned.{of}
-use Rattle.model.specs.Runs.{World, Run, present, deeds, guardHolds, Answer, taken, idle, Machine, Runs}
-use Rattle.model.specs.ChartSet.{Trigger, always, event, after, every, ChartSet, transition, ChartSet·}
+use Rattle.model.specs.Runs.{World, Run, present, actions, guardHolds, Answer, taken, idle, Machine, Runs}
+use Rattle.model.specs.ChartSet.{Trigger, always, event, after, every, ChartSet, transition, waits, ChartSet·}
 
 -- ---- time
 
@@ -55,16 +55,25 @@ module _ (cs : ChartSet) where
   -- "Then run in sequence, each seeing the last: exit actions of the source, the transition's, entry actions of the target, each group in file order."
   abbrev pub acted : ℕ → World → Out World
   acted t w = do
-    w₁ ← deeds (cs .nodes) (cs .variables) (of (transition cs t .source) (cs .exits)) w
-    w₂ ← deeds (cs .nodes) (cs .variables) (of t (cs .transition-actions)) w₁
-    deeds (cs .nodes) (cs .variables) (of (transition cs t .target) (cs .entries)) w₂
+    w₁ ← actions (cs .nodes) (cs .variables) (of (transition cs t .source) (cs .exits)) w
+    w₂ ← actions (cs .nodes) (cs .variables) (of t (cs .transition-actions)) w₁
+    actions (cs .nodes) (cs .variables) (of (transition cs t .target) (cs .entries)) w₂
+
+  -- "Place 4 is an action done while a state idles at each positive multiple of the milliseconds" (request 4): in file order
+  abbrev pub due : ℕ → ℕ → Bool
+  due s age = any (λ ms. everyHolds (ticks ms) age) (waits cs s)
+
+  abbrev pub waited : ℕ → ℕ → World → Out World
+  waited s age w = cond (due s age) (actions (cs .nodes) (cs .variables) (of s (cs .waiting-actions)) w) (val w)
 
   -- "A state's age is 0 when it is entered, also by its own self-transition, never by idling." "With none taken the chart idles."
   abbrev pub follow : ℕ → Run → Option ℕ → Out (Answer × Run)
   follow c r (some t) = do
     w ← acted t (r .world)
     val (taken t, record { at = set (r .at) c (transition cs t .target); timers = set (r .timers) c 0; world = w })
-  follow c r none = val (idle, r)
+  follow c r none = do
+    w ← waited (getD (r .at) c 0) (getD (r .timers) c 0) (r .world)
+    val (idle, record { at = r .at; timers = r .timers; world = w })
 
   abbrev pub chartStep : ℕ → Run → Out (Answer × Run)
   chartStep c r = firstThat (transitionHolds (r .world) (getD (r .timers) c 0)) (row (getD (r .at) c 0)) >>= follow c r

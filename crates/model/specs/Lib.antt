@@ -7,7 +7,7 @@
 --                               prelude/specs/Lists, Owned      keep, all, gather, from, ..; of: what an owner has, in file order
 --                               Owned                           home: the chart of a state
 --   Values                      expressions/specs/Nodes, Values readNode, compute, compare, number, truth
---   A chart's turn              World                           Variable, World, Run, Deed, deed, deeds, guardHolds
+--   A chart's turn              World                           Variable, World, Run, Deed, Action, deed, guardHolds, action, actions
 --                               Machine                         Answer, Machine, give, start
 --                               Turns                           timePassed, stepped, turn, Call, Trace, cycle
 --                               Charts                          ticks, afterHolds, everyHolds, row, transitionHolds, acted, follow, chartStep

@@ -24,19 +24,19 @@ mostActions = 512
 -- ---- of an automata table; automata, locations, variables and nodes are those of a set
 
 abbrev pub mostEdges : ℕ
-mostEdges = 384
+mostEdges = 512
 
 abbrev pub mostLiterals : ℕ
-mostLiterals = 2432
+mostLiterals = 2944
 
 abbrev pub mostClocks : ℕ
-mostClocks = 256
+mostClocks = 384
 
 abbrev pub mostUpdates : ℕ
-mostUpdates = 6144
+mostUpdates = 7168
 
 abbrev pub mostResets : ℕ
-mostResets = 4096
+mostResets = 4352
 
 -- ---- of what a record holds
 

@@ -11,7 +11,7 @@ use Rattle.model.specs.Outcome.{Outcome, settled}
 use Rattle.model.specs.ChartSet.{ChartSet, readCharts}
 use Rattle.model.specs.ChartFile.{chartsRefusal}
 use Rattle.model.specs.AutomataTable.{edge}
-use Rattle.model.specs.Translation.{Origin, from-transition, from-idling, originOf, twin, Translation}
+use Rattle.model.specs.Translation.{Origin, from-transition, from-waiting, from-idling, originOf, twin, Translation}
 
 -- "65,535 for time"
 abbrev pub timeMark : ℕ
@@ -58,6 +58,7 @@ module _ (cs : ChartSet) where
   -- "Each edge that came of a transition gives one row. Idle edges and time give none."
   abbrev pub rowsFrom : Origin → Walk → List Row
   rowsFrom (from-transition t) w = record { cycle = w .cycles; chart = w .position - 1; transition = t } ∷ []
+  rowsFrom (from-waiting s) w = []
   rowsFrom (from-idling s) w = []
 
   abbrev pub stepRows : ℕ → Walk → List Row

@@ -7,7 +7,7 @@ use lib.Dec.{eqb}
 use lib.ListN.{getD, set}
 use lib.IntN.{ℤ, pos}
 use lib.Signed.{leZ}
-use Rattle.records.specs.Refusal.{out-of-bounds, Out, val, _>>=_, _>>_, fault-if}
+use Rattle.records.specs.Refusal.{out-of-bounds, Out, val, _>>=_, _>>_, fault-if, choose}
 use Rattle.expressions.specs.Nodes.{Node, nodeOf}
 use Rattle.expressions.specs.Values.{number, truth}
 
@@ -60,6 +60,16 @@ pub data Deed : Type 0 where
   assign : ℕ → ℕ → Deed
   raise : ℕ → Deed
 
+-- "Bytes 8-9 of an action hold its guard node plus one, zero for none"; "an update carries the same bytes" (request 4).
+pub record Action : Type 0 where
+  pub guard : Option ℕ
+  pub deed : Deed
+
+-- a guard: a truth, or none, which holds
+abbrev pub guardHolds : List Node → List ℤ → Option ℕ → Out Bool
+guardHolds nodes vars none = val true
+guardHolds nodes vars (some n) = truth (nodeOf nodes) vars n
+
 module _ (nodes : List Node) (variables : List Variable) where
   -- "17: assigned value outside its variable"
   abbrev pub deed : Deed → World → Out World
@@ -69,12 +79,11 @@ module _ (nodes : List Node) (variables : List Variable) where
     val (setVar v z w)
   deed (raise e) w = val (setEvents (raised e (w .events)) w)
 
-  -- "in sequence, each seeing the last"
-  unfoldable pub deeds : List Deed → World → Out World
-  deeds [] w = val w
-  deeds (d ∷ ds) w = deed d w >>= λ w′. deeds ds w′
+  -- "if false when the action's turn comes, it is skipped" (request 4)
+  abbrev pub action : Action → World → Out World
+  action a w = choose (guardHolds nodes (w .vars) (a .guard)) (deed (a .deed) w) (val w)
 
--- a guard: a truth, or none, which holds
-abbrev pub guardHolds : List Node → List ℤ → Option ℕ → Out Bool
-guardHolds nodes vars none = val true
-guardHolds nodes vars (some n) = truth (nodeOf nodes) vars n
+  -- "in sequence, each seeing the last"
+  unfoldable pub actions : List Action → World → Out World
+  actions [] w = val w
+  actions (a ∷ rest) w = action a w >>= λ w′. actions rest w′

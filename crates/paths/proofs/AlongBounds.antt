@@ -15,7 +15,7 @@ use Rattle.model.specs.Outcome.{settled}
 use Rattle.model.specs.ChartSet.{ChartSet, readCharts}
 use Rattle.model.specs.AutomataTable.{edge}
 use Rattle.model.specs.ChartFile.{chartLimits, chartsRefusal}
-use Rattle.model.specs.Translation.{Origin, from-transition, from-idling, originOf, twin}
+use Rattle.model.specs.Translation.{Origin, from-transition, from-waiting, from-idling, originOf, twin}
 use Rattle.model.specs.PathBack.{timeMark, Walk, Row, walkStart, timeFits, edgeFits, stepFits, walked, rowsFrom, stepRows, ledBack, rowWords, rowsWritten, pathBack}
 use Rattle.chart_records.specs.declared.Shape.{Shape}
 use Rattle.chart_records.proofs.PlacesRead.{length-initial, most-charts}
@@ -100,6 +100,7 @@ module _ (s : List ℕ) (sh : Shape) (ok : Accepted s sh) where
     where
       go : (o : Origin) → length (rowsFrom cs o w) ≤ 1
       go (from-transition t) = omega arith
+      go (from-waiting s) = omega arith
       go (from-idling s) = omega arith
 
   few-along : (path : List ℕ) (w : Walk) → turns w ≤ 9_000_001 → allFit cs path w ≡ true → length (rowsAlong cs path w) + turns w ≤ 9_000_001

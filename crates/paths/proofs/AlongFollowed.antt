@@ -14,9 +14,9 @@ use Rattle.records.specs.Refusal.{broken-path, val, fault}
 use Rattle.prelude.proofs.Counts.{and-true}
 use Rattle.records.proofs.Wrote.{sets-append}
 use Rattle.model.specs.ChartSet.{ChartSet}
-use Rattle.model.specs.Translation.{Origin, from-transition, from-idling, transitionCount, originOf}
+use Rattle.model.specs.Translation.{Origin, from-transition, from-waiting, from-idling, transitionCount, originOf}
 use Rattle.model.specs.PathBack.{Walk, Row, walkStart, stepFits, walked, rowsFrom, stepRows, ledBack, rowWords}
-use Rattle.model.proofs.TranslationOrigins.{originOf-edgeNumber, originOf-idling}
+use Rattle.model.proofs.TranslationOrigins.{originOf-edgeNumber, originOf-idle}
 use Rattle.paths.specs.Along.{allFit, walkAlong, rowsAlong}
 use Rattle.paths.specs.LedOf.{counted}
 use Rattle.paths.proofs.Along.{fit-append, walk-append, rows-append, led-is}
@@ -67,6 +67,7 @@ module _ (cs : ChartSet) (path : List ℕ) where
     where
       go : (o : Origin) → length (rowsFrom cs o w) ≤ 1
       go (from-transition t) = omega arith
+      go (from-waiting s) = omega arith
       go (from-idling s) = omega arith
 
   -- the rows of one step more
@@ -145,22 +146,20 @@ module _ (cs : ChartSet) (path : List ℕ) where
 
   -- the rows of a step: how many, and their words, of so many transitions
   module _ (e : ℕ) (w : Walk) (transitions : ℕ) (are : transitionCount cs ≡ transitions) where
-    -- an edge of a transition has the transition's number; behind them, and past all edges, are idlings
-    from-edge : {A : Type 0} (f : Origin → A) (none : A) → ((s : ℕ) → f (from-idling s) ≡ none) → f (originOf cs e) ≡ cond (ltb e transitions) (f (from-transition e)) none
-    from-edge f none idle = go (ltb e transitions) refl
+    -- an edge of a transition has the transition's number; behind them, and past all edges, none came of one
+    from-edge : {A : Type 0} (f : Origin → A) (none : A) → ((s : ℕ) → f (from-waiting s) ≡ none) → ((s : ℕ) → f (from-idling s) ≡ none) → f (originOf cs e) ≡ cond (ltb e transitions) (f (from-transition e)) none
+    from-edge f none wait idle = go (ltb e transitions) refl
       where
         go : (b : Bool) → ltb e transitions ≡ b → f (originOf cs e) ≡ cond b (f (from-transition e)) none
         go true q = ap f (originOf-edgeNumber cs (from-transition e) (let l : e < transitions = ltb-true e transitions q in omega (arith, are)))
-        go false q =
-            let (s, is) = originOf-idling cs e (let l : transitions ≤ e = ltb-false e transitions q in omega (arith, are)) in
-            ap f is ∙ idle s
+        go false q = originOf-idle cs f none wait idle e (let l : transitions ≤ e = ltb-false e transitions q in omega (arith, are))
 
     pub rows-many : length (stepRows cs e w) ≡ cond (ltb e transitions) 1 0
-    rows-many = from-edge (λ o. length (rowsFrom cs o w)) 0 (λ s. refl)
+    rows-many = from-edge (λ o. length (rowsFrom cs o w)) 0 (λ s. refl) (λ s. refl)
 
     pub words-are : rowWords (stepRows cs e w) ≡ cond (ltb e transitions) (w .cycles ∷ (w .position - 1) ∷ e ∷ []) []
     unfolding gather
-    words-are = from-edge (λ o. rowWords (rowsFrom cs o w)) [] (λ s. refl)
+    words-are = from-edge (λ o. rowWords (rowsFrom cs o w)) [] (λ s. refl) (λ s. refl)
 
   -- a row more has room where all have
   pub room-next : (i : ℕ) (w : Walk) (rows n : ℕ) → Followed i w rows → i < length path → length (stepRows cs (getD path i 0) w) ≡ 1 → 3 * length (rowsAlong cs path (walkStart cs)) ≤ n → 3 * rows + 3 ≤ n

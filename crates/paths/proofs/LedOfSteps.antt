@@ -16,11 +16,11 @@ use Rattle.model.specs.Translation.{twin}
 use Rattle.model.specs.PathBack as M
 use Rattle.model.specs.PathBack.{timeMark, timeFits, edgeFits, stepFits, walked}
 use Rattle.chart_records.specs.declared.Shape.{Shape}
-use Rattle.chart_records.proofs.PlacesRead.{length-initial, most-charts, most-states, most-transitions}
+use Rattle.chart_records.proofs.PlacesRead.{length-initial, most-charts}
 use Rattle.chart_records.specs.Accepted.{Accepted}
 use Rattle.paths.specs.declared.Edge.{Edge}
 use Rattle.paths.specs.LedOf.{walkIn, nextPosition, nextCycles, IsEdge, HasEdges}
-use Rattle.paths.proofs.LedOfEdges.{count-is, automaton-known}
+use Rattle.paths.proofs.LedOfEdges.{edges-in, automaton-known}
 
 module _ (s : List ℕ) (sh : Shape) (ok : Accepted s sh) (e : ℕ) (locations : List ℕ) (position cycles : ℕ) where
   abbrev pub here : M.Walk
@@ -38,14 +38,14 @@ module _ (s : List ℕ) (sh : Shape) (ok : Accepted s sh) (e : ℕ) (locations :
 
   -- ---- the edge that is named
 
-  pub edge-out : sh .transitions + sh .states ≤ e → edgeFits (readCharts s) e here ≡ false
+  pub edge-out : length (twin (readCharts s) .edges) ≤ e → edgeFits (readCharts s) e here ≡ false
   edge-out h = ap (λ b. b && eqb (edge (twin (readCharts s)) e .automaton + 1) position && eqb (edge (twin (readCharts s)) e .source) (getD (here .locations) (edge (twin (readCharts s)) e .automaton) 0))
-      (le-ltb e (length (twin (readCharts s) .edges)) (omega (arith, count-is s sh ok)))
+      (le-ltb e (length (twin (readCharts s) .edges)) h)
 
-  module _ (x : Edge) (is : IsEdge s (sh .charts) e x) (h : e < sh .transitions + sh .states) where
+  module _ (x : Edge) (is : IsEdge s (sh .charts) e x) (h : e < length (twin (readCharts s) .edges)) where
     fits-by : (b : Bool) → eqb (x .automaton + 1) position ≡ b → edgeFits (readCharts s) e here ≡ (b && eqb (x .source) (getD (take (sh .charts) locations) (x .automaton) 0))
     fits-by b eb =
-        (λ i. lt-ltb e (length (twin (readCharts s) .edges)) (omega (arith, count-is s sh ok, h)) i
+        (λ i. lt-ltb e (length (twin (readCharts s) .edges)) h i
         && eqb (sym (is .automaton) i + 1) position && eqb (sym (is .source) i) (getD (take (sh .charts) locations) (sym (is .automaton) i) 0))
         ∙ ap (λ t. t && eqb (x .source) (getD (take (sh .charts) locations) (x .automaton) 0)) eb
 
@@ -93,12 +93,11 @@ module _ (cs : ChartSet) (e : ℕ) (w : M.Walk) where
 
 module _ (s : List ℕ) (sh : Shape) (ok : Accepted s sh) (e : ℕ) (w : M.Walk) where
   -- an edge that fits is of the automaton whose turn it is
-  fitting : edgeFits (readCharts s) e w ≡ true → (e < sh .transitions + sh .states) × (edge (twin (readCharts s)) e .automaton + 1 ≡ w .position)
+  fitting : edgeFits (readCharts s) e w ≡ true → (e < length (twin (readCharts s) .edges)) × (edge (twin (readCharts s)) e .automaton + 1 ≡ w .position)
   fitting t =
       let z = and-true (ltb e (length (twin (readCharts s) .edges)) && eqb (edge (twin (readCharts s)) e .automaton + 1) (w .position)) (eqb (edge (twin (readCharts s)) e .source) (getD (w .locations) (edge (twin (readCharts s)) e .automaton) 0)) t .0 in
       let y = and-true (ltb e (length (twin (readCharts s) .edges))) (eqb (edge (twin (readCharts s)) e .automaton + 1) (w .position)) z in
-      let l : e < length (twin (readCharts s) .edges) = ltb-true e (length (twin (readCharts s) .edges)) (y .0) in
-      (omega (arith, count-is s sh ok), eqb-true (edge (twin (readCharts s)) e .automaton + 1) (w .position) (y .1))
+      (ltb-true e (length (twin (readCharts s) .edges)) (y .0), eqb-true (edge (twin (readCharts s)) e .automaton + 1) (w .position) (y .1))
 
   pub step-late : 1_000_000 ≤ w .cycles → stepFits (readCharts s) e w ≡ false
   step-late h = ap (λ b. b && cond (eqb e timeMark) (timeFits (readCharts s) w) (edgeFits (readCharts s) e w)) (le-ltb (w .cycles) 1_000_000 h)
@@ -115,7 +114,7 @@ module _ (s : List ℕ) (sh : Shape) (ok : Accepted s sh) (e : ℕ) (w : M.Walk)
   in-time t = ltb-true (w .cycles) 1_000_000 (and-true (ltb (w .cycles) 1_000_000) (cond (eqb e timeMark) (timeFits (readCharts s) w) (edgeFits (readCharts s) e w)) t .0)
 
   -- a step that fits, and is not time's, names an edge of the automaton whose turn it is
-  pub fits-edge : (e ≡ 65535 → ⊥) → stepFits (readCharts s) e w ≡ true → (e < sh .transitions + sh .states) × (edge (twin (readCharts s)) e .automaton + 1 ≡ w .position)
+  pub fits-edge : (e ≡ 65535 → ⊥) → stepFits (readCharts s) e w ≡ true → (e < length (twin (readCharts s) .edges)) × (edge (twin (readCharts s)) e .automaton + 1 ≡ w .position)
   fits-edge n t = fitting (sym (step-edge (in-time t) n) ∙ t)
 
   -- position and cycles of a step that fits
@@ -128,16 +127,16 @@ module _ (s : List ℕ) (sh : Shape) (ok : Accepted s sh) (e : ℕ) (w : M.Walk)
           omega (arith, p, most-charts s sh (ok .shape))
       go false q =
           let p = fits-edge (eqb-false e timeMark q) t in
-          omega (arith, p .1, automaton-known s sh ok e (omega (arith, p .0, count-is s sh ok)), most-charts s sh (ok .shape))
+          omega (arith, p .1, automaton-known s sh ok e (p .0), most-charts s sh (ok .shape))
 
 -- ---- edges in arrays
 
-module _ (s : List ℕ) (sh : Shape) (ok : Accepted s sh) (automata sources targets : List ℕ) (has : HasEdges s sh automata sources targets) (e : ℕ) (h : e < sh .transitions + sh .states) where
+module _ (s : List ℕ) (sh : Shape) (ok : Accepted s sh) (edges : ℕ) (automata sources targets : List ℕ) (has : HasEdges s sh edges automata sources targets) (e : ℕ) (h : e < edges) where
   abbrev pub held : Edge
   held = record { automaton = getD automata e 0; source = getD sources e 0; target = getD targets e 0 }
 
   pub edge-room : e < mostEdges
-  edge-room = omega (arith, h, most-transitions s sh (ok .shape), most-states s sh (ok .shape))
+  edge-room = omega (arith, has .count, edges-in s sh ok)
 
   pub few-automata : getD automata e 0 < 8
-  few-automata = omega (arith, has e h .known, most-charts s sh (ok .shape))
+  few-automata = omega (arith, has .each e h .known, most-charts s sh (ok .shape))

@@ -10,7 +10,7 @@ use Rattle.records.specs.RefusalOf.{refusalOf}
 use Rattle.model.specs.Outcome.{Outcome, settled}
 use Rattle.model.specs.ChartSet.{ChartSet, readCharts}
 use Rattle.model.specs.AutomataTable.{edge}
-use Rattle.model.specs.Translation.{twin}
+use Rattle.model.specs.Translation.{from-idling, edgeOf, twin}
 use Rattle.model.specs.PathBack as M
 use Rattle.chart_records.specs.declared.Shape.{Shape}
 use Rattle.paths.specs.declared.Edge.{Edge}
@@ -29,6 +29,12 @@ nextPosition e position = cond (eqb e M.timeMark) 1 (position + 1)
 abbrev pub nextCycles : ℕ → ℕ → ℕ
 nextCycles e cycles = cond (eqb e M.timeMark) (cycles + 1) cycles
 
+-- of each idle edge its state, of so many: the due edge of a waiting state has the ends of the other
+pub record HasIdling (s : List ℕ) (sh : Shape) (states : List ℕ) (edges : ℕ) : Type 0 where
+  pub count : length (twin (readCharts s) .edges) ≡ sh .transitions + edges
+  pub known : (j : ℕ) → j < edges → getD states j 0 < sh .states
+  pub each : (j : ℕ) → j < edges → edge (twin (readCharts s)) (sh .transitions + j) ≡ edgeOf (readCharts s) (from-idling (getD states j 0))
+
 -- the ends of an edge of the twin, and whose it is, of so many charts
 pub record IsEdge (s : List ℕ) (charts e : ℕ) (x : Edge) : Type 0 where
   pub known : x .automaton < charts
@@ -36,10 +42,10 @@ pub record IsEdge (s : List ℕ) (charts e : ℕ) (x : Edge) : Type 0 where
   pub source : x .source ≡ edge (twin (readCharts s)) e .source
   pub target : x .target ≡ edge (twin (readCharts s)) e .target
 
--- arrays that hold each edge
-abbrev pub HasEdges : List ℕ → Shape → List ℕ → List ℕ → List ℕ → Type 0
-HasEdges s sh automata sources targets =
-    (e : ℕ) → e < sh .transitions + sh .states → IsEdge s (sh .charts) e (record { automaton = getD automata e 0; source = getD sources e 0; target = getD targets e 0 })
+-- arrays that hold each edge, of so many
+pub record HasEdges (s : List ℕ) (sh : Shape) (edges : ℕ) (automata sources targets : List ℕ) : Type 0 where
+  pub count : edges ≡ length (twin (readCharts s) .edges)
+  pub each : (e : ℕ) → e < edges → IsEdge s (sh .charts) e (record { automaton = getD automata e 0; source = getD sources e 0; target = getD targets e 0 })
 
 abbrev pub countOf : declared-count.Count → Out ℕ
 countOf (declared-count.the-variants.Rows n) = val n

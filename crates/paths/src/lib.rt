@@ -6,21 +6,39 @@ ghost use Prim.Native.Nat.{ℕ, _+_, _*_, _≤_, _<_};
 ghost use lib.Dec.{ltb};
 ghost use lib.ListN.{length};
 ghost use lib.Seq.{sets};
+ghost use Rattle.model.specs.Limits.{mostStates};
 ghost use Rattle.model.specs.ChartSet.{readCharts};
+ghost use Rattle.model.specs.Translation.{idleOrigins};
 ghost use Rattle.model.specs.PathBack.{walkStart, edgeFits, stepFits, walked as walkedOn, ledBack, rowWords};
 ghost use Rattle.chart_records.specs.Accepted.{Accepted};
+ghost use Rattle.chart_steps.specs.Tables.{HasFirsts};
 ghost use Rattle.paths.specs.Along.{rowsAlong};
-ghost use Rattle.paths.specs.LedOf.{walkIn, IsEdge, HasEdges, nextPosition, nextCycles, countOf, counted, Writable, stepWords, ledOf, led};
+ghost use Rattle.paths.specs.LedOf.{walkIn, HasIdling, IsEdge, HasEdges, nextPosition, nextCycles, countOf, counted, Writable, stepWords, ledOf, led};
 use chart_records::Shape;
 use chart_records::fields::home_of;
 use chart_records::fields::source_of;
 use chart_records::fields::target_of;
+use chart_steps::tables::fill_actions;
 use records::refusals::Refusal;
+use records::sizes::ACTION_KEYS;
+use records::sizes::ACTIONS;
+use records::sizes::ActionHeads;
 use records::sizes::EDGES;
 use records::sizes::MOST_CYCLES;
 use records::sizes::Places;
+use records::sizes::STATES;
+use records::sizes::WAITING_KEYS;
 
-// An edge of the twin: one of a transition, or a state's idle edge.
+// The most idle edges: two for each state.
+const IDLE_EDGES: usize = 2 * STATES;
+
+// Of each idle edge, counted from the first, its state; and how many there are.
+pub struct Idling {
+    pub states: [u16; IDLE_EDGES],
+    pub edges: u16,
+}
+
+// An edge of the twin: one of a transition, or an idle edge of a state.
 pub struct Edge {
     pub automaton: u8,
     pub source: u16,
@@ -29,6 +47,7 @@ pub struct Edge {
 
 // Of each edge its automaton and its ends, made once for a path.
 pub struct EdgeTable {
+    pub edges: u16,
     pub automata: [u8; EDGES],
     pub sources: [u16; EDGES],
     pub targets: [u16; EDGES],
@@ -46,10 +65,40 @@ pub enum Led {
     Refused(Refusal),
 }
 
-// Edges are numbered as the transitions, then the idle edges as the states.
-fn edge_of(s: &[u8], shape: Shape, e: u16) -> Edge
+// A state that has waiting actions idles by two edges, the due one first; any other by one.
+fn idle_edges(s: &[u8], shape: Shape, first: &ActionHeads, state: u16) -> u16
+    requires { ⌜ Accepted (now s) shape × HasFirsts (now s) shape (now first) × (state < mostStates) ⌝ }
+    ensures { λ r. ⌜ r ≡ length (idleOrigins (readCharts (now (s .entry))) state) ⌝ }
+{
+    let key = (WAITING_KEYS + state) as usize;
+    if first[key] == 65535 { 1 } else { 2 }
+}
+
+// Each state is put twice: where it idles by one edge, the next state takes the second place.
+fn idling_of(s: &[u8], shape: Shape) -> Idling
     requires { ⌜ Accepted (now s) shape ⌝ }
-    requires { ⌜ e < shape .transitions + shape .states ⌝ }
+    ensures { λ r. ⌜ HasIdling (now (s .entry)) shape (r .states) (r .edges) ⌝ }
+{
+    let mut first = [65535u16; ACTION_KEYS];
+    let mut next = [65535u16; ACTIONS];
+    fill_actions(s, shape, &mut first, &mut next);
+    let mut states = [0u16; IDLE_EDGES];
+    let mut edges: u16 = 0;
+    let mut state: u16 = 0;
+    while state < shape.states {
+        let i = edges as usize;
+        states[i] = state;
+        states[i + 1] = state;
+        edges += idle_edges(s, shape, &first, state);
+        state += 1;
+    }
+    Idling { states, edges }
+}
+
+// Edges are numbered as the transitions, then the idle edges by state.
+fn edge_of(s: &[u8], shape: Shape, idling: &[u16; IDLE_EDGES], idle: u16, e: u16) -> Edge
+    requires { ⌜ Accepted (now s) shape × HasIdling (now s) shape (now idling) idle ⌝ }
+    requires { ⌜ e < shape .transitions + idle ⌝ }
     ensures { λ r. ⌜ IsEdge (now (s .entry)) (shape .charts) e r ⌝ }
 {
     if e < shape.transitions {
@@ -62,7 +111,8 @@ fn edge_of(s: &[u8], shape: Shape, e: u16) -> Edge
             target,
         }
     } else {
-        let state = e - shape.transitions;
+        let i = (e - shape.transitions) as usize;
+        let state = idling[i];
         let automaton = home_of(s, shape, state);
         Edge {
             automaton,
@@ -74,14 +124,18 @@ fn edge_of(s: &[u8], shape: Shape, e: u16) -> Edge
 
 fn edges_of(s: &[u8], shape: Shape) -> EdgeTable
     requires { ⌜ Accepted (now s) shape ⌝ }
-    ensures { λ r. ⌜ HasEdges (now (s .entry)) shape (r .automata) (r .sources) (r .targets) ⌝ }
+    ensures { λ r. ⌜ HasEdges (now (s .entry)) shape (r .edges) (r .automata) (r .sources) (r .targets) ⌝ }
 {
+    let idling = idling_of(s, shape);
+    let states = idling.states;
+    let idle = idling.edges;
+    let edges = shape.transitions + idle;
     let mut automata = [0u8; EDGES];
     let mut sources = [0u16; EDGES];
     let mut targets = [0u16; EDGES];
     let mut e: u16 = 0;
-    while e < shape.transitions + shape.states {
-        let edge = edge_of(s, shape, e);
+    while e < edges {
+        let edge = edge_of(s, shape, &states, idle, e);
         let i = e as usize;
         automata[i] = edge.automaton;
         sources[i] = edge.source;
@@ -89,6 +143,7 @@ fn edges_of(s: &[u8], shape: Shape) -> EdgeTable
         e += 1;
     }
     EdgeTable {
+        edges,
         automata,
         sources,
         targets,
@@ -107,6 +162,7 @@ fn start_locations(s: &[u8], shape: Shape) -> Places
 fn edge_fits(
     s: &[u8],
     shape: Shape,
+    edges: u16,
     automata: &[u8; EDGES],
     sources: &[u16; EDGES],
     targets: &[u16; EDGES],
@@ -114,10 +170,10 @@ fn edge_fits(
     locations: &Places,
     position: u32,
 ) -> bool
-    requires { ⌜ Accepted (now s) shape × HasEdges (now s) shape (now automata) (now sources) (now targets) ⌝ }
+    requires { ⌜ Accepted (now s) shape × HasEdges (now s) shape edges (now automata) (now sources) (now targets) ⌝ }
     ensures { λ r. ⌜ ((cycles : ℕ) → r ≡ edgeFits (readCharts (now (s .entry))) e (walkIn (shape .charts) (now (locations .entry)) position cycles)) ⌝ }
 {
-    if shape.transitions + shape.states <= e {
+    if edges <= e {
         return false;
     }
     let i = e as usize;
@@ -134,6 +190,7 @@ fn edge_fits(
 fn step_fits(
     s: &[u8],
     shape: Shape,
+    edges: u16,
     automata: &[u8; EDGES],
     sources: &[u16; EDGES],
     targets: &[u16; EDGES],
@@ -142,7 +199,7 @@ fn step_fits(
     position: u32,
     cycles: u32,
 ) -> bool
-    requires { ⌜ Accepted (now s) shape × HasEdges (now s) shape (now automata) (now sources) (now targets) ⌝ }
+    requires { ⌜ Accepted (now s) shape × HasEdges (now s) shape edges (now automata) (now sources) (now targets) ⌝ }
     ensures { λ r. ⌜ r ≡ stepFits (readCharts (now (s .entry))) e (walkIn (shape .charts) (now (locations .entry)) position cycles) ⌝ }
 {
     if MOST_CYCLES <= cycles {
@@ -151,7 +208,17 @@ fn step_fits(
     if e == 65535 {
         position == (shape.charts as u32) + 1
     } else {
-        edge_fits(s, shape, automata, sources, targets, e, locations, position)
+        edge_fits(
+            s,
+            shape,
+            edges,
+            automata,
+            sources,
+            targets,
+            e,
+            locations,
+            position,
+        )
     }
 }
 
@@ -173,6 +240,7 @@ fn next_cycles(e: u16, cycles: u32) -> u32
 fn follow_step(
     s: &[u8],
     shape: Shape,
+    edges: u16,
     automata: &[u8; EDGES],
     sources: &[u16; EDGES],
     targets: &[u16; EDGES],
@@ -181,7 +249,7 @@ fn follow_step(
     position: u32,
     cycles: u32,
 )
-    requires { ⌜ Accepted (now s) shape × HasEdges (now s) shape (now automata) (now sources) (now targets) ⌝ }
+    requires { ⌜ Accepted (now s) shape × HasEdges (now s) shape edges (now automata) (now sources) (now targets) ⌝ }
     requires { ⌜ stepFits (readCharts (now s)) e (walkIn (shape .charts) (now locations) position cycles) ≡ true ⌝ }
     ensures { λ _. ⌜ walkIn (shape .charts) (now (locations .exit)) (nextPosition e position) (nextCycles e cycles) ≡ walkedOn (readCharts (now (s .entry))) e (walkIn (shape .charts) (now (locations .entry)) position cycles) ⌝ }
 {
@@ -203,12 +271,13 @@ fn rows_of_step(shape: Shape, e: u16) -> usize
 fn count_rows(
     s: &[u8],
     shape: Shape,
+    edges: u16,
     automata: &[u8; EDGES],
     sources: &[u16; EDGES],
     targets: &[u16; EDGES],
     path: &[u16],
 ) -> Count
-    requires { ⌜ Accepted (now s) shape × HasEdges (now s) shape (now automata) (now sources) (now targets) ⌝ }
+    requires { ⌜ Accepted (now s) shape × HasEdges (now s) shape edges (now automata) (now sources) (now targets) ⌝ }
     ensures { λ r. ⌜ countOf r ≡ counted (ledBack (readCharts (now (s .entry))) (now (path .entry)) (walkStart (readCharts (now (s .entry))))) ⌝ }
 {
     let mut locations = start_locations(s, shape);
@@ -221,6 +290,7 @@ fn count_rows(
         if !step_fits(
             s,
             shape,
+            edges,
             automata,
             sources,
             targets,
@@ -235,6 +305,7 @@ fn count_rows(
         follow_step(
             s,
             shape,
+            edges,
             automata,
             sources,
             targets,
@@ -296,11 +367,12 @@ pub fn path_back(s: &[u8], shape: Shape, path: &[u16], rows: &mut [u32]) -> Led
     requires { ⌜ Accepted (now s) shape ⌝ }
     ensures { λ r. ⌜ ledOf r (now (rows .exit)) ≡ led (readCharts (now (s .entry))) (now (path .entry)) (now (rows .entry)) ⌝ }
 {
-    let edges = edges_of(s, shape);
-    let automata = edges.automata;
-    let sources = edges.sources;
-    let targets = edges.targets;
-    match count_rows(s, shape, &automata, &sources, &targets, path) {
+    let table = edges_of(s, shape);
+    let edges = table.edges;
+    let automata = table.automata;
+    let sources = table.sources;
+    let targets = table.targets;
+    match count_rows(s, shape, edges, &automata, &sources, &targets, path) {
         Count::Broken => Led::Refused(Refusal::BrokenPath),
         Count::Rows(n) => {
             if rows.len() / 3 < n {

@@ -8,5 +8,6 @@ pub mod Maps
 pub mod Loops
 pub mod Numbers
 pub mod Gathered
+pub mod Gathers
 pub mod Filled
 pub mod Behind

@@ -1,7 +1,7 @@
 -- The unused bytes of a record, read by ones, twos and fours; and by the codes that leave them unused. Assumes nothing.
 use mathlib.Core.Path.{_≡_, refl, sym, ap, _∙_, subst}
 use mathlib.Core.Bool.{Bool, true, false, not, cond, _&&_, _||_}
-use mathlib.Core.List.{List, [], _∷_, map}
+use mathlib.Core.List.{List, [], _∷_, _++_, map}
 use Prim.Native.Nat.{ℕ, zero, suc, _+_, _-_, _≤_, _<_}
 use native.Mathlib.Nat.{zero-add}
 use native.Mathlib.Omega.{arith}
@@ -10,6 +10,7 @@ use lib.Dec.{leb, ltb, eqb}
 use Rattle.prelude.specs.Lists.{all, caseOf}
 use Rattle.records.specs.Bytes.{byte, two, four}
 use Rattle.prelude.proofs.Loops.{and-one, and-assoc}
+use Rattle.prelude.proofs.Numbers.{all-append}
 use Rattle.model.specs.ChartFile.{zeroBytes, unusedAreZero, between}
 use Rattle.record_tests.proofs.RecordLoops.{zerosFrom, zeros-next, unused-one, unused-two}
 
@@ -80,6 +81,9 @@ nodeRanges =
     (1, (2, 7) ∷ []) ∷ (2, (4, 11) ∷ []) ∷ (8, (8, 11) ∷ []) ∷ (19, (4, 11) ∷ [])
     ∷ map (λ o. (o, (6, 11) ∷ [])) (3 ∷ 4 ∷ 5 ∷ 6 ∷ 7 ∷ 16 ∷ 17 ∷ 18 ∷ 20 ∷ 21 ∷ [])
 
+abbrev waitRanges : List (ℕ × List (ℕ × ℕ))
+waitRanges = map (λ p. (p, (12, 15) ∷ [])) (1 ∷ 2 ∷ 3 ∷ [])
+
 module _ (r : List ℕ) where
   -- an event at 7, milliseconds at 8
   pub transition-unused : (k : ℕ) →
@@ -94,14 +98,40 @@ module _ (r : List ℕ) where
       rw (ne-eqb k 0 (λ e. omega arith), ne-eqb k 1 (λ e. omega arith), ne-eqb k 2 (λ e. omega arith), ne-eqb k 3 (λ e. omega arith), lt-ltb 3 k (omega arith), le-leb 2 k (omega arith))
       (unused-one r (14, 15) [] (sym (and-one (zeroBytes 14 15 r))) refl)
 
-  -- of a deed: a node at 6, unless it raises
-  pub deed-unused : (k : ℕ) → (zeroBytes 8 15 r && (not (eqb k 2) || zeroBytes 6 7 r)) ≡ unusedAreZero ((8, 15) ∷ caseOf k ((2, (6, 7) ∷ []) ∷ []) []) r
-  unfolding caseOf
-  deed-unused k = by (eqb k 2)
+  -- a node at 6, unless it raises
+  raise-unused : (k : ℕ) → (not (eqb k 2) || zeroBytes 6 7 r) ≡ unusedAreZero (caseOf k ((2, (6, 7) ∷ []) ∷ []) []) r
+  unfolding caseOf all
+  raise-unused k = by (eqb k 2)
     where
-      by : (b : Bool) → (zeroBytes 8 15 r && (not b || zeroBytes 6 7 r)) ≡ unusedAreZero ((8, 15) ∷ cond b ((6, 7) ∷ []) []) r
-      by true = unused-two r (8, 15) (6, 7) ((6, 7) ∷ []) refl refl refl
-      by false = unused-one r (8, 15) [] (sym (and-one (zeroBytes 8 15 r))) refl
+      by : (b : Bool) → (not b || zeroBytes 6 7 r) ≡ unusedAreZero (cond b ((6, 7) ∷ []) []) r
+      by true = and-one (zeroBytes 6 7 r)
+      by false = refl
+
+  -- of an update
+  pub deed-unused : (k : ℕ) → (zeroBytes 10 15 r && (not (eqb k 2) || zeroBytes 6 7 r)) ≡ unusedAreZero ((10, 15) ∷ caseOf k ((2, (6, 7) ∷ []) ∷ []) []) r
+  unfolding all
+  deed-unused k = ap (λ b. zeroBytes 10 15 r && b) (raise-unused k)
+
+  -- of an action: a node at 6, unless it raises; milliseconds at 12, if it waits
+  place-unused : (p : ℕ) → (eqb p 0 || ltb 3 p || zeroBytes 12 15 r) ≡ unusedAreZero (caseOf p waitRanges []) r
+  unfolding caseOf all
+  place-unused zero = refl
+  place-unused (suc zero) = and-one (zeroBytes 12 15 r)
+  place-unused (suc (suc zero)) = and-one (zeroBytes 12 15 r)
+  place-unused (suc (suc (suc zero))) = and-one (zeroBytes 12 15 r)
+  place-unused (suc (suc (suc (suc n)))) =
+      let p = suc (suc (suc (suc n))) in
+      rw (ne-eqb p 0 (λ e. omega arith), ne-eqb p 1 (λ e. omega arith), ne-eqb p 2 (λ e. omega arith), ne-eqb p 3 (λ e. omega arith), lt-ltb 3 p (omega arith))
+      refl
+
+  pub action-unused : (p k : ℕ) →
+      (zeroBytes 10 11 r && (eqb p 0 || ltb 3 p || zeroBytes 12 15 r) && (not (eqb k 2) || zeroBytes 6 7 r))
+      ≡ unusedAreZero ((10, 11) ∷ caseOf p waitRanges [] ++ caseOf k ((2, (6, 7) ∷ []) ∷ []) []) r
+  unfolding all
+  action-unused p k =
+      (λ i. zeroBytes 10 11 r && place-unused p i && raise-unused k i)
+      ∙ sym (and-assoc (zeroBytes 10 11 r) (unusedAreZero (caseOf p waitRanges []) r) (unusedAreZero (caseOf k ((2, (6, 7) ∷ []) ∷ []) []) r))
+      ∙ ap (λ b. zeroBytes 10 11 r && b) (sym (all-append (λ x. zeroBytes (x .0) (x .1) r) (caseOf p waitRanges []) (caseOf k ((2, (6, 7) ∷ []) ∷ []) [])))
 
   -- of a node: operands at 2, 4 and 6, a constant at 8
   abbrev operandsUnused : ℕ → Bool

@@ -11,13 +11,20 @@ use records::sizes::LAST_PRIORITY;
 use records::sizes::MOST_MILLISECONDS;
 use records::u32_at;
 
+// The range of milliseconds.
+fn is_duration(ms: u32) -> bool
+    ensures { λ r. ⌜ r ≡ isDuration ms ⌝ }
+{
+    (1 <= ms) & (ms <= MOST_MILLISECONDS)
+}
+
 fn trigger_in_code(code: u8, event: u8, ms: u32) -> bool
     ensures { λ r. ⌜ r ≡ caseOf code ((1, isEvent event) ∷ (2, isDuration ms) ∷ (3, isDuration ms) ∷ []) true ⌝ }
 {
     match code {
         1 => event <= LAST_EVENT,
-        2 => (1 <= ms) & (ms <= MOST_MILLISECONDS),
-        3 => (1 <= ms) & (ms <= MOST_MILLISECONDS),
+        2 => is_duration(ms),
+        3 => is_duration(ms),
         _ => true,
     }
 }
@@ -57,7 +64,10 @@ fn action_in_code(r: &[u8]) -> bool
     ensures { λ t. ⌜ t ≡ actionInCode (now (r .entry)) ⌝ }
 {
     let place = byte_at(r, 1);
-    (1 <= place) & (place <= 3) & deed_in_code(byte_at(r, 4), byte_at(r, 5))
+    (1 <= place)
+        & (place <= 4)
+        & deed_in_code(byte_at(r, 4), byte_at(r, 5))
+        & ((place != 4) | is_duration(u32_at(r, 12)))
 }
 
 pub fn in_code(r: &[u8]) -> bool

@@ -29,7 +29,13 @@ pub fn four_zero(r: &[u8], k: usize) -> bool
     u32_at(r, k) == 0
 }
 
-// The bytes of a record from 8 on, and from 4 on.
+// The bytes of a record from 10 on, from 8 on, and from 4 on.
+pub fn from_ten_zero(r: &[u8]) -> bool
+    ensures { λ t. ⌜ t ≡ F.zeroBytes 10 15 (now (r .entry)) ⌝ }
+{
+    two_zero(r, 10) & four_zero(r, 12)
+}
+
 pub fn from_eight_zero(r: &[u8]) -> bool
     ensures { λ t. ⌜ t ≡ F.zeroBytes 8 15 (now (r .entry)) ⌝ }
 {
@@ -72,14 +78,16 @@ pub fn node_clean(r: &[u8]) -> bool
     (rest == 0) & (!known | fine)
 }
 
-// A node stands at 6, unless the action raises.
+// A node stands at 6, unless the action raises; a guard at 8; milliseconds at 12, if it waits. An unknown place leaves none unused.
 fn action_clean(r: &[u8]) -> bool
     ensures { λ t. ⌜ t ≡ F.unusedAreZero (F.unusedAction (now (r .entry))) (now (r .entry)) ⌝ }
 {
+    let place = byte_at(r, 1);
     let code = byte_at(r, 4);
     let node = two_zero(r, 6);
-    let rest = from_eight_zero(r);
-    rest & ((code != 2) | node)
+    let rest = two_zero(r, 10);
+    let ms = four_zero(r, 12);
+    rest & ((place == 0) | (3 < place) | ms) & ((code != 2) | node)
 }
 
 pub fn record_clean(r: &[u8]) -> bool

@@ -19,6 +19,8 @@ pub data Refusal : Type 0 where
   broken-path short-rows : Refusal
   -- a guard's line
   broken-line wrong-sort short-space : Refusal
+  -- chart file, after 9
+  unlike-waits : Refusal
 
 -- The number of each in the table.
 abbrev pub refusalNumber : Refusal → ℕ
@@ -46,6 +48,7 @@ refusalNumber short-rows = 21
 refusalNumber broken-line = 22
 refusalNumber wrong-sort = 23
 refusalNumber short-space = 24
+refusalNumber unlike-waits = 25
 
 -- "Within one place the lowest number that applies is given": of tests in ascending order, the first that applies.
 unfoldable pub lowest : List (Refusal × Bool) → Option Refusal

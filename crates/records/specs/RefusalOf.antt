@@ -1,7 +1,7 @@
 -- The code's refusals as those of the table, which are all but the faults in a turn. Assumes nothing: these are definitions.
 use Rattle.records.specs.Refusal as R
 use Rattle.records.specs.declared.refusals.Refusal.{Refusal}
-use Rattle.records.specs.declared.refusals.Refusal.the-variants.{OddLength, UnorderedKinds, WrongAmounts, StrayByte, BrokenCode, DanglingNumber, BrokenStructure, BrokenNode, ZeroTicks, ShortBuffer, BadTable, ImpossibleRun, MisplacedEvents, CyclesDone, BrokenPath, ShortRows, BrokenLine, WrongSort, ShortSpace}
+use Rattle.records.specs.declared.refusals.Refusal.the-variants.{OddLength, UnorderedKinds, WrongAmounts, StrayByte, BrokenCode, DanglingNumber, BrokenStructure, BrokenNode, ZeroTicks, ShortBuffer, BadTable, ImpossibleRun, MisplacedEvents, CyclesDone, BrokenPath, ShortRows, BrokenLine, WrongSort, ShortSpace, UnlikeWaits}
 
 abbrev pub refusalOf : Refusal → R.Refusal
 refusalOf OddLength = R.odd-length
@@ -23,3 +23,4 @@ refusalOf ShortRows = R.short-rows
 refusalOf BrokenLine = R.broken-line
 refusalOf WrongSort = R.wrong-sort
 refusalOf ShortSpace = R.short-space
+refusalOf UnlikeWaits = R.unlike-waits

@@ -23,6 +23,7 @@ pub enum Refusal {
     BrokenLine,
     WrongSort,
     ShortSpace,
+    UnlikeWaits,
 }
 
 // Its number in the table.
@@ -49,5 +50,6 @@ pub fn refusal_number(w: Refusal) -> u8
         Refusal::BrokenLine => 22,
         Refusal::WrongSort => 23,
         Refusal::ShortSpace => 24,
+        Refusal::UnlikeWaits => 25,
     }
 }

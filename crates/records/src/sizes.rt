@@ -15,15 +15,15 @@ pub const NODES: usize = 1024;
 
 pub const ACTIONS: usize = 512;
 
-pub const EDGES: usize = 384;
+pub const EDGES: usize = 512;
 
-pub const LITERALS: usize = 2432;
+pub const LITERALS: usize = 2944;
 
-pub const CLOCKS: usize = 256;
+pub const CLOCKS: usize = 384;
 
-pub const UPDATES: usize = 6144;
+pub const UPDATES: usize = 7168;
 
-pub const RESETS: usize = 4096;
+pub const RESETS: usize = 4352;
 
 // The same by kind, as the reader of each format asks them (3): kinds 1 to 6, and 33 to 41.
 pub const SET_LIMITS: [u16; 6] = [
@@ -82,7 +82,7 @@ pub type Rows = [[u16; PRIORITIES]; STATES];
 
 pub type Ends = [u8; STATES];
 
-// Actions by owner: keys of entry, of exit, of transitions; of each key the first, of each action the next.
+// Actions by owner: keys of entry, of exit, of transitions, of waiting; of each key the first, of each action the next.
 pub const EXIT_KEYS: u16 = STATES as u16;
 
 pub const CROSSING_KEYS: u16 = 2 * (STATES as u16);
@@ -91,7 +91,12 @@ pub const EXIT_PLACES: usize = STATES;
 
 pub const CROSSING_PLACES: usize = 2 * STATES;
 
-pub const ACTION_KEYS: usize = 2 * STATES + TRANSITIONS;
+pub const WAITING_KEYS: u16 = 2 * (STATES as u16) + (TRANSITIONS as u16);
+
+// No action has this key.
+pub const EMPTY_KEY: u16 = 3 * (STATES as u16) + (TRANSITIONS as u16);
+
+pub const ACTION_KEYS: usize = 3 * STATES + TRANSITIONS + 1;
 
 pub type ActionHeads = [u16; ACTION_KEYS];
 

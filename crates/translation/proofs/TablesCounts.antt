@@ -1,27 +1,39 @@
 -- How many literals, updates and resets a twin has, counted transition by transition, and tables to whose places a loop adds. Assumes nothing.
 use mathlib.Core.Path.{_≡_, refl, sym, ap, _∙_}
 use mathlib.Core.Option.{none}
+use mathlib.Core.Logic.{_⊎_, inl, inr}
 use mathlib.Core.Bool.{Bool, true, false, cond, _&&_}
-use mathlib.Core.List.{List, [], _∷_, map}
+use mathlib.Core.List.{List, [], _∷_, _++_, map}
 use Prim.Native.Nat.{ℕ, _+_, _-_, _*_, _≤_, _<_}
 use native.Mathlib.Nat.{add-zero, zero-add}
 use native.Mathlib.Omega.{arith}
-use borrow.Author.Tests.{lt-ltb, le-ltb, ltb-true, ltb-false, eqb-true, eqb-false, eq-eqb}
+use borrow.Author.Tests.{lt-ltb, le-ltb, ltb-true, ltb-false, eqb-true, eqb-false, eq-eqb, ne-eqb}
 use lib.Dec.{ltb, eqb}
-use lib.ListN.{length, getD, set, replicate, length-append, length-map, length-set, length-replicate, getD-replicate}
+use lib.ListN.{length, getD, set, take, replicate, length-append, length-map, length-set, length-replicate, getD-replicate}
 use lib.Seq.{getD-set-same, getD-set-other}
-use Rattle.prelude.specs.Lists.{keep, count, upto}
+use Rattle.prelude.specs.Lists.{bit, keep, count, gather, upto, caseOf}
+use Rattle.prelude.specs.Owned.{of}
 use Rattle.prelude.proofs.Counts.{length-keep}
-use Rattle.model.specs.ChartSet.{ChartSet, readCharts, transition, noTransition}
+use Rattle.model.specs.Runs.{Action}
+use Rattle.model.specs.ChartSet.{ChartSet, readCharts, transition, noTransition, waits}
+use Rattle.model.specs.Charts.{ticks}
+use Rattle.model.specs.AutomataTable.{Literal, Clock, every}
 use Rattle.model.specs.ChartFile.{chartsRefusal}
-use Rattle.prelude.specs.Lists.{bit}
-use Rattle.model.specs.Translation.{from-transition, from-idling, stateCount, transitionCount, clocksOf, clockOf, literal, triedBefore, literalsOf, updatesOf, clocksLeaving, resetsOf, twin}
+use Rattle.model.specs.Translation.{Origin, from-transition, from-waiting, from-idling, stateCount, transitionCount, idleOrigins, byEdge, clocksOf, clockOf, waitingClocks, literal, triedBefore, mustNots, waitingLiteral, literalsOf, updatesOf, clocksLeaving, waitingClock, clocksOfState, resetsOf}
 use Rattle.prelude.proofs.Bools.{of-true, eqb-comm}
 use Rattle.prelude.proofs.Lists.{kept-apart}
 use Rattle.prelude.proofs.Sums.{sumFrom, sum-alike, sum-add, sum-most, sum-least, sum-append, sum-swap, sum-zero, count-from, once-most, once-least, count-keep, count-below, length-gathered}
 use Rattle.model.proofs.ChartFile.{source-in, priority-low, priority-high, priorities-differ}
-use Rattle.model.proofs.TranslationOrigins.{byEdge-sum}
+use Rattle.model.proofs.TranslationOrigins.{waits-one, idle-length, byEdge-sum}
+use Rattle.chart_records.specs.declared.Shape.{Shape}
+use Rattle.chart_records.specs.Accepted.{Accepted}
+use Rattle.chart_records.specs.Places.{actionAt, waitAt}
+use Rattle.chart_steps.specs.Tables.{keyed}
+use Rattle.chart_steps.proofs.TablesActions.{of-key}
+use Rattle.chart_steps.proofs.Waiting.{by-key}
 use Rattle.twin_records.specs.Tables.{sourceOf}
+use Rattle.edge_records.proofs.TextsIdle.{alone, both}
+use Rattle.translation.specs.Lengths.{ofTransitions, ofIdling, idleLength}
 
 -- ---- sums
 
@@ -165,14 +177,14 @@ share-one key k i = go (eqb (key i) k)
     go true = refl
     go false = refl
 
--- ---- resets and updates
+-- ---- clocks, updates and resets
 
 module _ (cs : ChartSet) where
   abbrev pub clocksAt : ℕ → ℕ
   clocksAt t = length (clocksOf (transition cs t .trigger))
 
-  pub resets-are : (st : ℕ) → sumFrom (share (sourceOf cs) clocksAt 128 st) 0 (transitionCount cs) ≡ length (clocksLeaving cs st)
-  resets-are st =
+  pub clocks-are : (st : ℕ) → sumFrom (share (sourceOf cs) clocksAt 128 st) 0 (transitionCount cs) ≡ length (clocksLeaving cs st)
+  clocks-are st =
       sym
       (length-gathered (λ t. cond (eqb (sourceOf cs t) st) (map (λ _. clockOf cs t) (clocksOf (transition cs t .trigger))) []) 0 (transitionCount cs)
       ∙ sum-alike (λ t. length (cond (eqb (sourceOf cs t) st) (map (λ _. clockOf cs t) (clocksOf (transition cs t .trigger))) [])) (share (sourceOf cs) clocksAt 128 st) 0 (transitionCount cs)
@@ -182,18 +194,35 @@ module _ (cs : ChartSet) where
       go t true = length-map (clocksOf (transition cs t .trigger)) (λ _. clockOf cs t)
       go t false = refl
 
+  pub leaving-are : (st : ℕ) → sumFrom (share (sourceOf cs) (λ u. 1) 128 st) 0 (transitionCount cs) ≡ count (λ u. eqb (sourceOf cs u) st) (upto (transitionCount cs))
+  leaving-are st =
+      sum-alike (share (sourceOf cs) (λ u. 1) 128 st) (λ u. bit (eqb (sourceOf cs u) st)) 0 (transitionCount cs) (λ u a b. share-one (sourceOf cs) st u)
+      ∙ sym (count-from (λ u. eqb (sourceOf cs u) st) 0 (transitionCount cs))
+
   abbrev pub effectsOf : ℕ → ℕ
   effectsOf t = length (updatesOf cs (from-transition t)) + length (resetsOf cs (from-transition t))
 
-  pub effects-are : sumFrom effectsOf 0 (transitionCount cs) ≡ length (twin cs .updates) + length (twin cs .resets)
+  pub effects-are : sumFrom effectsOf 0 (transitionCount cs) ≡ length (ofTransitions cs (updatesOf cs)) + length (ofTransitions cs (resetsOf cs))
   effects-are =
-      omega (
-        arith,
-        sum-add (λ t. length (updatesOf cs (from-transition t))) (λ t. length (resetsOf cs (from-transition t))) 0 (transitionCount cs),
-        byEdge-sum cs (updatesOf cs),
-        byEdge-sum cs (resetsOf cs),
-        sum-zero 0 (stateCount cs),
-      )
+      sum-add (λ t. length (updatesOf cs (from-transition t))) (λ t. length (resetsOf cs (from-transition t))) 0 (transitionCount cs)
+      ∙ (λ i. sym (length-gathered (λ t. updatesOf cs (from-transition t)) 0 (transitionCount cs)) i + sym (length-gathered (λ t. resetsOf cs (from-transition t)) 0 (transitionCount cs)) i)
+
+  -- what belongs to edges: of the transitions', then of the idling
+  pub parts-are : {A : Type 0} (f : Origin → List A) → length (byEdge cs f) ≡ length (ofTransitions cs f) + length (ofIdling cs (λ st. gather f (idleOrigins cs st)))
+  parts-are f =
+      byEdge-sum cs f
+      ∙ (λ i. sym (length-gathered (λ t. f (from-transition t)) 0 (transitionCount cs)) i + sym (length-gathered (λ st. gather f (idleOrigins cs st)) 0 (stateCount cs)) i)
+
+  pub no-idle-resets : length (ofIdling cs (λ st. gather (resetsOf cs) (idleOrigins cs st))) ≡ 0
+  unfolding gather
+  no-idle-resets =
+      length-gathered (λ st. gather (resetsOf cs) (idleOrigins cs st)) 0 (stateCount cs)
+      ∙ sum-alike (λ st. length (gather (resetsOf cs) (idleOrigins cs st))) (λ st. 0) 0 (stateCount cs) (λ st a b. none st (waits cs st))
+      ∙ sum-zero 0 (stateCount cs)
+    where
+      none : (st : ℕ) (w : List ℕ) → length (gather (resetsOf cs) (map (λ _. from-waiting st) w ++ (from-idling st ∷ []))) ≡ 0
+      none st [] = refl
+      none st (ms ∷ w) = none st w
 
 -- ---- literals
 
@@ -255,26 +284,127 @@ module _ (s : List ℕ) (ok : chartsRefusal s ≡ none) where
       length-append (map (literal cs false) (triedBefore cs (source t) (rank t))) (literal cs true t ∷ [])
       ∙ ap (λ n. n + 1) (length-map (triedBefore cs (source t) (rank t)) (literal cs false) ∙ above-count (source t) (rank t) (priority-low s ok t h))
 
-  idles-of : (z : ℕ) → length (literalsOf cs (from-idling z)) ≡ sumFrom (λ u. bit (leaves z u)) 0 (transitionCount cs)
-  idles-of z =
+  must-nots-of : (z : ℕ) → length (mustNots cs z) ≡ count (leaves z) (upto (transitionCount cs))
+  must-nots-of z =
       length-map (triedBefore cs z 17) (literal cs false)
       ∙ above-count z 17 (omega arith)
       ∙ sum-alike (λ u. bit (leaves z u && ltb (rank u) 17)) (λ u. bit (leaves z u)) 0 (transitionCount cs)
       (λ u a b. and-on (leaves z u) (ltb (rank u) 17) (lt-ltb (rank u) 17 (let l : rank u ≤ 16 = priority-high s ok u (omega arith) in omega arith)))
+      ∙ sym (count-from (leaves z) 0 (transitionCount cs))
 
-  -- each with those before it that leave its state, its own and the idle edge's
-  pub literals-are : sumFrom (earlier source) 0 (transitionCount cs) + 2 * transitionCount cs ≡ length (twin cs .literals)
+  -- each with those before it that leave its state, and its own
+  pub literals-are : sumFrom (earlier source) 0 (transitionCount cs) + transitionCount cs ≡ length (ofTransitions cs (literalsOf cs))
   literals-are =
       omega (
         arith,
-        byEdge-sum cs (literalsOf cs),
+        length-gathered (λ t. literalsOf cs (from-transition t)) 0 (transitionCount cs),
         sum-alike (λ t. length (literalsOf cs (from-transition t))) (λ t. sumFrom (lower source rank t) 0 (transitionCount cs) + 1) 0 (transitionCount cs) (λ t a b. literals-of t (omega arith)),
         sum-add (λ t. sumFrom (lower source rank t) 0 (transitionCount cs)) (λ t. 1) 0 (transitionCount cs),
         ones (λ t. 1) (transitionCount cs) (λ t h. refl),
         pairs-are source rank (transitionCount cs) apart,
         pairs-are source (λ u. u) (transitionCount cs) (λ t u a b e q. q),
         sum-alike (λ t. sumFrom (lower source (λ u. u) t) 0 (transitionCount cs)) (earlier source) 0 (transitionCount cs) (λ t a b. earlier-is source t (transitionCount cs) (omega arith)),
-        sum-alike (λ z. length (literalsOf cs (from-idling z))) (λ z. sumFrom (λ u. bit (leaves z u)) 0 (transitionCount cs)) 0 (stateCount cs) (λ z a b. idles-of z),
-        sum-swap (λ z u. bit (leaves z u)) 0 (stateCount cs) 0 (transitionCount cs),
-        ones (λ u. sumFrom (λ z. bit (leaves z u)) 0 (stateCount cs)) (transitionCount cs) (λ u h. once (source u) (stateCount cs) (source-in s ok u h)),
       )
+
+-- ---- the idling in a state
+
+-- its edges, their literals, its waiting clock and their updates
+abbrev pub idleParts : ChartSet → ℕ → ℕ
+idleParts cs st = length (idleOrigins cs st) + length (gather (literalsOf cs) (idleOrigins cs st)) + length (waitingClocks cs st) + length (gather (updatesOf cs) (idleOrigins cs st))
+
+pub idle-lengths : (cs : ChartSet) → sumFrom (idleParts cs) 0 (stateCount cs) ≡ idleLength cs
+idle-lengths cs =
+    omega (
+      arith,
+      sum-add (λ st. edges st + literals st + clocks st) updates 0 (stateCount cs),
+      sum-add (λ st. edges st + literals st) clocks 0 (stateCount cs),
+      sum-add edges literals 0 (stateCount cs),
+      length-gathered (idleOrigins cs) 0 (stateCount cs),
+      length-gathered (λ st. gather (literalsOf cs) (idleOrigins cs st)) 0 (stateCount cs),
+      length-gathered (waitingClocks cs) 0 (stateCount cs),
+      length-gathered (λ st. gather (updatesOf cs) (idleOrigins cs st)) 0 (stateCount cs),
+    )
+  where
+    edges : ℕ → ℕ
+    edges st = length (idleOrigins cs st)
+
+    literals : ℕ → ℕ
+    literals st = length (gather (literalsOf cs) (idleOrigins cs st))
+
+    clocks : ℕ → ℕ
+    clocks st = length (waitingClocks cs st)
+
+    updates : ℕ → ℕ
+    updates st = length (gather (updatesOf cs) (idleOrigins cs st))
+
+-- by the counts of its leaving transitions and of its waiting actions
+module _ (s : List ℕ) (sh : Shape) (ok : Accepted s sh) (st : ℕ) (h : st < 128) (leaving waiting : ℕ)
+    (left : leaving ≡ count (λ u. eqb (sourceOf (readCharts s) u) st) (upto (transitionCount (readCharts s)))) (acts : waiting ≡ count (keyed s sh (512 + st)) (upto (sh .actions))) where
+  abbrev charts : ChartSet
+  charts = readCharts s
+
+  times : length (of st (charts .waiting-times)) ≡ waiting
+  times =
+      ap length (by-key s sh ok st h)
+      ∙ length-map (keep (keyed s sh (512 + st)) (upto (sh .actions))) (λ a. waitAt s sh a .1)
+      ∙ length-keep (keyed s sh (512 + st)) (upto (sh .actions))
+      ∙ sym acts
+
+  waits-are : length (waits charts st) ≡ cond (eqb waiting 0) 0 1
+  waits-are = go (of st (charts .waiting-times)) ∙ ap (λ n. cond (eqb n 0) 0 1) times
+    where
+      go : (l : List ℕ) → length (take 1 l) ≡ cond (eqb (length l) 0) 0 1
+      go [] = refl
+      go (ms ∷ l) = sym (ap (λ b. cond b 0 1) (ne-eqb (length (ms ∷ l)) 0 (λ e. absurd (omega (arith, e)))))
+
+  pub due-updates : length (updatesOf charts (from-waiting st)) ≡ waiting
+  unfolding caseOf
+  due-updates =
+      ap (length {A = Action}) (of-key s sh ok 4 st (inr (inr (inr (refl, h)))))
+      ∙ length-map {B = Action} (keep (keyed s sh (512 + st)) (upto (sh .actions))) (λ a. actionAt s sh a .1)
+      ∙ length-keep (keyed s sh (512 + st)) (upto (sh .actions))
+      ∙ sym acts
+
+  must-nots : length (mustNots charts st) ≡ leaving
+  must-nots = must-nots-of s (ok .unrefused) st ∙ sym left
+
+  pub resets-are : length (clocksOfState charts st) ≡ length (clocksLeaving charts st) + cond (eqb waiting 0) 0 1
+  resets-are =
+      length-append (clocksLeaving charts st) (map (λ _. waitingClock charts st) (waits charts st))
+      ∙ ap (λ n. length (clocksLeaving charts st) + n) (length-map (waits charts st) (λ _. waitingClock charts st) ∙ waits-are)
+
+  abbrev whole : ℕ
+  whole = cond (eqb waiting 0) (leaving + 1) (2 * leaving + waiting + 5)
+
+  pub idle-is : idleParts charts st ≡ whole
+  idle-is = go (waits-one charts st)
+    where
+      clock : (n : ℕ) → length (waits charts st) ≡ n → length (waitingClocks charts st) ≡ n
+      clock n e = length-map {B = Clock} (waits charts st) (λ ms. record { timing = every; ticks = ticks ms }) ∙ e
+
+      idling : (n : ℕ) → length (waits charts st) ≡ n → length (literalsOf charts (from-idling st)) ≡ leaving + n
+      idling n e =
+          length-append {A = Literal} (mustNots charts st) (map (λ _. waitingLiteral charts false st) (waits charts st))
+          ∙ (λ i. must-nots i + (length-map {B = Literal} (waits charts st) (λ _. waitingLiteral charts false st) ∙ e) i)
+
+      due : length (literalsOf charts (from-waiting st)) ≡ leaving + 1
+      due = length-append {A = Literal} (mustNots charts st) (waitingLiteral charts true st ∷ []) ∙ ap (λ n. n + 1) must-nots
+
+      go : (waits charts st ≡ []) ⊎ ((ms : ℕ) × (waits charts st ≡ ms ∷ [])) → idleParts charts st ≡ whole
+      go (inl w) =
+          let n : length (waits charts st) ≡ 0 = ap length w in
+          omega (arith, idle-length charts st, n, ap (length {A = Literal}) (alone charts st (literalsOf charts) w), idling 0 n, clock 0 n, ap (length {A = Action}) (alone charts st (updatesOf charts) w), by (eqb waiting 0) refl)
+        where
+          by : (b : Bool) → eqb waiting 0 ≡ b → whole ≡ leaving + 1
+          by true e = ap (λ b. cond b (leaving + 1) (2 * leaving + waiting + 5)) e
+          by false e = absurd (omega (arith, ap length w, waits-are, ap {B = ℕ} (λ b. cond b 0 1) e))
+      go (inr w) =
+          let n : length (waits charts st) ≡ 1 = ap length (w .1) in
+          omega (arith, idle-length charts st, n, two (literalsOf charts), due, idling 1 n, clock 1 n, two (updatesOf charts), due-updates, by (eqb waiting 0) refl)
+        where
+          two : {A : Type 0} (f : Origin → List A) → length (gather f (idleOrigins charts st)) ≡ length (f (from-waiting st)) + length (f (from-idling st))
+          two f = sym (ap length (both charts st f (w .0) (w .1))) ∙ length-append (f (from-waiting st)) (f (from-idling st))
+
+          by : (b : Bool) → eqb waiting 0 ≡ b → whole ≡ 2 * leaving + waiting + 5
+          by true e = absurd (omega (arith, ap length (w .1), waits-are, ap {B = ℕ} (λ b. cond b 0 1) e))
+          by false e = ap (λ b. cond b (leaving + 1) (2 * leaving + waiting + 5)) e

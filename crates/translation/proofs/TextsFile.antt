@@ -1,26 +1,27 @@
--- The twin's file, from its parts: sections one after the other, and those that belong to edges by the transitions and then the states. Assumes nothing.
-use mathlib.Core.Path.{_≡_, sym, ap, _∙_}
+-- The twin's file, from its parts: sections one after the other, and those that belong to edges by the transitions and then the states' idling. Assumes nothing.
+use mathlib.Core.Path.{_≡_, refl, sym, ap, _∙_}
 use mathlib.Core.List.{List, [], _∷_, _++_, map, append-assoc, append-nil}
-use Prim.Native.Nat.{ℕ, _+_, _≤_, _<_}
+use Prim.Native.Nat.{ℕ, _≤_, _<_}
 use native.Mathlib.Nat.{zero-add}
 use native.Mathlib.Omega.{arith}
 use borrow.Author.Tests.{lt-ltb, le-ltb}
 use lib.ListN.{length, drop}
 use lib.Seq.{sets, sets-eq}
-use Rattle.prelude.specs.Lists.{gather, from, upto}
+use Rattle.prelude.specs.Lists.{gather, upto}
 use Rattle.records.specs.Bytes.{bytes2}
 use Rattle.expressions.specs.Nodes.{writeNode}
 use Rattle.records.specs.Refusal.{val, fault, short-buffer, fault-if, _>>_}
-use Rattle.model.specs.ChartSet.{ChartSet}
+use Rattle.model.specs.ChartSet.{ChartSet, waits}
 use Rattle.prelude.specs.Owned.{byOwner}
 use Rattle.model.specs.AutomataTable.{Automata, writeEdge, writeLiteral, writeClock, writeVariable, writeUpdate, writeReset, sections, writeAutomata}
-use Rattle.model.specs.Translation.{Origin, from-transition, from-idling, transitionCount, stateCount, origins, originOf, edgeNumber, byEdge, written}
-use Rattle.model.proofs.TranslationOrigins.{IsOrigin, origins-count, originOf-edgeNumber}
+use Rattle.model.specs.Translation.{Origin, from-transition, from-waiting, from-idling, transitionCount, stateCount, idleOrigins, origins, originOf, edgeNumber, byEdge, written}
+use Rattle.model.proofs.TranslationOrigins.{originOf-edgeNumber, by-origin}
 use Rattle.prelude.proofs.Maps.{gather-map}
 use Rattle.twin_records.specs.Texts.{recordText, section, edgeTexts, placesText, testsText, effectsText}
 use Rattle.twin_records.proofs.TextsSections.{gathered-text}
 use Rattle.prelude.proofs.Lists.{gather-append}
-use Rattle.prelude.proofs.Gathered.{gather-none, gather-gather, gather-empty, gather-below, gather-shift, from-append}
+use Rattle.prelude.proofs.Counts.{is-table}
+use Rattle.prelude.proofs.Gathered.{gather-none, gather-one, gather-gather, gather-empty, gather-below}
 
 -- ---- one section after the other
 
@@ -52,34 +53,43 @@ module _ (cs : ChartSet) {A : Type 0} (kind : ℕ) (body : ℕ × A → List ℕ
   abbrev originText : (Origin → List A) → Origin → List ℕ
   originText f o = edgeTexts kind body (edgeNumber cs o) (f o)
 
-  -- of the transitions, then of the idlings
-  pub byEdge-text : (f : Origin → List A) →
-      section kind (map body (byEdge cs f)) ≡ gather (λ t. originText f (from-transition t)) (upto (transitionCount cs)) ++ gather (λ st. originText f (from-idling st)) (upto (stateCount cs))
-  byEdge-text f =
+  -- one origin after the other
+  origins-text : (f : Origin → List A) → section kind (map body (byEdge cs f)) ≡ gather (originText f) (origins cs)
+  origins-text f =
       by-owner-text (length (origins cs)) (λ e. f (originOf cs e))
-      ∙ ap (λ n. gather text (upto n)) (origins-count cs)
-      ∙ ap (gather text) (from-append 0 (transitionCount cs) (stateCount cs))
-      ∙ gather-append text (upto (transitionCount cs)) (from (0 + transitionCount cs) (stateCount cs))
-      ∙ (λ i. gather-below text (λ t. originText f (from-transition t)) (transitionCount cs) (λ t h. of-origin (from-transition t) h) i
-      ++ (ap (λ k. gather text (from k (stateCount cs))) (let e : 0 + transitionCount cs ≡ transitionCount cs + 0 = omega arith in e)
-      ∙ gather-shift text (transitionCount cs) 0 (stateCount cs)
-      ∙ gather-below (λ st. text (transitionCount cs + st)) (λ st. originText f (from-idling st)) (stateCount cs) (λ st h. of-origin (from-idling st) h)) i)
+      ∙ gather-below (λ e. edgeTexts kind body e (f (originOf cs e))) (λ e. originText f (originOf cs e)) (length (origins cs))
+      (λ e h. ap (λ n. edgeTexts kind body n (f (originOf cs e))) (sym (number-back e h)))
+      ∙ sym (gather-map (originOf cs) (originText f) (upto (length (origins cs))))
+      ∙ ap (gather (originText f)) (sym (is-table (originOf cs) (from-idling 0) (length (origins cs)) (origins cs) refl (λ e h. refl)))
     where
-      text : ℕ → List ℕ
-      text e = edgeTexts kind body e (f (originOf cs e))
+      number-back : (e : ℕ) → e < length (origins cs) → edgeNumber cs (originOf cs e) ≡ e
+      number-back = by-origin cs (λ e. edgeNumber cs (originOf cs e) ≡ e) (λ o h. ap (edgeNumber cs) (originOf-edgeNumber cs o h))
 
-      of-origin : (o : Origin) → IsOrigin cs o → text (edgeNumber cs o) ≡ originText f o
-      of-origin o h = ap (λ z. edgeTexts kind body (edgeNumber cs o) (f z)) (originOf-edgeNumber cs o h)
+  -- of the transitions, then of the states' idling
+  pub byEdge-text : (f : Origin → List A) →
+      section kind (map body (byEdge cs f)) ≡ gather (λ t. originText f (from-transition t)) (upto (transitionCount cs)) ++ gather (λ st. gather (originText f) (idleOrigins cs st)) (upto (stateCount cs))
+  byEdge-text f =
+      origins-text f
+      ∙ gather-append (originText f) (map from-transition (upto (transitionCount cs))) (gather (idleOrigins cs) (upto (stateCount cs)))
+      ∙ (λ i. gather-map from-transition (originText f) (upto (transitionCount cs)) i ++ gather-gather (originText f) (idleOrigins cs) (upto (stateCount cs)) i)
 
-  -- where the idlings have none
-  pub transitions-text : (f : Origin → List A) → ((z : ℕ) → f (from-idling z) ≡ []) →
+  -- where the idling has none
+  pub transitions-text : (f : Origin → List A) → ((z : ℕ) → f (from-waiting z) ≡ []) → ((z : ℕ) → f (from-idling z) ≡ []) →
       section kind (map body (byEdge cs f)) ≡ gather (λ t. originText f (from-transition t)) (upto (transitionCount cs))
-  transitions-text f none =
+  transitions-text f wait idle =
       byEdge-text f
       ∙ ap (λ l. gather (λ t. originText f (from-transition t)) (upto (transitionCount cs)) ++ l)
-      (gather-below (λ st. originText f (from-idling st)) (λ st. []) (stateCount cs) (λ st h. ap (edgeTexts kind body (edgeNumber cs (from-idling st))) (none st) ∙ gather-none (λ (x : A). recordText kind (body (edgeNumber cs (from-idling st), x))))
-      ∙ gather-empty (upto (stateCount cs)))
+      (gather-below (λ st. gather (originText f) (idleOrigins cs st)) (λ st. []) (stateCount cs) (λ st h. none st) ∙ gather-empty (upto (stateCount cs)))
       ∙ append-nil (gather (λ t. originText f (from-transition t)) (upto (transitionCount cs)))
+    where
+      nothing : (o : Origin) → f o ≡ [] → originText f o ≡ []
+      nothing o e = ap (edgeTexts kind body (edgeNumber cs o)) e ∙ gather-none (λ (x : A). recordText kind (body (edgeNumber cs o, x)))
+
+      none : (st : ℕ) → gather (originText f) (idleOrigins cs st) ≡ []
+      none st =
+          gather-append (originText f) (map (λ _. from-waiting st) (waits cs st)) (from-idling st ∷ [])
+          ∙ (λ i. (gather-map (λ _. from-waiting st) (originText f) (waits cs st) ∙ (λ j. gather (λ (_ : ℕ). nothing (from-waiting st) (wait st) j) (waits cs st)) ∙ gather-empty (waits cs st)) i
+          ++ (gather-one (originText f) (from-idling st) ∙ nothing (from-idling st) (idle st)) i)
 
 -- ---- the answer
 

@@ -2,4 +2,5 @@
 pub mod TextsWritten
 pub mod TextsSections
 pub mod TablesClocks
+pub mod TablesWaiting
 pub mod TextsNodes

@@ -137,7 +137,7 @@ module _ (r : List ℕ) where
 -- ---- the nodes of an accepted file
 
 module _ (s : List ℕ) (sh : Shape) (ok : Accepted s sh) where
-  off : (k : ℕ) → k < 9 → T (not (getD (chartTests s) k (odd-length, false) .1))
+  off : (k : ℕ) → k < 10 → T (not (getD (chartTests s) k (odd-length, false) .1))
   off k h = M.all-getD (λ x. not (x .1)) (chartTests s) (odd-length, false) k (lowest-none (chartTests s) (ok .unrefused)) h
 
   clean-records : all (λ r. unusedAreZero (unused r) r) (records s) ≡ true

@@ -125,3 +125,6 @@ puts-nothing l at far = record { wrote = nothing-wrote l at; near = omega arith 
 
 pub puts-then : {l m r xs ys : List ℕ} {i j k a b : ℕ} (far : ℕ) → a + b ≤ far → Puts l i xs m j a → Puts m j ys r k b → Puts l i (xs ++ ys) r k far
 puts-then far h p q = record { wrote = wrote-then (p .wrote) (q .wrote); near = omega (arith, p .near, q .near) }
+
+pub puts-far : {l m xs : List ℕ} {i j a : ℕ} (far : ℕ) → a ≤ far → Puts l i xs m j a → Puts l i xs m j far
+puts-far far h p = record { wrote = p .wrote; near = omega (arith, p .near) }

@@ -5,7 +5,9 @@ use Rattle.prelude.specs.Lists.{gather, padded}
 use Rattle.records.specs.Bytes.{bytes2}
 use Rattle.expressions.specs.Nodes.{writeNode}
 use Rattle.records.specs.Wrote.{Wrote}
-use Rattle.model.specs.Runs.{Deed}
+use Rattle.model.specs.Runs.{Action}
+use Rattle.model.specs.ChartSet.{ChartSet}
+use Rattle.model.specs.Translation.{Origin, edgeNumber, edgeOf, literalsOf, updatesOf, resetsOf}
 use Rattle.model.specs.AutomataTable.{Automata, Literal, writeEdge, writeLiteral, writeClock, writeVariable, writeUpdate, writeReset}
 
 -- "Unnamed bytes are zero."
@@ -16,6 +18,10 @@ recordText kind body = padded 16 0 (kind ∷ body)
 abbrev pub section : ℕ → List (List ℕ) → List ℕ
 section kind bodies = gather (recordText kind) bodies
 
+-- the record of an origin's edge
+abbrev pub edgeText : ChartSet → Origin → List ℕ
+edgeText cs o = recordText 35 (writeEdge (edgeOf cs o))
+
 -- the records of the things of an edge
 abbrev pub edgeTexts : {A : Type 0} → ℕ → (ℕ × A → List ℕ) → ℕ → List A → List ℕ
 edgeTexts kind body e xs = gather (λ x. recordText kind (body (e, x))) xs
@@ -23,11 +29,21 @@ edgeTexts kind body e xs = gather (λ x. recordText kind (body (e, x))) xs
 abbrev pub literalTexts : ℕ → List Literal → List ℕ
 literalTexts = edgeTexts 36 writeLiteral
 
-abbrev pub updateTexts : ℕ → List Deed → List ℕ
+abbrev pub updateTexts : ℕ → List Action → List ℕ
 updateTexts = edgeTexts 40 writeUpdate
 
 abbrev pub resetTexts : ℕ → List ℕ → List ℕ
 resetTexts = edgeTexts 41 writeReset
+
+-- those of an origin's edge
+abbrev pub literalsText : ChartSet → Origin → List ℕ
+literalsText cs o = literalTexts (edgeNumber cs o) (literalsOf cs o)
+
+abbrev pub updatesText : ChartSet → Origin → List ℕ
+updatesText cs o = updateTexts (edgeNumber cs o) (updatesOf cs o)
+
+abbrev pub resetsText : ChartSet → Origin → List ℕ
+resetsText cs o = resetTexts (edgeNumber cs o) (resetsOf cs o)
 
 -- The file in three parts: kinds 33 to 35, 36 to 39, 40 and 41.
 module _ (au : Automata) where

@@ -52,7 +52,7 @@ pub fn guard_of(s: &[u8], shape: Shape, t: u16) -> Guard
 
 pub fn deed_of(s: &[u8], shape: Shape, a: u16) -> Deed
     requires { ⌜ IsShape (now s) shape × (a < shape .actions) ⌝ }
-    ensures { λ r. ⌜ deedFor r ≡ actionAt (now (s .entry)) shape a .1 ⌝ }
+    ensures { λ r. ⌜ deedFor r ≡ actionAt (now (s .entry)) shape a .1 .deed ⌝ }
 {
     let at = 16 * (first_node(shape) + (shape.nodes as usize) + (a as usize));
     deed_by(s[at + 4], s[at + 5], u16_within(s, at + 6))

@@ -182,8 +182,8 @@ pub fn node_bytes(code: u8, a: u16, b: u16, c: u16, z: u32) -> [u8; 16]
     ]
 }
 
-pub fn update_bytes(code: u8, edge: u16, x: u8, node: u16) -> [u8; 16]
-    ensures { λ r. ⌜ r ≡ recordText 40 (code ∷ bytes2 edge ++ (x ∷ 0 ∷ bytes2 node)) ⌝ }
+pub fn update_bytes(code: u8, edge: u16, x: u8, node: u16, guard: u16) -> [u8; 16]
+    ensures { λ r. ⌜ r ≡ recordText 40 (code ∷ bytes2 edge ++ (x ∷ 0 ∷ bytes2 node) ++ bytes2 guard) ⌝ }
 {
     [
         40,
@@ -194,8 +194,8 @@ pub fn update_bytes(code: u8, edge: u16, x: u8, node: u16) -> [u8; 16]
         0,
         low(node),
         high(node),
-        0,
-        0,
+        low(guard),
+        high(guard),
         0,
         0,
         0,

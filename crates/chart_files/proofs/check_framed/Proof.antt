@@ -10,8 +10,8 @@ use Rattle.expressions.specs.Nodes.{nodeAt}
 use Rattle.expressions.specs.Verdicts.{verdictOf}
 use Rattle.expressions.specs.Uses.{addUses, allOperands}
 use Rattle.model.specs.ChartSet.{readCharts}
-use Rattle.model.specs.ChartFile.{unused, unusedAreZero, inCode, allNamed, structured, nodesFit, ticking}
-use Rattle.records.specs.declared.refusals.Refusal.the-variants.{StrayByte, BrokenCode, DanglingNumber, BrokenStructure, BrokenNode, ZeroTicks}
+use Rattle.model.specs.ChartFile.{unused, unusedAreZero, inCode, allNamed, structured, nodesFit, allTicking, waitAlike}
+use Rattle.records.specs.declared.refusals.Refusal.the-variants.{StrayByte, BrokenCode, DanglingNumber, BrokenStructure, BrokenNode, ZeroTicks, UnlikeWaits}
 use Rattle.chart_files.proofs.ShapeChecked.{refusal-is, refused, accepted}
 use borrow.Author.Needs.{needs}
 use Rattle.chart_files.proofs.check_framed.Statement.{statement}
@@ -32,8 +32,11 @@ shaped-hold c = sym (c .before .structured .ensures) ∙ not-false _ (c .if4 .le
 nodes-hold : (c : tie.Else5) → nodesFit (readCharts (c .before .before .before .before .before .before .before .before .before .before .before .before .before .before .before .before .before .before .args .s .now)) ≡ true
 nodes-hold c = sym (c .before .before .nodes-fit .ensures .0) ∙ not-false _ (c .if5 .left)
 
-ticks-hold : (c : tie.Else6) → all (λ t. ticking (t .trigger)) (readCharts (c .before .before .before .before .before .before .before .before .before .before .before .before .before .before .before .before .before .before .before .before .args .s .now) .transitions) ≡ true
+ticks-hold : (c : tie.Else6) → allTicking (readCharts (c .before .before .before .before .before .before .before .before .before .before .before .before .before .before .before .before .before .before .before .before .args .s .now)) ≡ true
 ticks-hold c = sym (c .before .all-ticking .ensures) ∙ not-false _ (c .if6 .left)
+
+waits-hold : (c : tie.Else7) → waitAlike (readCharts (c .before .before .before .before .before .before .before .before .before .before .before .before .before .before .before .before .before .before .before .before .before .before .args .s .now)) ≡ true
+waits-hold c = sym (c .before .waits-alike .ensures) ∙ not-false _ (c .if7 .left)
 
 returns : tie.Need-returns
 unfolding lowest
@@ -42,6 +45,7 @@ returns c =
     refused (k .args .s .now) StrayByte
     (refusal-is (k .args .s .now) (k .pre .framed)
     (sym (c .before .before .test-records .ensures .0) ∙ not-true _ (c .if1 .taken))
+    refl
     refl
     refl
     refl
@@ -56,6 +60,7 @@ returns-2 c =
     (refusal-is (k .args .s .now) (k .pre .framed)
     (zeros-hold (c .before .before))
     (sym (c .before .before .before .before .test-records .ensures .1) ∙ not-true _ (c .if2 .taken))
+    refl
     refl
     refl
     refl
@@ -78,6 +83,7 @@ returns-3 c =
     (sym (c .before .all-named .ensures) ∙ not-true _ (c .if3 .taken))
     refl
     refl
+    refl
     refl)
 
 structured-requires : tie.Need-structured-requires
@@ -93,6 +99,7 @@ returns-4 c =
     (codes-hold (c .before .before .before .before .before .before .before .before))
     (names-hold (c .before .before))
     (sym (c .before .structured .ensures) ∙ not-true _ (c .if4 .taken))
+    refl
     refl
     refl)
 
@@ -119,6 +126,7 @@ returns-5 c =
     (names-hold (c .before .before .before .before .before .before))
     (shaped-hold (c .before .before .before .before))
     (sym (c .before .before .nodes-fit .ensures .0) ∙ not-true _ (c .if5 .taken))
+    refl
     refl)
 
 returns-6 : tie.Need-returns-6
@@ -132,20 +140,39 @@ returns-6 c =
     (names-hold (c .before .before .before .before .before .before .before .before))
     (shaped-hold (c .before .before .before .before .before .before))
     (nodes-hold (c .before .before))
-    (sym (c .before .all-ticking .ensures) ∙ not-true _ (c .if6 .taken)))
+    (sym (c .before .all-ticking .ensures) ∙ not-true _ (c .if6 .taken))
+    refl)
+
+waits-alike-requires : tie.Need-waits-alike-requires
+waits-alike-requires c κs = (c .before .before .before .before .before .before .before .before .before .before .before .before .before .before .before .before .before .before .before .before .pre, names-hold (c .before .before .before .before .before .before .before .before), ticks-hold c)
 
 returns-7 : tie.Need-returns-7
 unfolding lowest
 returns-7 c =
-    let k = c .before .before .before .before .before .before .before .before .before .before .before .before .before .before .before .before .before .before .before .before in
+    let k = c .before .before .before .before .before .before .before .before .before .before .before .before .before .before .before .before .before .before .before .before .before .before in
+    refused (k .args .s .now) UnlikeWaits
+    (refusal-is (k .args .s .now) (k .pre .framed)
+    (zeros-hold (c .before .before .before .before .before .before .before .before .before .before .before .before .before .before .before .before .before .before))
+    (codes-hold (c .before .before .before .before .before .before .before .before .before .before .before .before .before .before .before .before))
+    (names-hold (c .before .before .before .before .before .before .before .before .before .before))
+    (shaped-hold (c .before .before .before .before .before .before .before .before))
+    (nodes-hold (c .before .before .before .before))
+    (ticks-hold (c .before .before))
+    (sym (c .before .waits-alike .ensures) ∙ not-true _ (c .if7 .taken)))
+
+returns-8 : tie.Need-returns-8
+unfolding lowest
+returns-8 c =
+    let k = c .before .before .before .before .before .before .before .before .before .before .before .before .before .before .before .before .before .before .before .before .before .before in
     accepted (k .args .s .now) (k .args .shape) (k .pre)
     (refusal-is (k .args .s .now) (k .pre .framed)
-    (zeros-hold (c .before .before .before .before .before .before .before .before .before .before .before .before .before .before .before .before))
-    (codes-hold (c .before .before .before .before .before .before .before .before .before .before .before .before .before .before))
-    (names-hold (c .before .before .before .before .before .before .before .before))
-    (shaped-hold (c .before .before .before .before .before .before))
-    (nodes-hold (c .before .before))
-    (ticks-hold c))
+    (zeros-hold (c .before .before .before .before .before .before .before .before .before .before .before .before .before .before .before .before .before .before))
+    (codes-hold (c .before .before .before .before .before .before .before .before .before .before .before .before .before .before .before .before))
+    (names-hold (c .before .before .before .before .before .before .before .before .before .before))
+    (shaped-hold (c .before .before .before .before .before .before .before .before))
+    (nodes-hold (c .before .before .before .before))
+    (ticks-hold (c .before .before))
+    (waits-hold c))
 
 pub check-framed-spec : {M : Type 1} → statement M
 check-framed-spec =
@@ -166,4 +193,6 @@ check-framed-spec =
     returns-5
     (λ c κs. search needs)
     returns-6
-    returns-7)
+    waits-alike-requires
+    returns-7
+    returns-8)

@@ -16,11 +16,11 @@ use Rattle.paths.proofs.count_rows.Statement.{statement}
 use Rattle.paths.proofs.count_rows.Tie as tie
 
 abbrev Inv-loop : tie.InvT-loop
-Inv-loop s shape automata sources targets path locations₀ position₀ cycles₀ rows₀ i₀ locations position cycles rows i =
+Inv-loop s shape edges automata sources targets path locations₀ position₀ cycles₀ rows₀ i₀ locations position cycles rows i =
     Followed (readCharts s) path i (walkIn (shape .charts) locations position cycles) rows
 
 abbrev μ-loop : tie.MeasureT-loop
-μ-loop s shape automata sources targets path locations₀ position₀ cycles₀ rows₀ i₀ locations position cycles rows i = length path - i
+μ-loop s shape edges automata sources targets path locations₀ position₀ cycles₀ rows₀ i₀ locations position cycles rows i = length path - i
 
 start-locations-requires : tie.Need-start-locations-requires Inv-loop μ-loop
 start-locations-requires c κs = c .before .before .pre .0
@@ -85,7 +85,7 @@ loop-again c =
     let e = getD (now (a .path)) (l .i) 0 in
     followed-more cs (now (a .path)) (l .i) w (l .rows) (l .inv) (c .before .before .before .before .before .before .before .before .before .loop-test .taken)
     (sym (c .before .before .before .before .before .before .step-fits .ensures) ∙ not-false _ (c .before .before .before .before .before .if1 .left))
-    _ ((λ i. walkIn (a .shape .charts) (c .before .before .follow-step .last .1 .1 .1 .1 .1 .1 .0) (c .before .next-position .ensures i) (c .next-cycles .ensures i)) ∙ c .before .before .follow-step .ensures)
+    _ ((λ i. walkIn (a .shape .charts) (c .before .before .follow-step .last .1 .1 .1 .1 .1 .1 .1 .0) (c .before .next-position .ensures i) (c .next-cycles .ensures i)) ∙ c .before .before .follow-step .ensures)
     _ (ap (λ n. l .rows + n) (c .before .before .before .before .rows-of-step .ensures ∙ sym (rows-many cs (now (a .path)) e w (a .shape .transitions) (length-transitions s (a .shape) (b .pre .0 .shape)))))
 
 returns-2 : tie.Need-returns-2 Inv-loop μ-loop

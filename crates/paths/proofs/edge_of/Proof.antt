@@ -4,12 +4,13 @@ use Prim.Native.Nat.{ℕ, _+_, _-_, _<_}
 use native.Mathlib.Omega.{arith}
 use borrow.Author.Needs.{needs}
 use denote.Ref.{now}
+use lib.ListN.{getD}
 use Rattle.model.specs.ChartSet.{readCharts}
 use Rattle.model.specs.AutomataTable.{edge}
 use Rattle.model.specs.Translation.{twin}
 use Rattle.chart_records.specs.Places.{homeAt, transitionAt}
 use Rattle.chart_steps.proofs.Accepted.{source-known}
-use Rattle.paths.proofs.LedOfEdges.{home-known, low-automaton, low-source, low-target, high-automaton, high-source, high-target}
+use Rattle.paths.proofs.LedOfEdges.{home-known, low-automaton, low-source, low-target, idle-room, high-automaton, high-source, high-target}
 use Rattle.paths.proofs.edge_of.Statement.{statement}
 use Rattle.paths.proofs.edge_of.Tie as tie
 use Rattle.paths.proofs.edge_of.Reads as reads
@@ -18,17 +19,13 @@ use Rattle.chart_records.proofs.fields.home_of.Reads as home-of-reads
 use Rattle.chart_records.proofs.fields.source_of.Reads as source-of-reads
 use Rattle.chart_records.proofs.fields.target_of.Reads as target-of-reads
 
--- src/lib.rt:54:13
--- src/lib.rt:55:13
--- src/lib.rt:56:13
--- src/lib.rt:64:13
 returns : tie.Need-returns
 returns c =
     let b = c .before .before .before .before .before .before in
     let a = b .args in
     let s = now (a .s) in
     let sh = a .shape in
-    let ok = b .pre .0 in
+    let ok = b .pre .0 .0 in
     let h = c .before .before .before .if1 .taken in
     let from = c .before .before .source-of .ensures in
     let home : c .home-of .result ≡ homeAt s sh (transitionAt s sh (a .e) .source) = c .home-of .ensures ∙ ap (homeAt s sh) from in
@@ -39,22 +36,30 @@ returns c =
       target = c .before .target-of .ensures ∙ sym (low-target s sh ok (a .e) h);
     }
 
+element-copy-out-state : tie.Need-element-copy-out-state
+element-copy-out-state c =
+    let b = c .before .before .before .before in
+    let a = b .args in
+    idle-room (now (a .s)) (a .shape) (b .pre .0 .0) (now (a .idling)) (a .idle) (b .pre .0 .1) (a .e - a .shape .transitions) (omega (arith, c .before .if1 .left, b .pre .1))
+
 returns-2 : tie.Need-returns-2
 returns-2 c =
-    let b = c .before .before .before .before .before in
+    let b = c .before .before .before .before .before .before in
     let a = b .args in
     let s = now (a .s) in
     let sh = a .shape in
-    let ok = b .pre .0 in
-    let n = a .e - sh .transitions in
-    let back : sh .transitions + n ≡ a .e = omega (arith, c .before .before .if1 .left) in
-    let h : n < sh .states = omega (arith, c .before .before .if1 .left, b .pre .1) in
-    let at : (P : ℕ → Type 0) → P (sh .transitions + n) → P (a .e) = λ P. subst P back in
+    let ok = b .pre .0 .0 in
+    let has = b .pre .0 .1 in
+    let j = a .e - sh .transitions in
+    let n = getD (now (a .idling)) j 0 in
+    let back : sh .transitions + j ≡ a .e = omega (arith, c .before .before .before .if1 .left) in
+    let h : j < a .idle = omega (arith, c .before .before .before .if1 .left, b .pre .1) in
+    let at : (P : ℕ → Type 0) → P (sh .transitions + j) → P (a .e) = λ P. subst P back in
     record {
-      known = omega (arith, c .home-of2 .ensures, home-known s sh ok n h);
-      automaton = c .home-of2 .ensures ∙ sym (at (λ e. edge (twin (readCharts s)) e .automaton ≡ homeAt s sh n) (high-automaton s sh ok n h));
-      source = sym (at (λ e. edge (twin (readCharts s)) e .source ≡ n) (high-source s sh ok n h));
-      target = sym (at (λ e. edge (twin (readCharts s)) e .target ≡ n) (high-target s sh ok n h));
+      known = omega (arith, c .home-of2 .ensures, home-known s sh ok n (has .known j h));
+      automaton = c .home-of2 .ensures ∙ sym (at (λ e. edge (twin (readCharts s)) e .automaton ≡ homeAt s sh n) (high-automaton s sh ok (now (a .idling)) (a .idle) has j h));
+      source = sym (at (λ e. edge (twin (readCharts s)) e .source ≡ n) (high-source s sh ok (now (a .idling)) (a .idle) has j h));
+      target = sym (at (λ e. edge (twin (readCharts s)) e .target ≡ n) (high-target s sh ok (now (a .idling)) (a .idle) has j h));
     }
 
 pub edge-of-spec : {M : Type 1} → statement M
@@ -64,6 +69,9 @@ edge-of-spec =
     (λ c κs. search needs)
     (λ c κs. search needs)
     (λ c κs. search needs)
+    (λ c. search needs)
+    (λ c. search needs)
+    element-copy-out-state
     (λ c κs. search needs)
     returns
     returns-2)

@@ -5,20 +5,20 @@ use mathlib.Core.List.{List}
 use Prim.Native.Nat.{ℕ, _+_, _-_, _≤_, _<_}
 use native.Mathlib.Omega.{arith}
 use borrow.Author.Tests.{eqb-true, eqb-false}
+use borrow.Author.Needs.{needs}
 use denote.Ref.{now}
 use lib.Dec.{eqb}
 use lib.ListN.{length, getD, set, length-set}
 use lib.Seq.{getD-set-same, getD-set-other}
 use Rattle.model.specs.Limits.{mostEdges}
-use Rattle.chart_records.proofs.PlacesRead.{most-states, most-transitions}
-use Rattle.chart_records.specs.declared.Shape.{Shape}
-use Rattle.chart_records.specs.Shape.{IsShape}
 use Rattle.paths.specs.declared.Edge.{Edge}
 use Rattle.paths.specs.LedOf.{IsEdge}
+use Rattle.paths.proofs.LedOfEdges.{edges-in}
 use Rattle.paths.proofs.edges_of.Statement.{statement}
 use Rattle.paths.proofs.edges_of.Tie as tie
 use Rattle.paths.proofs.edges_of.Reads as reads
 use Rattle.paths.proofs.edges_of.Lts as lts
+use Rattle.paths.proofs.idling_of.Reads as idling-of-reads
 use Rattle.paths.proofs.edge_of.Reads as edge-of-reads
 
 -- the arrays hold so many edges
@@ -50,25 +50,26 @@ held-more s charts n automata sources targets x h held is = record {
         (held .held e (omega arith))
 
 abbrev Inv-loop : tie.InvT-loop
-Inv-loop s shape automata₀ sources₀ targets₀ e₀ automata sources targets e = Held s (shape .charts) e automata sources targets × (e ≤ shape .transitions + shape .states)
+Inv-loop s shape states idle edges automata₀ sources₀ targets₀ e₀ automata sources targets e = Held s (shape .charts) e automata sources targets × (e ≤ edges)
 
 abbrev μ-loop : tie.MeasureT-loop
-μ-loop s shape automata₀ sources₀ targets₀ e₀ automata sources targets e = shape .transitions + shape .states - e
+μ-loop s shape states idle edges automata₀ sources₀ targets₀ e₀ automata sources targets e = edges - e
+
+add-edges : tie.Need-add-edges Inv-loop μ-loop
+add-edges c =
+    let b = c .before .before .before .before in
+    omega (arith, c .before .before .idling-of .ensures .count, edges-in (now (b .args .s)) (b .args .shape) (b .pre))
 
 loop-holds : tie.Need-loop-holds Inv-loop μ-loop
 loop-holds c = (record { rooms = (refl, refl, refl); held = λ e l. absurd (omega arith) }, omega arith)
 
-few : (s : List ℕ) (sh : Shape) → IsShape s sh → sh .transitions + sh .states ≤ mostEdges
-few s sh is = omega (arith, most-transitions s sh is, most-states s sh is)
-
-add-if1 : tie.Need-add-if1 Inv-loop μ-loop
-add-if1 c = let b = c .before .before .before in omega (arith, few (now (b .args .s)) (b .args .shape) (b .pre .shape))
-
 edge-of-requires : tie.Need-edge-of-requires Inv-loop μ-loop
-edge-of-requires c κs = (c .before .before .before .before .pre, c .if1 .taken)
+edge-of-requires c κs = ((c .before .before .before .before .before .before .before .pre, c .before .before .before .before .before .idling-of .ensures), c .before .loop-test .taken)
 
-in-room : (c : lts.After-edge-of (edge-of-reads.Asked, edge-of-reads.Learnt) reads.Pre reads.Post Inv-loop μ-loop) → c .before .before .before .loop .e < mostEdges
-in-room c = let b = c .before .before .before .before .before in omega (arith, c .before .if1 .taken, few (now (b .args .s)) (b .args .shape) (b .pre .shape))
+in-room : (c : lts.After-edge-of (idling-of-reads.Asked, idling-of-reads.Learnt, edge-of-reads.Asked, edge-of-reads.Learnt) reads.Pre reads.Post Inv-loop μ-loop) → c .before .before .before .loop .e < mostEdges
+in-room c =
+    let b = c .before .before .before .before .before .before .before .before in
+    omega (arith, c .before .before .loop-test .taken, c .before .before .before .before .before .before .idling-of .ensures .count, edges-in (now (b .args .s)) (b .args .shape) (b .pre))
 
 cast-i : tie.Need-cast-i Inv-loop μ-loop
 cast-i c = omega (arith, in-room c)
@@ -92,18 +93,21 @@ add-e : tie.Need-add-e Inv-loop μ-loop
 add-e c = omega (arith, in-room c)
 
 loop-less : tie.Need-loop-less Inv-loop μ-loop
-loop-less c = omega (arith, c .before .if1 .taken)
+loop-less c = omega (arith, c .before .before .loop-test .taken)
 
 loop-again : tie.Need-loop-again Inv-loop μ-loop
 loop-again c =
-    let a = c .before .before .before .before .before .args in
+    let a = c .before .before .before .before .before .before .before .before .args in
     let l = c .before .before .before .loop in
-    (held-more (now (a .s)) (a .shape .charts) (l .e) (l .automata) (l .sources) (l .targets) (c .edge-of .result) (in-room c) (l .inv .0) (c .edge-of .ensures), omega (arith, c .before .if1 .taken))
+    (held-more (now (a .s)) (a .shape .charts) (l .e) (l .automata) (l .sources) (l .targets) (c .edge-of .result) (in-room c) (l .inv .0) (c .edge-of .ensures), omega (arith, c .before .before .loop-test .taken))
 
 returns : tie.Need-returns Inv-loop μ-loop
 returns c =
-    let l = c .before .before .loop in
-    λ e h. l .inv .0 .held e (omega (arith, h, l .inv .1, c .if1 .left))
+    let l = c .before .loop in
+    record {
+      count = sym (c .before .before .before .before .idling-of .ensures .count);
+      each = λ e h. l .inv .0 .held e (omega (arith, h, l .inv .1, c .loop-test .left));
+    }
 
 pub edges-of-spec : {M : Type 1} → statement M
 edges-of-spec =
@@ -111,8 +115,9 @@ edges-of-spec =
     (tie.spec
     Inv-loop
     μ-loop
+    (λ c κs. search needs)
+    add-edges
     loop-holds
-    add-if1
     edge-of-requires
     cast-i
     array-write-automata

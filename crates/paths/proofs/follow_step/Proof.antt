@@ -16,14 +16,14 @@ element-copy-out-a c =
     let b = c .before in
     let a = b .args in
     let f = fits-edge (now (a .s)) (a .shape) (b .pre .0 .0) (a .e) (walkIn (a .shape .charts) (now (a .locations)) (a .position) (a .cycles)) (c .if1 .taken) (b .pre .1) in
-    edge-room (now (a .s)) (a .shape) (b .pre .0 .0) (now (a .automata)) (now (a .sources)) (now (a .targets)) (b .pre .0 .1) (a .e) (f .0)
+    edge-room (now (a .s)) (a .shape) (b .pre .0 .0) (a .edges) (now (a .automata)) (now (a .sources)) (now (a .targets)) (b .pre .0 .1) (a .e) (omega (arith, f .0, b .pre .0 .1 .count))
 
 few : (c : lts.After-a reads.Pre reads.Post) → getD (now (c .before .before .args .automata)) (c .before .before .args .e) 0 < 8
 few c =
     let b = c .before .before in
     let a = b .args in
     let f = fits-edge (now (a .s)) (a .shape) (b .pre .0 .0) (a .e) (walkIn (a .shape .charts) (now (a .locations)) (a .position) (a .cycles)) (c .before .if1 .taken) (b .pre .1) in
-    few-automata (now (a .s)) (a .shape) (b .pre .0 .0) (now (a .automata)) (now (a .sources)) (now (a .targets)) (b .pre .0 .1) (a .e) (f .0)
+    few-automata (now (a .s)) (a .shape) (b .pre .0 .0) (a .edges) (now (a .automata)) (now (a .sources)) (now (a .targets)) (b .pre .0 .1) (a .e) (omega (arith, f .0, b .pre .0 .1 .count))
 
 cast-a : tie.Need-cast-a
 cast-a c = omega (arith, few c)
@@ -43,7 +43,7 @@ returns c =
     let a = b .args in
     let f = fits-edge (now (a .s)) (a .shape) (b .pre .0 .0) (a .e) (walkIn (a .shape .charts) (now (a .locations)) (a .position) (a .cycles)) (c .before .before .if1 .taken) (b .pre .1) in
     led-edge (now (a .s)) (a .shape) (b .pre .0 .0) (a .e) (now (a .locations)) (a .position) (a .cycles)
-    (held (now (a .s)) (a .shape) (b .pre .0 .0) (now (a .automata)) (now (a .sources)) (now (a .targets)) (b .pre .0 .1) (a .e) (f .0)) (b .pre .0 .1 (a .e) (f .0)) (f .0) (c .before .before .if1 .taken)
+    (held (now (a .s)) (a .shape) (b .pre .0 .0) (a .edges) (now (a .automata)) (now (a .sources)) (now (a .targets)) (b .pre .0 .1) (a .e) (omega (arith, f .0, b .pre .0 .1 .count))) (b .pre .0 .1 .each (a .e) (omega (arith, f .0, b .pre .0 .1 .count))) (f .0) (c .before .before .if1 .taken)
 
 returns-2 : tie.Need-returns-2
 returns-2 c =

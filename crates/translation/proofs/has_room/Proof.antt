@@ -1,4 +1,4 @@
--- `has_room` meets its contract: no twin is longer than a buffer of 232,576 bytes. Assumes nothing.
+-- `has_room` meets its contract: no twin is longer than a buffer of 265,344 bytes. Assumes nothing.
 use mathlib.Core.Path.{sym, ap}
 use native.Mathlib.Omega.{arith}
 use denote.Ref.{now}

@@ -14,30 +14,33 @@ use Rattle.translation.proofs.put_twin.Tie as tie
 fill-clocks-requires : tie.Need-fill-clocks-requires
 fill-clocks-requires c κs = (c .before .before .before .pre .shape, refl)
 
+fill-actions-requires : tie.Need-fill-actions-requires
+fill-actions-requires c κs = (c .before .before .before .before .before .before .pre, refl, refl)
+
+fill-waiting-requires : tie.Need-fill-waiting-requires
+fill-waiting-requires c κs = (c .before .before .before .before .before .before .before .before .before .pre, c .before .before .fill-actions .ensures .0 .first-of, c .before .before .before .before .before .fill-clocks .ensures .0, refl)
+
 put-places-requires : tie.Need-put-places-requires
-put-places-requires c κs = (c .before .before .before .before .before .pre, omega arith)
+put-places-requires c κs = (c .before .before .before .before .before .before .before .before .before .before .before .before .pre, c .before .before .fill-waiting .ensures, omega arith)
 
 put-tests-requires : tie.Need-put-tests-requires
-put-tests-requires c κs =
-    let entry = c .before .before .before .before .before .before .before .before .before .before in
-    (entry .pre, c .before .before .before .before .before .before .fill-clocks .ensures, omega (arith, c .before .before .before .before .put-places .ensures .near))
+put-tests-requires c κs = (c .before .before .before .before .before .before .before .before .before .before .before .before .before .before .before .before .before .before .before .pre, c .before .before .before .before .before .before .before .before .before .before .before .before .before .before .before .fill-clocks .ensures .1, c .before .before .before .before .before .before .before .before .before .fill-waiting .ensures, c .before .before .before .before .before .before .before .before .before .before .before .before .fill-actions .ensures .0 .first-of, omega (arith, c .before .before .before .before .before .before .put-places .ensures .near))
 
 put-effects-requires : tie.Need-put-effects-requires
-put-effects-requires c κs =
-    let entry = c .before .before .before .before .before .before .before .before .before .before .before .before .before .before .before in
-    (entry .pre, c .before .before .before .before .before .before .before .before .before .before .before .fill-clocks .ensures, omega (arith, c .before .before .before .before .before .before .before .before .before .put-places .ensures .near, c .before .before .before .before .put-tests .ensures .near))
+put-effects-requires c κs = (c .before .before .before .before .before .before .before .before .before .before .before .before .before .before .before .before .before .before .before .before .before .before .before .before .before .before .before .pre, c .before .before .before .before .before .before .before .before .before .before .before .before .before .before .before .before .before .before .before .before .before .before .before .fill-clocks .ensures .1, c .before .before .before .before .before .before .before .before .before .before .before .before .before .before .before .before .before .fill-waiting .ensures, c .before .before .before .before .before .before .before .before .before .before .before .before .before .before .before .before .before .before .before .before .fill-actions .ensures .0, omega (arith, c .before .before .before .before .before .before .before .before .before .before .before .before .before .before .put-places .ensures .near, c .before .before .before .before .before .before .before .put-tests .ensures .near))
 
 returns : tie.Need-returns
 returns c =
-    let entry = c .before .before .before .before .before .before .before .before .before .before .before .before .before .before .before .before .before .before in
-    puts-as _ (file-text (twin (readCharts (now (entry .args .s)))))
-    (puts-then (2 ^ 50) (omega arith) (puts-then (2 ^ 44) (omega arith) (c .before .before .before .before .before .before .before .before .before .before .before .before .put-places .ensures) (c .before .before .before .before .before .before .before .put-tests .ensures)) (c .before .before .put-effects .ensures))
+    puts-as _ (file-text (twin (readCharts (now (c .before .before .before .before .before .before .before .before .before .before .before .before .before .before .before .before .before .before .before .before .before .before .before .before .before .before .before .before .before .before .args .s)))))
+    (puts-then (2 ^ 50) (omega arith) (puts-then (2 ^ 44) (omega arith) (c .before .before .before .before .before .before .before .before .before .before .before .before .before .before .before .before .before .put-places .ensures) (c .before .before .before .before .before .before .before .before .before .before .put-tests .ensures)) (c .before .before .put-effects .ensures))
 
 pub put-twin-spec : {M : Type 1} → statement M
 put-twin-spec =
     tie.close
     (tie.spec
     fill-clocks-requires
+    fill-actions-requires
+    fill-waiting-requires
     put-places-requires
     put-tests-requires
     put-effects-requires

@@ -2,7 +2,8 @@
 use mathlib.Core.Path.{_≡_, _∙_, ap, subst}
 use mathlib.Core.Bool.{cond}
 use mathlib.Core.List.{List}
-use Prim.Native.Nat.{ℕ, _-_, _≤_}
+use Prim.Native.Nat.{ℕ, _-_, _≤_, _<_}
+use Rattle.model.specs.Limits.{mostClocks}
 use native.Mathlib.Omega.{arith}
 use borrow.Author.Needs.{needs}
 use borrow.Author.Tests.{le-ltb}
@@ -31,7 +32,7 @@ loop-holds c =
     (omega arith, filled-none (λ j. more (now (a .s)) (a .shape) j (getD (now (a .clocks)) j 0)) 0 (now (a .clocks)))
 
 -- a place of the array
-few : (c : tie.Then1 Inv-loop μ-loop) → c .before .before .loop .k ≤ 255
+few : (c : tie.Then1 Inv-loop μ-loop) → c .before .before .loop .k < mostClocks
 few c =
     let b = c .before .before .before .before in
     omega (arith, c .if1 .taken, most-clocks (now (b .args .s)) (b .args .shape) (b .pre .0 .0 .shape))

@@ -1,7 +1,8 @@
 -- `runs::limits_of` meets its contract: the invariant is that the limits of the clocks before k are there. Assumes nothing.
 use mathlib.Core.Path.{_≡_, _∙_, subst}
 use mathlib.Core.List.{List}
-use Prim.Native.Nat.{ℕ, _-_, _≤_}
+use Prim.Native.Nat.{ℕ, _-_, _≤_, _<_}
+use Rattle.model.specs.Limits.{mostClocks}
 use native.Mathlib.Omega.{arith}
 use borrow.Author.Needs.{needs}
 use denote.Ref.{now}
@@ -31,7 +32,7 @@ loop-holds c =
     (omega arith, filled-none (turns (now (a .s)) (a .shape)) 0 (now (a .turn)), filled-none (caps (now (a .s)) (a .shape)) 0 (now (a .cap)))
 
 -- a place of the array
-few : (c : tie.Then1 Inv-loop μ-loop) → c .before .before .loop .k ≤ 255
+few : (c : tie.Then1 Inv-loop μ-loop) → c .before .before .loop .k < mostClocks
 few c =
     let b = c .before .before .before .before in
     omega (arith, c .if1 .taken, most-clocks (now (b .args .s)) (b .args .shape) (b .pre .0 .shape))

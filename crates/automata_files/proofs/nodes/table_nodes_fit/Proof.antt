@@ -33,7 +33,7 @@ returns c =
     let node = nodeAt (nodePart s sh) in
     let operands = c .before .before .before .says-fit .ensures ∙ ap saysFit (b .pre .1) ∙ fit-said (nodesNamed node (sh .nodes) (sh .variables)) (operandsFit node (sh .nodes)) in
     let used = c .none-twice .ensures ∙ used-is node (sh .nodes) (now (b .args .uses)) (most-nodes s sh (b .pre .0)) (b .pre .2) in
-    (λ j. operands j && c .before .before .guards-fit .ensures j && c .before .assigned-fit .ensures j && used j) ∙ sym (nodes-is s sh (b .pre .0))
+    (λ j. operands j && c .before .before .guards-fit .ensures j && c .before .updates-fit .ensures j && used j) ∙ sym (nodes-is s sh (b .pre .0))
 
 pub table-nodes-fit-spec : {M : Type 1} → statement M
 table-nodes-fit-spec =

@@ -14,7 +14,7 @@ unfolding all
 returns c =
     let r = c .before .before .before .before .before .args .r .now in
     let later =
-    (λ i. c .from-eight-zero .ensures i && (not (eqb (c .before .before .before .byte-at .ensures i) 2) || c .before .two-zero .ensures i)) ∙ deed-unused r (byte r 1)
+    (λ i. c .from-ten-zero .ensures i && (not (eqb (c .before .before .before .byte-at .ensures i) 2) || c .before .two-zero .ensures i)) ∙ deed-unused r (byte r 1)
     in
     λ i. c .before .before .byte-zero .ensures i && later i
 

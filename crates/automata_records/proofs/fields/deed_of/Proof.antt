@@ -11,7 +11,7 @@ returns c =
     let a = c .before .before .before .before .before .before .args in
     c .deed-by .ensures
     ∙ (λ i. readDeed (c .before .before .before .byte-in .ensures i) (c .before .before .byte-in2 .ensures i) (c .before .u16-in .ensures i))
-    ∙ ap (λ n. updateIn (a .s .now) n .1) (c .before .before .before .before .update-record .ensures .0)
+    ∙ ap (λ n. updateIn (a .s .now) n .1 .deed) (c .before .before .before .before .update-record .ensures .0)
 
 pub deed-of-spec : {M : Type 1} → statement M
 deed-of-spec =

@@ -11,7 +11,7 @@ use lib.ListN.{length, getD}
 use Rattle.model.specs.Limits.{mostEdges, tableRecords}
 use Rattle.records.specs.Refusal.{Out, fault}
 use Rattle.prelude.specs.Owned.{of}
-use Rattle.model.specs.Runs.{World, deeds}
+use Rattle.model.specs.Runs.{World, actions}
 use Rattle.model.specs.AutomataTable.{readAutomata}
 use Rattle.automata_records.specs.Places.{firstUpdate, firstReset, updateIn}
 use Rattle.automata_records.proofs.PlacesRead.{most-edges, edge-is}
@@ -28,7 +28,7 @@ use Rattle.automata_steps.proofs.steps.take_edge.Tie as tie
 
 abbrev Inv-loop : tie.InvT-loop
 Inv-loop s shape first next automaton locations clocks vars₀ events e reset raised₀ n₀ vars raised n =
-    Walk (doOn (readAutomata s .nodes) (readAutomata s .variables) (λ m. updateIn s m .1)) (λ m. deeds (readAutomata s .nodes) (readAutomata s .variables) (of e (readAutomata s .updates)) (worldIn vars₀ events m)) s (firstUpdate shape) (firstReset shape) e (worldIn vars raised) (upTo (firstReset shape) n)
+    Walk (doOn (readAutomata s .nodes) (readAutomata s .variables) (λ m. updateIn s m .1)) (λ m. actions (readAutomata s .nodes) (readAutomata s .variables) (of e (readAutomata s .updates)) (worldIn vars₀ events m)) s (firstUpdate shape) (firstReset shape) e (worldIn vars raised) (upTo (firstReset shape) n)
     × Ahead (ownedBy s e) (firstReset shape) (firstReset shape + shape .resets) n
 
 abbrev μ-loop : tie.MeasureT-loop
@@ -73,7 +73,7 @@ loop-holds c =
     let h : Ahead (ownedBy (now (x .s)) (x .e)) (firstReset (x .shape)) (firstReset (x .shape) + x .shape .resets) (getD (now (x .first)) (effectKeys + x .e) 0)
     = record { since = firstUpdate (x .shape); early = omega arith; at = a .pre .1 .effects .first-of (x .e) (few-edges a) } in (
       walk-from (few-updates a) (worldIn (now (x .vars)) (x .events)) _ (seen a (getD (now (x .first)) (effectKeys + x .e) 0) h)
-          (λ i m. deeds (readAutomata (now (x .s)) .nodes) (readAutomata (now (x .s)) .variables) (updates-of (now (x .s)) (x .shape) (a .pre .0 .shape) (x .e) i) (worldIn (now (x .vars)) (x .events) m)),
+          (λ i m. actions (readAutomata (now (x .s)) .nodes) (readAutomata (now (x .s)) .variables) (updates-of (now (x .s)) (x .shape) (a .pre .0 .shape) (x .e) i) (worldIn (now (x .vars)) (x .events) m)),
       h,
     )
 
@@ -92,7 +92,7 @@ abbrev work : (c : tie.In-loop Inv-loop μ-loop) → List ℕ → (Moment → Wo
 work c = let s = now (start c .args .s) in doOn (readAutomata s .nodes) (readAutomata s .variables) (λ m. updateIn s m .1)
 
 abbrev whole : (c : tie.In-loop Inv-loop μ-loop) → Moment → Out World
-whole c = let x = start c .args in λ m. deeds (readAutomata (now (x .s)) .nodes) (readAutomata (now (x .s)) .variables) (of (x .e) (readAutomata (now (x .s)) .updates)) (worldIn (now (x .vars)) (x .events) m)
+whole c = let x = start c .args in λ m. actions (readAutomata (now (x .s)) .nodes) (readAutomata (now (x .s)) .variables) (of (x .e) (readAutomata (now (x .s)) .updates)) (worldIn (now (x .vars)) (x .events) m)
 
 walk : (c : tie.In-loop Inv-loop μ-loop) →
     let x = start c .args in

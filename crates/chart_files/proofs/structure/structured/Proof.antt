@@ -24,7 +24,7 @@ returns c =
     let cs = readCharts s in
     let every = c .before .before .initials-fit .ensures ∙ ap (λ n. all (initialFits (readCharts s)) (upto n)) (sym (length-initial s (b .args .shape) (b .pre .0))) in
     (λ j. c .before .before .before .inside-charts .ensures j && every j && c .before .priorities-differ .ensures j && c .owners-act .ensures j)
-    ∙ and-assoc (insideCharts cs && all (initialFits cs) (upto (length (cs .initial))) && all (prioritiesDiffer cs) (upto (length (cs .homes)))) (all (atMostEight (cs .entries ++ cs .exits)) (upto (length (cs .homes)))) (all (atMostEight (cs .transition-actions)) (upto (length (cs .transitions))))
+    ∙ and-assoc (insideCharts cs && all (initialFits cs) (upto (length (cs .initial))) && all (prioritiesDiffer cs) (upto (length (cs .homes)))) (all (atMostEight (cs .entries ++ cs .exits ++ cs .waiting-actions)) (upto (length (cs .homes)))) (all (atMostEight (cs .transition-actions)) (upto (length (cs .transitions))))
 
 pub structured-spec : {M : Type 1} → statement M
 structured-spec = tie.close (tie.spec (λ c κs. search needs) initials-fit-requires (λ c κs. search needs) (λ c κs. search needs) returns)

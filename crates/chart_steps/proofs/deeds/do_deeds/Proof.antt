@@ -10,7 +10,7 @@ use Rattle.machines.specs.Chains.{withKey, remaining, Chained}
 use Rattle.machines.specs.Worlds.{codedFault}
 use Rattle.machines.proofs.Chains.{At, chain-start, chain-all, chain-next, chain-one, chain-rises, chain-done}
 use Rattle.machines.proofs.WorldsCodes.{world-value, world-fault, is-code}
-use Rattle.chart_steps.specs.Tables.{keyAt}
+use Rattle.chart_steps.specs.Tables.{keyAt, actionKeys}
 use Rattle.chart_steps.proofs.TablesActions.{chained}
 use Rattle.chart_steps.proofs.TablesDeeds.{keyAfter, key-crossing, key-entering, key-inside, Left, left-start, left-more, left-fault, left-next, left-none}
 use Rattle.chart_steps.proofs.deeds.do_deeds.Statement.{statement}
@@ -28,11 +28,11 @@ abbrev μ-loop : tie.MeasureT-loop
 few : (b : tie.Start Inv-loop μ-loop) → b .args .shape .actions < 65536
 few b = omega (arith, most-actions (now (b .args .s)) (b .args .shape) (b .pre .0 .shape))
 
-chains : (b : tie.Start Inv-loop μ-loop) → Chained (keyAt (now (b .args .s)) (b .args .shape)) 512 (b .args .shape .actions) (now (b .args .first)) (now (b .args .next))
+chains : (b : tie.Start Inv-loop μ-loop) → Chained (keyAt (now (b .args .s)) (b .args .shape)) actionKeys (b .args .shape .actions) (now (b .args .first)) (now (b .args .next))
 chains b = chained (now (b .args .s)) (b .args .shape) (b .pre .0) (now (b .args .first)) (now (b .args .next)) (b .pre .1)
 
-one-key : (b : tie.Start Inv-loop μ-loop) (k : ℕ) → keyAfter (now (b .args .s)) (b .args .shape) (b .args .leaving) (b .args .crossing) (b .args .entering) k < 512
-one-key b k = key-inside (now (b .args .s)) (b .args .shape) (b .args .leaving) (b .args .crossing) (b .args .entering) k 512 (b .pre .2) (b .pre .3) (b .pre .4)
+one-key : (b : tie.Start Inv-loop μ-loop) (k : ℕ) → keyAfter (now (b .args .s)) (b .args .shape) (b .args .leaving) (b .args .crossing) (b .args .entering) k < actionKeys
+one-key b k = key-inside (now (b .args .s)) (b .args .shape) (b .args .leaving) (b .args .crossing) (b .args .entering) k actionKeys (b .pre .2) (b .pre .3) (b .pre .4)
 
 mul-a : tie.Need-mul-a Inv-loop μ-loop
 mul-a c = omega (arith, c .before .pre .2)
@@ -47,9 +47,9 @@ loop-holds c =
     let s = now (x .s) in (
       omega arith,
       omega arith,
-      chain-start (keyAt s (x .shape)) 512 (x .shape .actions) (now (x .first)) (now (x .next)) (chains b) (few b) (x .leaving) (b .pre .2) _ refl,
+      chain-start (keyAt s (x .shape)) actionKeys (x .shape .actions) (now (x .first)) (now (x .next)) (chains b) (few b) (x .leaving) (b .pre .2) _ refl,
       left-start s (x .shape) (x .leaving) (x .crossing) (x .entering) (now (x .vars)) (x .events) _
-          (chain-all (keyAt s (x .shape)) 512 (x .shape .actions) (now (x .first)) (now (x .next)) (chains b) (few b) (x .leaving) (b .pre .2) _ refl),
+          (chain-all (keyAt s (x .shape)) actionKeys (x .shape .actions) (now (x .first)) (now (x .next)) (chains b) (few b) (x .leaving) (b .pre .2) _ refl),
     )
 
 cast-result : tie.Need-cast-result Inv-loop μ-loop
@@ -83,7 +83,7 @@ next-key c =
     (λ w. w .1 ∙ sym (key-entering (now (x .s)) (x .shape) (x .leaving) (x .crossing) (x .entering) k (w .0 .left)))
     (c .before .if3 .came)
 
-inside : (c : tie.After-row-known Inv-loop μ-loop) → c .before .if3 .key < 512
+inside : (c : tie.After-row-known Inv-loop μ-loop) → c .before .if3 .key < actionKeys
 inside c =
     let b = c .before .before .before .before .before .before .before in
     omega (arith, next-key c, one-key b (c .before .before .before .before .loop .k + 1))
@@ -121,10 +121,10 @@ loop-again c =
     let key = keyAfter s (x .shape) (x .leaving) (x .crossing) (x .entering) (l .k + 1) in (
       l .inv .0,
       omega (arith, more, h),
-      chain-start (keyAt s (x .shape)) 512 (x .shape .actions) (now (x .first)) (now (x .next)) (chains b) (few b) key (one-key b (l .k + 1)) _ (from-first c),
+      chain-start (keyAt s (x .shape)) actionKeys (x .shape .actions) (now (x .first)) (now (x .next)) (chains b) (few b) key (one-key b (l .k + 1)) _ (from-first c),
       left-next s (x .shape) (x .leaving) (x .crossing) (x .entering) (now (x .vars)) (x .events) (l .k) _ (l .vars) (l .present) (l .inv .3)
           (chain-done (withKey (keyAt s (x .shape)) (keyAfter (now (x .s)) (x .shape) (x .leaving) (x .crossing) (x .entering) (l .k))) (x .shape .actions) (l .a) at-end) h more _
-          (chain-all (keyAt s (x .shape)) 512 (x .shape .actions) (now (x .first)) (now (x .next)) (chains b) (few b) key (one-key b (l .k + 1)) _ (from-first c)),
+          (chain-all (keyAt s (x .shape)) actionKeys (x .shape .actions) (now (x .first)) (now (x .next)) (chains b) (few b) key (one-key b (l .k + 1)) _ (from-first c)),
     )
 
 do-action-requires : tie.Need-do-action-requires Inv-loop μ-loop
@@ -140,7 +140,7 @@ returns-2 c = (
       let wrong = c .if4 .taken in
       world-fault (f .result) (f .last .1 .1 .1 .0) m wrong
       ∙ left-fault (now (x .s)) (x .shape) (x .leaving) (x .crossing) (x .entering) (now (x .vars)) (x .events) (l .k) _ (l .vars) (l .present) (l .inv .3) (l .a) _
-      (chain-one (keyAt (now (x .s)) (x .shape)) 512 (x .shape .actions) (now (x .first)) (now (x .next)) (chains b) (few b) (keyAfter (now (x .s)) (x .shape) (x .leaving) (x .crossing) (x .entering) (l .k)) (one-key b (l .k)) (l .a) _ (l .inv .2) (c .before .before .before .if1 .left) refl)
+      (chain-one (keyAt (now (x .s)) (x .shape)) actionKeys (x .shape .actions) (now (x .first)) (now (x .next)) (chains b) (few b) (keyAfter (now (x .s)) (x .shape) (x .leaving) (x .crossing) (x .entering) (l .k)) (one-key b (l .k)) (l .a) _ (l .inv .2) (c .before .before .before .if1 .left) refl)
       (codedFault (f .result)) (λ m. sym (world-fault (f .result) (f .last .1 .1 .1 .0) m wrong) ∙ f .ensures .0 m) m,
   c .before .do-action .ensures .1,
 )
@@ -168,7 +168,7 @@ loop-less-2 c =
     let b = c .before .before .before .before .before .before .before .before in
     let x = b .args in
     let l = c .before .before .before .before .before .loop in
-    omega (arith, a-file (c .before), chain-rises (keyAt (now (x .s)) (x .shape)) 512 (x .shape .actions) (now (x .first)) (now (x .next)) (chains b) (few b) (keyAfter (now (x .s)) (x .shape) (x .leaving) (x .crossing) (x .entering) (l .k)) (one-key b (l .k)) (l .a) _ (l .inv .2) (c .before .before .before .before .if1 .left) refl)
+    omega (arith, a-file (c .before), chain-rises (keyAt (now (x .s)) (x .shape)) actionKeys (x .shape .actions) (now (x .first)) (now (x .next)) (chains b) (few b) (keyAfter (now (x .s)) (x .shape) (x .leaving) (x .crossing) (x .entering) (l .k)) (one-key b (l .k)) (l .a) _ (l .inv .2) (c .before .before .before .before .if1 .left) refl)
 
 loop-again-2 : tie.Need-loop-again-2 Inv-loop μ-loop
 loop-again-2 c =
@@ -180,9 +180,9 @@ loop-again-2 c =
     let fine = c .before .if4 .left in (
       fine,
       l .inv .1,
-      chain-next (keyAt (now (x .s)) (x .shape)) 512 (x .shape .actions) (now (x .first)) (now (x .next)) (chains b) (few b) (keyAfter (now (x .s)) (x .shape) (x .leaving) (x .crossing) (x .entering) (l .k)) (one-key b (l .k)) (l .a) _ (l .inv .2) more refl,
+      chain-next (keyAt (now (x .s)) (x .shape)) actionKeys (x .shape .actions) (now (x .first)) (now (x .next)) (chains b) (few b) (keyAfter (now (x .s)) (x .shape) (x .leaving) (x .crossing) (x .entering) (l .k)) (one-key b (l .k)) (l .a) _ (l .inv .2) more refl,
       left-more (now (x .s)) (x .shape) (x .leaving) (x .crossing) (x .entering) (now (x .vars)) (x .events) (l .k) _ (l .vars) (l .present) (l .inv .3) (l .a) _
-          (chain-one (keyAt (now (x .s)) (x .shape)) 512 (x .shape .actions) (now (x .first)) (now (x .next)) (chains b) (few b) (keyAfter (now (x .s)) (x .shape) (x .leaving) (x .crossing) (x .entering) (l .k)) (one-key b (l .k)) (l .a) _ (l .inv .2) more refl)
+          (chain-one (keyAt (now (x .s)) (x .shape)) actionKeys (x .shape .actions) (now (x .first)) (now (x .next)) (chains b) (few b) (keyAfter (now (x .s)) (x .shape) (x .leaving) (x .crossing) (x .entering) (l .k)) (one-key b (l .k)) (l .a) _ (l .inv .2) more refl)
           (f .last .1 .1 .1 .0) (f .result) (λ m. sym (world-value (f .result) (f .last .1 .1 .1 .0) m fine) ∙ f .ensures .0 m),
     )
 

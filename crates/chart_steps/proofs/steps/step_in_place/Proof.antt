@@ -4,14 +4,14 @@ use Prim.Native.Nat.{_≤_, _<_}
 use native.Mathlib.Omega.{arith}
 use borrow.Author.Needs.{needs}
 use denote.Ref.{now}
+use lib.ListN.{getD}
 use Rattle.records.specs.Refusal.{val, _>>=_}
 use Rattle.model.specs.ChartSet.{readCharts}
-use Rattle.model.specs.Charts.{follow}
+use Rattle.model.specs.Charts.{waited, follow}
 use Rattle.chart_records.proofs.PlacesRead.{most-charts}
 use Rattle.machines.specs.Worlds.{runIn}
-use Rattle.machines.proofs.WorldsCodes.{is-code}
 use Rattle.chart_steps.specs.StepOf.{answerBy, movedBy}
-use Rattle.chart_steps.proofs.StepOf.{choice-some, choice-none, choice-fault, answer-taken, moved-value, moved-fault}
+use Rattle.chart_steps.proofs.StepOf.{choice-some, choice-none, choice-fault, answer-taken, moved-by-world, moved-fault}
 use Rattle.chart_steps.proofs.steps.step_in_place.Statement.{statement}
 use Rattle.chart_steps.proofs.steps.step_in_place.Tie as tie
 
@@ -45,16 +45,21 @@ small c = c .before .first-that .ensures .1 .small (c .if1 .left)
 cast-chosen : tie.Need-cast-chosen
 cast-chosen c = omega (arith, small c)
 
+wait-requires : tie.Need-wait-requires
+wait-requires c κs = let a = c .before .before .before .before .before .before .before .before in (a .pre .0 .accepted, a .pre .0 .has-actions)
+
 returns-2 : tie.Need-returns-2
 returns-2 c = (
   λ m.
-      let x = c .before .before .before .before .before .before .before .args in
-      let f = c .before .before .first-that in
-      let none-holds = c .if2 .taken in
-      moved-value (x .events) (answerBy (f .result)) (now (x .states)) (now (x .ages)) (now (x .vars)) m (omega arith)
-      ∙ ap (λ n. val (answerBy n, runIn (now (x .states)) (now (x .ages)) (now (x .vars)) (x .events) m)) none-holds
-      ∙ ap (λ o. o >>= follow (readCharts (now (x .s))) (x .chart) (runIn (now (x .states)) (now (x .ages)) (now (x .vars)) (x .events) m)) (sym (choice-none (f .result) none-holds) ∙ f .ensures .0),
-  is-code (c .before .before .before .before .before .before .before .args .events) (omega arith),
+      let x = c .before .before .before .before .before .before .before .before .before .args in
+      let f = c .before .before .before .before .first-that in
+      let none-holds = c .before .before .if2 .taken in
+      let r = runIn (now (x .states)) (now (x .ages)) (now (x .vars)) (x .events) m in
+      moved-by-world (c .wait .result) (answerBy (f .result)) (now (x .states)) (now (x .ages)) _ m
+      ∙ ap (λ o. o >>= λ w. val (answerBy (f .result), record { at = now (x .states); timers = now (x .ages); world = w })) (c .wait .ensures .0 m)
+      ∙ ap (λ n. waited (readCharts (now (x .s))) (getD (now (x .states)) (x .chart) 0) (getD (now (x .ages)) (x .chart) 0) (r .world) >>= λ w. val (answerBy n, record { at = now (x .states); timers = now (x .ages); world = w })) none-holds
+      ∙ ap (λ o. o >>= follow (readCharts (now (x .s))) (x .chart) r) (sym (choice-none (f .result) none-holds) ∙ f .ensures .0),
+  c .wait .ensures .1,
 )
 
 one-chosen : (c : tie.Else2) → c .before .before .first-that .result < 65535
@@ -91,6 +96,7 @@ step-in-place-spec =
     first-that-requires
     returns
     cast-chosen
+    wait-requires
     returns-2
     cast-follow
     follow-requires

@@ -5,15 +5,16 @@ use native.Mathlib.Omega.{arith}
 use denote.Ref.{now}
 use lib.ListN.{drop, replicate}
 use lib.Seq.{drop-set-lt}
+use Rattle.model.specs.Limits.{mostActions}
 use Rattle.chart_records.proofs.PlacesRead.{most-actions}
 use Rattle.machines.proofs.Chains.{Chains, chains-none, chains-more, chains-made}
-use Rattle.chart_steps.specs.Tables.{keyAt}
+use Rattle.chart_steps.specs.Tables.{keyAt, actionKeys}
 use Rattle.chart_steps.proofs.TablesActions.{key-within}
 use Rattle.chart_steps.proofs.tables.fill_actions.Statement.{statement}
 use Rattle.chart_steps.proofs.tables.fill_actions.Tie as tie
 
 abbrev Inv-loop : tie.InvT-loop
-Inv-loop s shape first₀ next₀ a₀ first next a = Chains (keyAt s shape) 512 512 (shape .actions) first next a × (drop (shape .actions) next ≡ drop (shape .actions) next₀)
+Inv-loop s shape first₀ next₀ a₀ first next a = Chains (keyAt s shape) actionKeys mostActions (shape .actions) first next a × (drop (shape .actions) next ≡ drop (shape .actions) next₀)
 
 abbrev μ-loop : tie.MeasureT-loop
 μ-loop s shape first₀ next₀ a₀ first next a = a
@@ -22,8 +23,8 @@ loop-holds : tie.Need-loop-holds Inv-loop μ-loop
 loop-holds c =
     let b = c .before in
     let x = b .args in (
-      subst (λ first. Chains (keyAt (now (x .s)) (x .shape)) 512 512 (x .shape .actions) first (now (x .next)) (x .shape .actions)) (sym (b .pre .1))
-          (subst (λ next. Chains (keyAt (now (x .s)) (x .shape)) 512 512 (x .shape .actions) (replicate {A = ℕ} 512 65535) next (x .shape .actions)) (sym (b .pre .2)) (chains-none (keyAt (now (x .s)) (x .shape)) 512 512 (x .shape .actions))),
+      subst (λ first. Chains (keyAt (now (x .s)) (x .shape)) actionKeys mostActions (x .shape .actions) first (now (x .next)) (x .shape .actions)) (sym (b .pre .1))
+          (subst (λ next. Chains (keyAt (now (x .s)) (x .shape)) actionKeys mostActions (x .shape .actions) (replicate {A = ℕ} actionKeys 65535) next (x .shape .actions)) (sym (b .pre .2)) (chains-none (keyAt (now (x .s)) (x .shape)) actionKeys mostActions (x .shape .actions))),
       refl,
     )
 
@@ -72,8 +73,8 @@ loop-again c =
     let l = c .before .before .before .loop in
     let more = c .before .before .loop-test .taken in
     let e : l .a ≡ l .a - 1 + 1 = omega (arith, more) in (
-      chains-more (keyAt (now (x .s)) (x .shape)) 512 512 (x .shape .actions) (l .first) (l .next) (l .a - 1) (c .before .key-of .result)
-          (subst (Chains (keyAt (now (x .s)) (x .shape)) 512 512 (x .shape .actions) (l .first) (l .next)) e (l .inv .0))
+      chains-more (keyAt (now (x .s)) (x .shape)) actionKeys mostActions (x .shape .actions) (l .first) (l .next) (l .a - 1) (c .before .key-of .result)
+          (subst (Chains (keyAt (now (x .s)) (x .shape)) actionKeys mostActions (x .shape .actions) (l .first) (l .next)) e (l .inv .0))
           (most-actions (now (x .s)) (x .shape) (a .pre .0 .shape)) (sym (c .before .key-of .ensures .0)) (c .before .key-of .ensures .1),
       drop-set-lt (x .shape .actions) (l .next) (l .a - 1) _ (omega (arith, l .inv .0 .bound, more)) ∙ l .inv .1,
     )
@@ -84,8 +85,8 @@ returns c =
     let x = a .args in
     let l = c .before .loop in
     let e : l .a ≡ 0 = omega (arith, c .loop-test .left) in
-    let made = chains-made (keyAt (now (x .s)) (x .shape)) 512 512 (x .shape .actions) (l .first) (l .next) (subst (Chains (keyAt (now (x .s)) (x .shape)) 512 512 (x .shape .actions) (l .first) (l .next)) e (l .inv .0)) in
-    (record { first-of = made .first-of; next-of = λ b h. made .next-of b h (key-within (now (x .s)) (x .shape) (a .pre .0) b h) }, l .inv .1)
+    let made = chains-made (keyAt (now (x .s)) (x .shape)) actionKeys mostActions (x .shape .actions) (l .first) (l .next) (subst (Chains (keyAt (now (x .s)) (x .shape)) actionKeys mostActions (x .shape .actions) (l .first) (l .next)) e (l .inv .0)) in
+    (record { first-of = made .first-of; next-of = λ b h. made .next-of b h (omega (arith, key-within (now (x .s)) (x .shape) (a .pre .0) b h)) }, l .inv .1)
 
 pub fill-actions-spec : {M : Type 1} → statement M
 fill-actions-spec =

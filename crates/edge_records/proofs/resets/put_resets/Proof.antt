@@ -1,33 +1,31 @@
 -- `resets::put_resets` meets its contract: those of the edges before t are written. Assumes nothing.
-use mathlib.Core.Path.{sym, ap, _∙_}
+use mathlib.Core.Path.{sym, ap}
 use Prim.Native.Nat.{_-_, _^_}
 use native.Mathlib.Omega.{arith}
-use borrow.Author.Needs.{needs}
 use denote.Ref.{now}
 use Rattle.prelude.specs.Lists.{gather, upto}
 use Rattle.model.specs.ChartSet.{readCharts}
-use Rattle.twin_records.proofs.TextsWritten.{Texts, texts-start, texts-step, texts-end, puts-as}
-use Rattle.model.specs.Translation.{from-transition, clocksLeaving, resetsOf}
-use Rattle.chart_records.proofs.PlacesRead.{transition-is, length-transitions, most-states, most-transitions}
-use Rattle.chart_steps.proofs.Accepted.{target-known}
-use Rattle.twin_records.specs.Texts.{resetTexts}
+use Rattle.model.specs.Translation.{from-transition}
+use Rattle.chart_records.proofs.PlacesRead.{length-transitions, most-transitions}
+use Rattle.twin_records.specs.Texts.{resetsText}
+use Rattle.twin_records.proofs.TextsWritten.{Texts, texts-start, texts-step, texts-end}
 use Rattle.edge_records.proofs.resets.put_resets.Statement.{statement}
 use Rattle.edge_records.proofs.resets.put_resets.Tie as tie
 
 abbrev Inv-loop : tie.InvT-loop
-Inv-loop s shape clocks first next out₀ at place₀ t₀ out place t = Texts (λ i. resetTexts i (resetsOf (readCharts s) (from-transition i))) (shape .transitions) (2 ^ 20) out₀ at out place t
+Inv-loop s shape clocks waiting first next out₀ at place₀ t₀ out place t = Texts (λ i. resetsText (readCharts s) (from-transition i)) (shape .transitions) (2 ^ 21) out₀ at out place t
 
 abbrev μ-loop : tie.MeasureT-loop
-μ-loop s shape clocks first next out₀ at place₀ t₀ out place t = shape .transitions - t
+μ-loop s shape clocks waiting first next out₀ at place₀ t₀ out place t = shape .transitions - t
 
 loop-holds : tie.Need-loop-holds Inv-loop μ-loop
 loop-holds c = texts-start _ _ _ _ _
 
-put-leaving-requires : tie.Need-put-leaving-requires Inv-loop μ-loop
-put-leaving-requires c κs =
-    let entry = c .before .before .before .before .before .before .before in
+put-resets-of-requires : tie.Need-put-resets-of-requires Inv-loop μ-loop
+put-resets-of-requires c κs =
+    let entry = c .before .before .before .before .before .before in
     let x = entry .args in
-    (entry .pre .0, entry .pre .1, entry .pre .2, omega (arith, c .before .target-of .ensures, target-known (now (x .s)) (x .shape) (entry .pre .0) (c .before .before .before .before .loop .t) (c .before .before .if1 .taken)), omega (arith, c .before .before .before .before .loop .inv .near, c .before .before .if1 .taken, entry .pre .3, most-transitions (now (x .s)) (x .shape) (entry .pre .0 .shape), most-states (now (x .s)) (x .shape) (entry .pre .0 .shape)))
+    (entry .pre .0, entry .pre .1, entry .pre .2, entry .pre .3, c .before .if1 .taken, omega (arith, c .before .before .before .loop .inv .near, c .before .if1 .taken, entry .pre .4, most-transitions (now (x .s)) (x .shape) (entry .pre .0 .shape)))
 
 add-t : tie.Need-add-t Inv-loop μ-loop
 add-t c = omega arith
@@ -37,11 +35,8 @@ loop-less c = omega arith
 
 loop-again : tie.Need-loop-again Inv-loop μ-loop
 loop-again c =
-    let entry = c .before .before .before .before .before .before .before .before .before .before in
-    let x = entry .args in
-    let l = c .before .before .before .before .before .before .before .loop in
-    let p = c .before .before .put-leaving in
-    texts-step _ _ _ _ _ (l .inv) (c .before .before .before .before .before .if1 .taken) (p .kept .1 .1 .1 .1 .1 .0) (puts-as _ (ap (λ st. resetTexts (l .t) (clocksLeaving (readCharts (now (x .s))) st)) (c .before .before .before .before .target-of .ensures ∙ ap (λ y. y .target) (sym (transition-is (now (x .s)) (x .shape) (entry .pre .0 .shape) (l .t) (c .before .before .before .before .before .if1 .taken))))) (p .ensures))
+    let p = c .before .before .put-resets-of in
+    texts-step _ _ _ _ _ (c .before .before .before .before .before .before .loop .inv) (c .before .before .before .before .if1 .taken) (p .kept .1 .1 .1 .1 .1 .1 .0) (p .ensures)
 
 same-length : tie.Need-same-length Inv-loop μ-loop
 same-length c = c .before .before .loop .inv .long
@@ -51,7 +46,7 @@ returns c =
     let entry = c .before .before .before .before .before in
     let x = entry .args in
     let cs = readCharts (now (x .s)) in
-    texts-end _ _ _ _ _ _ (ap (λ n. gather (λ i. resetTexts i (resetsOf cs (from-transition i))) (upto n)) (sym (length-transitions (now (x .s)) (x .shape) (entry .pre .0 .shape)))) (2 ^ 40) (omega (arith, most-transitions (now (x .s)) (x .shape) (entry .pre .0 .shape))) (c .before .before .loop .inv) (c .if1 .left)
+    texts-end _ _ _ _ _ _ (ap (λ n. gather (λ i. resetsText cs (from-transition i)) (upto n)) (sym (length-transitions (now (x .s)) (x .shape) (entry .pre .0 .shape)))) (2 ^ 40) (omega (arith, most-transitions (now (x .s)) (x .shape) (entry .pre .0 .shape))) (c .before .before .loop .inv) (c .if1 .left)
 
 pub put-resets-spec : {M : Type 1} → statement M
 put-resets-spec =
@@ -60,8 +55,7 @@ put-resets-spec =
     Inv-loop
     μ-loop
     loop-holds
-    (λ c κs. search needs)
-    put-leaving-requires
+    put-resets-of-requires
     add-t
     loop-less
     loop-again

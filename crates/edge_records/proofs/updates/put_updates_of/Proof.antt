@@ -1,4 +1,4 @@
--- `updates::put_updates_of` meets its contract: the deeds of the three keys, one after the other. Assumes nothing.
+-- `updates::put_updates_of` meets its contract: the actions of the three keys, one after the other. Assumes nothing.
 use Prim.Native.Nat.{ℕ, _<_, _^_}
 use native.Mathlib.Omega.{arith}
 use borrow.Author.Needs.{needs}
@@ -40,30 +40,30 @@ few c =
     let entry = c .before .before .before .before in
     omega (arith, entry .pre .2, most-transitions (now (entry .args .s)) (entry .args .shape) (entry .pre .0 .shape))
 
-put-deeds-requires : tie.Need-put-deeds-requires
-put-deeds-requires c κs =
+put-actions-requires : tie.Need-put-actions-requires
+put-actions-requires c κs =
     let entry = c .before .before .before .before .before in
     let ends = c .before in
     (entry .pre .0, entry .pre .1, omega (arith, few ends, source-small (ends .before), target-small ends), omega (arith, entry .pre .3))
 
-put-deeds-requires-2 : tie.Need-put-deeds-requires-2
-put-deeds-requires-2 c κs =
+put-actions-requires-2 : tie.Need-put-actions-requires-2
+put-actions-requires-2 c κs =
     let entry = c .before .before .before .before .before .before .before .before .before in
     let ends = c .before .before .before .before .before in (
       entry .pre .0,
       entry .pre .1,
       omega (arith, few ends, source-small (ends .before), target-small ends),
-      omega (arith, entry .pre .3, c .before .before .before .put-deeds .ensures .near),
+      omega (arith, entry .pre .3, c .before .before .before .put-actions .ensures .near),
     )
 
-put-deeds-requires-3 : tie.Need-put-deeds-requires-3
-put-deeds-requires-3 c κs =
+put-actions-requires-3 : tie.Need-put-actions-requires-3
+put-actions-requires-3 c κs =
     let entry = c .before .before .before .before .before .before .before .before .before .before .before .before .before in
     let ends = c .before .before .before .before .before .before .before .before .before in (
       entry .pre .0,
       entry .pre .1,
       omega (arith, few ends, source-small (ends .before), target-small ends),
-      omega (arith, entry .pre .3, c .before .before .before .before .before .before .before .put-deeds .ensures .near, c .before .before .before .put-deeds2 .ensures .near),
+      omega (arith, entry .pre .3, c .before .before .before .before .before .before .before .put-actions .ensures .near, c .before .before .before .put-actions2 .ensures .near),
     )
 
 returns : tie.Need-returns
@@ -71,7 +71,7 @@ returns c =
     let entry = c .before .before .before .before .before .before .before .before .before .before .before .before .before .before .before .before in
     let x = entry .args in
     puts-as _ (updates-text (now (x .s)) (x .shape) (entry .pre .0) (x .t) (c .before .before .before .before .before .before .before .before .before .before .before .before .before .source-of .result) (c .before .before .before .before .before .before .before .before .before .before .before .before .target-of .result) (entry .pre .2) (c .before .before .before .before .before .before .before .before .before .before .before .before .before .source-of .ensures) (c .before .before .before .before .before .before .before .before .before .before .before .before .target-of .ensures))
-    (puts-then (2 ^ 22) (omega arith) (puts-then (2 ^ 21) (omega arith) (c .before .before .before .before .before .before .before .before .before .before .put-deeds .ensures) (c .before .before .before .before .before .before .put-deeds2 .ensures)) (c .before .before .put-deeds3 .ensures))
+    (puts-then (2 ^ 22) (omega arith) (puts-then (2 ^ 21) (omega arith) (c .before .before .before .before .before .before .before .before .before .before .put-actions .ensures) (c .before .before .before .before .before .before .put-actions2 .ensures)) (c .before .before .put-actions3 .ensures))
 
 pub put-updates-of-spec : {M : Type 1} → statement M
 put-updates-of-spec =
@@ -81,8 +81,8 @@ put-updates-of-spec =
     add-leaving
     add-crossing
     (λ c κs. search needs)
-    put-deeds-requires
-    put-deeds-requires-2
-    put-deeds-requires-3
+    put-actions-requires
+    put-actions-requires-2
+    put-actions-requires-3
     (λ c. search needs)
     returns)

@@ -63,10 +63,14 @@ returns-18 c = ap (λ w. refusalNumber (refusalOf w)) (sym (c .enum-told18 .give
 returns-19 : tie.Need-returns-19
 returns-19 c = ap (λ w. refusalNumber (refusalOf w)) (sym (c .enum-told19 .given .1))
 
+returns-20 : tie.Need-returns-20
+returns-20 c = ap (λ w. refusalNumber (refusalOf w)) (sym (c .enum-told20 .given .1))
+
 pub refusal-number-spec : {M : Type 1} → statement M
 refusal-number-spec =
     tie.close
     (tie.spec
+    (λ c. search needs)
     (λ c. search needs)
     (λ c. search needs)
     (λ c. search needs)
@@ -104,4 +108,5 @@ refusal-number-spec =
     returns-16
     returns-17
     returns-18
-    returns-19)
+    returns-19
+    returns-20)

@@ -12,7 +12,7 @@ use Rattle.translation.proofs.lengths.count_actions.Statement.{statemen
 use Rattle.translation.proofs.lengths.count_actions.Tie as tie
 
 abbrev Inv-loop : tie.InvT-loop
-Inv-loop s shape counts₀ a₀ counts a = (a ≤ shape .actions) × Added (keyAt s shape) (λ i. 1) 512 counts a
+Inv-loop s shape counts₀ a₀ counts a = (a ≤ shape .actions) × Added (keyAt s shape) (λ i. 1) 641 counts a
 
 abbrev μ-loop : tie.MeasureT-loop
 μ-loop s shape counts₀ a₀ counts a = shape .actions - a
@@ -20,7 +20,7 @@ abbrev μ-loop : tie.MeasureT-loop
 loop-holds : tie.Need-loop-holds Inv-loop μ-loop
 loop-holds c =
     let x = c .before .args in
-    (omega arith, subst (λ l. Added (keyAt (now (x .s)) (x .shape)) (λ i. 1) 512 l 0) (sym (c .before .pre .1)) (added-none (keyAt (now (x .s)) (x .shape)) (λ i. 1) 512))
+    (omega arith, subst (λ l. Added (keyAt (now (x .s)) (x .shape)) (λ i. 1) 641 l 0) (sym (c .before .pre .1)) (added-none (keyAt (now (x .s)) (x .shape)) (λ i. 1) 641))
 
 key-of-requires : tie.Need-key-of-requires Inv-loop μ-loop
 key-of-requires c κs = (c .before .before .before .before .pre .0, c .if1 .taken)
@@ -40,7 +40,7 @@ add-counts c =
     let l = k .before .before .before .loop in
     let entry = k .before .before .before .before .before in
     let x = entry .args in
-    omega (arith, added-most (keyAt (now (x .s)) (x .shape)) (λ i. 1) 512 (k .key-of .result) 1 (l .inv .1) (λ j. omega arith) (k .key-of .ensures .1), l .inv .0, most-actions (now (x .s)) (x .shape) (entry .pre .0 .shape))
+    omega (arith, added-most (keyAt (now (x .s)) (x .shape)) (λ i. 1) 641 (k .key-of .result) 1 (l .inv .1) (λ j. omega arith) (k .key-of .ensures .1), l .inv .0, most-actions (now (x .s)) (x .shape) (entry .pre .0 .shape))
 
 element-write-counts : tie.Need-element-write-counts Inv-loop μ-loop
 element-write-counts c = c .before .key-of .ensures .1
@@ -56,7 +56,7 @@ loop-again c =
     let k = c .before in
     let l = k .before .before .before .loop in
     let x = k .before .before .before .before .before .args in
-    (omega (arith, k .before .if1 .taken), added-more (keyAt (now (x .s)) (x .shape)) (λ i. 1) 512 (k .key-of .result) 1 (l .inv .1) (k .key-of .ensures .0) refl (k .key-of .ensures .1))
+    (omega (arith, k .before .if1 .taken), added-more (keyAt (now (x .s)) (x .shape)) (λ i. 1) 641 (k .key-of .result) 1 (l .inv .1) (k .key-of .ensures .0) refl (k .key-of .ensures .1))
 
 returns : tie.Need-returns Inv-loop μ-loop
 returns c =
@@ -65,8 +65,8 @@ returns c =
     let key = keyAt (now (x .s)) (x .shape) in
     let e : l .a ≡ x .shape .actions = omega (arith, l .inv .0, c .if1 .left) in
     λ k h.
-    subst (Added key (λ i. 1) 512 (l .counts)) e (l .inv .1) .sums k h
-    ∙ sum-alike (share key (λ i. 1) 512 k) (λ i. bit (keyed (now (x .s)) (x .shape) k i)) 0 (x .shape .actions) (λ i a b. share-one key k i)
+    subst (Added key (λ i. 1) 641 (l .counts)) e (l .inv .1) .sums k h
+    ∙ sum-alike (share key (λ i. 1) 641 k) (λ i. bit (keyed (now (x .s)) (x .shape) k i)) 0 (x .shape .actions) (λ i a b. share-one key k i)
     ∙ sym (count-from (keyed (now (x .s)) (x .shape) k) 0 (x .shape .actions))
 
 pub count-actions-spec : {M : Type 1} → statement M

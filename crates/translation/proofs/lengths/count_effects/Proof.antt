@@ -4,10 +4,10 @@ use Prim.Native.Nat.{ℕ, _+_, _-_, _*_, _<_, _≤_}
 use native.Mathlib.Omega.{arith}
 use denote.Ref.{now}
 use lib.ListN.{length, getD}
-use Rattle.chart_records.proofs.PlacesRead.{transition-is, length-transitions, most-states, most-transitions}
+use Rattle.chart_records.proofs.PlacesRead.{transition-is, length-homes, length-transitions, most-states, most-transitions}
 use Rattle.chart_steps.proofs.Accepted.{source-known, target-known}
 use Rattle.model.specs.ChartSet.{readCharts}
-use Rattle.model.specs.Translation.{from-transition, transitionCount, clocksLeaving, resetsOf}
+use Rattle.model.specs.Translation.{from-transition, transitionCount, clocksOfState, resetsOf}
 use Rattle.prelude.proofs.Sums.{sumFrom}
 use Rattle.model.proofs.TranslationCounts.{updatesOf-few, resetsOf-few}
 use Rattle.edge_records.proofs.TextsEdges.{updates-count}
@@ -16,7 +16,7 @@ use Rattle.translation.proofs.lengths.count_effects.Statement.{statemen
 use Rattle.translation.proofs.lengths.count_effects.Tie as tie
 
 abbrev Inv-loop : tie.InvT-loop
-Inv-loop s shape actions resets n₀ t₀ n t = (t ≤ shape .transitions) × (n ≡ sumFrom (effectsOf (readCharts s)) 0 t) × (n ≤ 40 * t)
+Inv-loop s shape actions resets n₀ t₀ n t = (t ≤ shape .transitions) × (n ≡ sumFrom (effectsOf (readCharts s)) 0 t) × (n ≤ 41 * t)
 
 abbrev μ-loop : tie.MeasureT-loop
 μ-loop s shape actions resets n₀ t₀ n t = shape .transitions - t
@@ -44,12 +44,18 @@ cast-source c = omega (arith, source-in-states c)
 target-of-requires : tie.Need-target-of-requires Inv-loop μ-loop
 target-of-requires c κs = (c .before .before .before .before .before .pre .0, c .before .if1 .taken)
 
-target-in-states : (c : tie.After-target-of Inv-loop μ-loop) → c .target-of .result < 128
-target-in-states c =
+target-in-set : (c : tie.After-target-of Inv-loop μ-loop) → c .target-of .result < length (readCharts (now (c .before .before .before .before .before .before .args .s)) .homes)
+target-in-set c =
     let k = c .before in
     let entry = k .before .before .before .before .before in
     let x = entry .args in
-    omega (arith, c .target-of .ensures, target-known (now (x .s)) (x .shape) (entry .pre .0) (k .before .before .before .loop .t) (k .before .if1 .taken), most-states (now (x .s)) (x .shape) (entry .pre .0 .shape))
+    omega (arith, c .target-of .ensures, target-known (now (x .s)) (x .shape) (entry .pre .0) (k .before .before .before .loop .t) (k .before .if1 .taken), length-homes (now (x .s)) (x .shape) (entry .pre .0 .shape))
+
+target-in-states : (c : tie.After-target-of Inv-loop μ-loop) → c .target-of .result < 128
+target-in-states c =
+    let entry = c .before .before .before .before .before .before in
+    let x = entry .args in
+    omega (arith, target-in-set c, length-homes (now (x .s)) (x .shape) (entry .pre .0 .shape), most-states (now (x .s)) (x .shape) (entry .pre .0 .shape))
 
 -- what the tables have of a transition's edge: its updates and its resets
 abbrev inTables : tie.After-target-of Inv-loop μ-loop → ℕ
@@ -65,8 +71,8 @@ effects-here c =
     let t = k .before .before .before .loop .t in
     let cs = readCharts (now (x .s)) in
     let same : getD (now (x .resets)) (c .target-of .result) 0 ≡ length (resetsOf cs (from-transition t)) =
-    entry .pre .2 (c .target-of .result) (target-in-states c)
-    ∙ ap (λ z. length (clocksLeaving cs z)) (c .target-of .ensures ∙ ap (λ y. y .target) (sym (transition-is (now (x .s)) (x .shape) (entry .pre .0 .shape) t (k .before .if1 .taken)))) in
+    entry .pre .2 (c .target-of .result) (target-in-set c)
+    ∙ ap (λ z. length (clocksOfState cs z)) (c .target-of .ensures ∙ ap (λ y. y .target) (sym (transition-is (now (x .s)) (x .shape) (entry .pre .0 .shape) t (k .before .if1 .taken)))) in
     omega (
       arith,
       updates-count (now (x .s)) (x .shape) (entry .pre .0) t (k .source-of .result) (c .target-of .result) (k .before .if1 .taken) (k .source-of .ensures) (c .target-of .ensures),
@@ -76,7 +82,7 @@ effects-here c =
       same,
     )
 
-few-here : (c : tie.After-target-of Inv-loop μ-loop) → inTables c ≤ 40
+few-here : (c : tie.After-target-of Inv-loop μ-loop) → inTables c ≤ 41
 few-here c =
     let k = c .before in
     let entry = k .before .before .before .before .before in

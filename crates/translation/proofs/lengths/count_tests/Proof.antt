@@ -10,31 +10,31 @@ use Rattle.prelude.specs.Lists.{gather}
 use Rattle.chart_records.proofs.PlacesRead.{transition-is, length-transitions, most-states, most-transitions}
 use Rattle.chart_steps.proofs.Accepted.{source-known}
 use Rattle.model.specs.ChartSet.{readCharts, transition}
-use Rattle.model.specs.Translation.{transitionCount, clocksOf, clockOf, twin}
+use Rattle.model.specs.Translation.{transitionCount, clocksOf, clockOf, transitionClocks}
 use Rattle.prelude.proofs.Sums.{sumFrom, sum-alike}
 use Rattle.model.proofs.TranslationCounts.{clocksOf-few}
 use Rattle.twin_records.specs.Tables.{sourceOf}
 use Rattle.twin_records.proofs.TablesClocks.{clock-none, clock-more}
-use Rattle.translation.proofs.TablesCounts.{sum-none, sum-more, earlier, alike, share, Added, added-none, added-more, added-most, share-one, clocksAt, resets-are, literals-are}
+use Rattle.translation.proofs.TablesCounts.{sum-none, sum-more, earlier, alike, share, Added, added-none, added-more, added-most, share-one, clocksAt, clocks-are, leaving-are, literals-are}
 use Rattle.translation.proofs.lengths.count_tests.Statement.{statement}
 use Rattle.translation.proofs.lengths.count_tests.Tie as tie
 
 abbrev Inv-loop : tie.InvT-loop
-Inv-loop s shape resets₀ leaving₀ n₀ t₀ resets leaving n t =
+Inv-loop s shape leaving₀ clocks₀ n₀ t₀ leaving clocks n t =
     (t ≤ shape .transitions)
-    × (n ≡ sumFrom (earlier (sourceOf (readCharts s))) 0 t + 2 * t + clockOf (readCharts s) t)
+    × (n ≡ sumFrom (earlier (sourceOf (readCharts s))) 0 t + t + clockOf (readCharts s) t)
     × (n ≤ 300 * t)
     × Added (sourceOf (readCharts s)) (λ u. 1) 128 leaving t
-    × Added (sourceOf (readCharts s)) (clocksAt (readCharts s)) 128 resets t
+    × Added (sourceOf (readCharts s)) (clocksAt (readCharts s)) 128 clocks t
 
 abbrev μ-loop : tie.MeasureT-loop
-μ-loop s shape resets₀ leaving₀ n₀ t₀ resets leaving n t = shape .transitions - t
+μ-loop s shape leaving₀ clocks₀ n₀ t₀ leaving clocks n t = shape .transitions - t
 
 loop-holds : tie.Need-loop-holds Inv-loop μ-loop
 loop-holds c =
     let x = c .before .args in
     let cs = readCharts (now (x .s)) in
-    (omega arith, omega (arith, sum-none (earlier (sourceOf cs)), clock-none cs), omega arith, added-none (sourceOf cs) (λ u. 1) 128, subst (λ l. Added (sourceOf cs) (clocksAt cs) 128 l 0) (sym (c .before .pre .1)) (added-none (sourceOf cs) (clocksAt cs) 128))
+    (omega arith, omega (arith, sum-none (earlier (sourceOf cs)), clock-none cs), omega arith, subst (λ l. Added (sourceOf cs) (λ u. 1) 128 l 0) (sym (c .before .pre .1)) (added-none (sourceOf cs) (λ u. 1) 128), subst (λ l. Added (sourceOf cs) (clocksAt cs) 128 l 0) (sym (c .before .pre .2)) (added-none (sourceOf cs) (clocksAt cs) 128))
 
 source-of-requires : tie.Need-source-of-requires Inv-loop μ-loop
 source-of-requires c κs = (c .before .before .before .before .pre .0, c .if1 .taken)
@@ -63,8 +63,8 @@ leaving-few c =
     let x = c .before .before .before .before .before .args in
     omega (arith, added-most (sourceOf (readCharts (now (x .s)))) (λ u. 1) 128 (c .source-of .result) 1 (c .before .before .before .loop .inv .3) (λ j. omega arith) (in-states c))
 
-resets-few : (c : tie.After-source-of Inv-loop μ-loop) → getD (c .before .before .before .loop .resets) (c .source-of .result) 0 ≤ c .before .before .before .loop .t
-resets-few c =
+clocks-few : (c : tie.After-source-of Inv-loop μ-loop) → getD (c .before .before .before .loop .clocks) (c .source-of .result) 0 ≤ c .before .before .before .loop .t
+clocks-few c =
     let x = c .before .before .before .before .before .args in
     let cs = readCharts (now (x .s)) in
     omega (arith, added-most (sourceOf cs) (clocksAt cs) 128 (c .source-of .result) 1 (c .before .before .before .loop .inv .4) (λ j. clocksOf-few (transition cs j .trigger)) (in-states c))
@@ -84,54 +84,54 @@ clocks-here c =
 mul-n : tie.Need-mul-n Inv-loop μ-loop
 mul-n c = omega (arith, in-states (c .before .before))
 
-array-read-n : tie.Need-array-read-n Inv-loop μ-loop
-array-read-n c = in-states (c .before .before)
+element-copy-out-n : tie.Need-element-copy-out-n Inv-loop μ-loop
+element-copy-out-n c = in-states (c .before .before)
 
 add-n : tie.Need-add-n Inv-loop μ-loop
-add-n c = omega (arith, leaving-few (c .before .before), few (c .before .before), c .clocks-in .ensures .1)
+add-n c = omega (arith, leaving-few (c .before .before .before), few (c .before .before .before), c .before .clocks-in .ensures .1)
 
 add-n-2 : tie.Need-add-n-2 Inv-loop μ-loop
-add-n-2 c = omega (arith, leaving-few (c .before .before), few (c .before .before), c .clocks-in .ensures .1)
+add-n-2 c = omega (arith, leaving-few (c .before .before .before), few (c .before .before .before), c .before .clocks-in .ensures .1)
 
 cast-n : tie.Need-cast-n Inv-loop μ-loop
-cast-n c = omega (arith, leaving-few (c .before .before), few (c .before .before), c .clocks-in .ensures .1)
+cast-n c = omega (arith, leaving-few (c .before .before .before), few (c .before .before .before), c .before .clocks-in .ensures .1)
 
 add-n-3 : tie.Need-add-n-3 Inv-loop μ-loop
-add-n-3 c = omega (arith, leaving-few (c .before .before), few (c .before .before), c .clocks-in .ensures .1, c .before .before .before .before .before .loop .inv .2)
+add-n-3 c = omega (arith, leaving-few (c .before .before .before), few (c .before .before .before), c .before .clocks-in .ensures .1, c .before .before .before .before .before .before .loop .inv .2)
 
 mul-leaving : tie.Need-mul-leaving Inv-loop μ-loop
-mul-leaving c = omega (arith, in-states (c .before .before))
+mul-leaving c = omega (arith, in-states (c .before .before .before))
 
-array-read-leaving : tie.Need-array-read-leaving Inv-loop μ-loop
-array-read-leaving c = in-states (c .before .before)
+element-copy-out-leaving : tie.Need-element-copy-out-leaving Inv-loop μ-loop
+element-copy-out-leaving c = in-states (c .before .before .before)
 
 add-leaving : tie.Need-add-leaving Inv-loop μ-loop
-add-leaving c = omega (arith, leaving-few (c .before .before), few (c .before .before))
+add-leaving c = omega (arith, leaving-few (c .before .before .before .before), few (c .before .before .before .before))
 
-array-write-leaving : tie.Need-array-write-leaving Inv-loop μ-loop
-array-write-leaving c = in-states (c .before .before)
+element-write-leaving : tie.Need-element-write-leaving Inv-loop μ-loop
+element-write-leaving c = in-states (c .before .before .before .before)
 
-mul-resets : tie.Need-mul-resets Inv-loop μ-loop
-mul-resets c = omega (arith, in-states (c .before .before))
+mul-clocks : tie.Need-mul-clocks Inv-loop μ-loop
+mul-clocks c = omega (arith, in-states (c .before .before .before .before))
 
-element-copy-out-resets : tie.Need-element-copy-out-resets Inv-loop μ-loop
-element-copy-out-resets c = in-states (c .before .before)
+element-copy-out-clocks : tie.Need-element-copy-out-clocks Inv-loop μ-loop
+element-copy-out-clocks c = in-states (c .before .before .before .before)
 
-add-resets : tie.Need-add-resets Inv-loop μ-loop
-add-resets c = omega (arith, resets-few (c .before .before .before), few (c .before .before .before), c .before .clocks-in .ensures .1)
+add-clocks : tie.Need-add-clocks Inv-loop μ-loop
+add-clocks c = omega (arith, clocks-few (c .before .before .before .before .before), few (c .before .before .before .before .before), c .before .before .before .clocks-in .ensures .1)
 
-element-write-resets : tie.Need-element-write-resets Inv-loop μ-loop
-element-write-resets c = in-states (c .before .before .before)
+element-write-clocks : tie.Need-element-write-clocks Inv-loop μ-loop
+element-write-clocks c = in-states (c .before .before .before .before .before)
 
 add-t : tie.Need-add-t Inv-loop μ-loop
-add-t c = omega (arith, few (c .before .before .before))
+add-t c = omega (arith, few (c .before .before .before .before .before))
 
 loop-less : tie.Need-loop-less Inv-loop μ-loop
-loop-less c = omega (arith, c .before .before .before .before .if1 .taken)
+loop-less c = omega (arith, c .before .before .before .before .before .before .if1 .taken)
 
 loop-again : tie.Need-loop-again Inv-loop μ-loop
 loop-again c =
-    let k = c .before .before .before in
+    let k = c .before .before .before .before .before in
     let l = k .before .before .before .loop in
     let entry = k .before .before .before .before .before in
     let x = entry .args in
@@ -144,10 +144,10 @@ loop-again c =
     ∙ ap (λ z. sumFrom (share (sourceOf cs) (λ u. 1) 128 z) 0 t) (source-here k)
     ∙ sum-alike (share (sourceOf cs) (λ u. 1) 128 (sourceOf cs t)) (alike (sourceOf cs) t) 0 t (λ u a b. share-one (sourceOf cs) (sourceOf cs t) u) in (
       omega (arith, k .before .if1 .taken),
-      omega (arith, l .inv .1, before, clocks-here (c .before), sum-more (earlier (sourceOf cs)) t, clock-more cs t h),
-      omega (arith, l .inv .2, leaving-few k, few k, c .before .clocks-in .ensures .1),
+      omega (arith, l .inv .1, before, clocks-here (c .before .before .before), sum-more (earlier (sourceOf cs)) t, clock-more cs t h),
+      omega (arith, l .inv .2, leaving-few k, few k, c .before .before .before .clocks-in .ensures .1),
       added-more (sourceOf cs) (λ u. 1) 128 source 1 (l .inv .3) (source-here k) refl (in-states k),
-      added-more (sourceOf cs) (clocksAt cs) 128 source (c .before .clocks-in .result) (l .inv .4) (source-here k) (clocks-here (c .before)) (in-states k),
+      added-more (sourceOf cs) (clocksAt cs) 128 source (c .before .before .before .clocks-in .result) (l .inv .4) (source-here k) (clocks-here (c .before .before .before)) (in-states k),
     )
 
 returns : tie.Need-returns Inv-loop μ-loop
@@ -157,10 +157,12 @@ returns c =
     let l = c .before .before .loop in
     let cs = readCharts (now (x .s)) in
     let e : l .t ≡ transitionCount cs = omega (arith, l .inv .0, c .if1 .left, length-transitions (now (x .s)) (x .shape) (entry .pre .0 .shape)) in
-    let clocks : clockOf cs (transitionCount cs) ≡ length (twin cs .clocks) = ap (λ ts. length (gather (λ y. clocksOf (y .trigger)) ts)) (take-length (cs .transitions)) in
-    let n : l .n ≡ sumFrom (earlier (sourceOf cs)) 0 (transitionCount cs) + 2 * transitionCount cs + clockOf cs (transitionCount cs) = subst (λ t. l .n ≡ sumFrom (earlier (sourceOf cs)) 0 t + 2 * t + clockOf cs t) e (l .inv .1) in (
-      omega (arith, n, clocks, literals-are (now (x .s)) (entry .pre .0 .unrefused)),
-      λ st h. subst (Added (sourceOf cs) (clocksAt cs) 128 (l .resets)) e (l .inv .4) .sums st h ∙ resets-are cs st,
+    let own : clockOf cs (transitionCount cs) ≡ length (transitionClocks cs) = ap (λ ts. length (gather (λ y. clocksOf (y .trigger)) ts)) (take-length (cs .transitions)) in
+    let n : l .n ≡ sumFrom (earlier (sourceOf cs)) 0 (transitionCount cs) + transitionCount cs + clockOf cs (transitionCount cs) = subst (λ t. l .n ≡ sumFrom (earlier (sourceOf cs)) 0 t + t + clockOf cs t) e (l .inv .1) in (
+      omega (arith, n, own, literals-are (now (x .s)) (entry .pre .0 .unrefused)),
+      λ st h. subst (Added (sourceOf cs) (λ u. 1) 128 (l .leaving)) e (l .inv .3) .sums st h ∙ leaving-are cs st,
+      λ st h. subst (Added (sourceOf cs) (clocksAt cs) 128 (l .clocks)) e (l .inv .4) .sums st h ∙ clocks-are cs st,
+      l .inv .4 .long,
     )
 
 pub count-tests-spec : {M : Type 1} → statement M
@@ -175,19 +177,19 @@ count-tests-spec =
     (λ c κs. search needs)
     (λ c κs. search needs)
     mul-n
-    array-read-n
+    element-copy-out-n
     add-n
     add-n-2
     cast-n
     add-n-3
     mul-leaving
-    array-read-leaving
+    element-copy-out-leaving
     add-leaving
-    array-write-leaving
-    mul-resets
-    element-copy-out-resets
-    add-resets
-    element-write-resets
+    element-write-leaving
+    mul-clocks
+    element-copy-out-clocks
+    add-clocks
+    element-write-clocks
     add-t
     loop-less
     loop-again

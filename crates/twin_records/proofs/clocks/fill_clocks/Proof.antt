@@ -5,6 +5,8 @@ use native.Mathlib.Omega.{arith}
 use borrow.Author.Needs.{needs}
 use denote.Ref.{now}
 use lib.ListN.{length, length-replicate}
+use lib.Seq.{take-length}
+use Rattle.prelude.specs.Lists.{gather}
 use Rattle.model.specs.ChartSet.{readCharts, transition}
 use Rattle.model.specs.Translation.{transitionCount, clocksOf, clockOf}
 use Rattle.chart_records.proofs.PlacesRead.{transition-is, length-transitions, most-transitions}
@@ -73,9 +75,11 @@ returns c =
     let x = entry .args in
     let l = c .before .before .loop in
     let cs = readCharts (now (x .s)) in
-    let e : l .t ≡ transitionCount cs = omega (arith, l .inv .0, length-transitions (now (x .s)) (x .shape) (entry .pre .0), c .if1 .left) in
-    filled-padded (clockOf cs) 0 256 (transitionCount cs) (omega (arith, most-transitions (now (x .s)) (x .shape) (entry .pre .0), length-transitions (now (x .s)) (x .shape) (entry .pre .0))) (l .clocks)
-    (subst (λ l₀. Filled (clockOf cs) 0 l₀ (l .clocks) (transitionCount cs)) (entry .pre .1) (subst (Filled (clockOf cs) 0 (now (x .clocks)) (l .clocks)) e (l .inv .3)))
+    let e : l .t ≡ transitionCount cs = omega (arith, l .inv .0, length-transitions (now (x .s)) (x .shape) (entry .pre .0), c .if1 .left) in (
+      l .inv .2 ∙ ap (clockOf cs) e ∙ ap (λ ts. length (gather (λ y. clocksOf (y .trigger)) ts)) (take-length (cs .transitions)),
+      filled-padded (clockOf cs) 0 256 (transitionCount cs) (omega (arith, most-transitions (now (x .s)) (x .shape) (entry .pre .0), length-transitions (now (x .s)) (x .shape) (entry .pre .0))) (l .clocks)
+          (subst (λ l₀. Filled (clockOf cs) 0 l₀ (l .clocks) (transitionCount cs)) (entry .pre .1) (subst (Filled (clockOf cs) 0 (now (x .clocks)) (l .clocks)) e (l .inv .3))),
+    )
 
 pub fill-clocks-spec : {M : Type 1} → statement M
 fill-clocks-spec =
