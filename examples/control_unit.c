@@ -50,7 +50,8 @@ static const char *meaning(int32_t answer)
     case MONUVALECK_DANGLING_NUMBER: return "a number naming nothing";
     case MONUVALECK_BROKEN_STRUCTURE: return "broken structure of charts, initial states, priorities or actions";
     case MONUVALECK_BROKEN_NODE: return "a node of the wrong order or sort, or not used exactly once";
-    case MONUVALECK_ZERO_TICKS: return "timing trigger of 0 ticks";
+    case MONUVALECK_ZERO_TICKS: return "timing trigger or waiting action of 0 ticks";
+    case MONUVALECK_UNEQUAL_TIMES: return "waiting actions of one state with different milliseconds";
     case MONUVALECK_SHORT_BUFFER: return "result longer than the buffer";
     case MONUVALECK_BAD_TABLE: return "automata table refused";
     case MONUVALECK_IMPOSSIBLE_RUN: return "state impossible for the file";

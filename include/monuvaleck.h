@@ -18,12 +18,13 @@
  * THREADS. No function keeps anything: what it answers and writes depends on its arguments alone. Calls at the same time need no lock as long as none
  * writes what another reads or writes. A run may be copied, stored and loaded as bytes; its fields are in the byte order of the machine.
  *
- * STACK. Leave 256 KiB. tests/c measures the deepest stack of each function, which guards and actions of 1,024 nested nodes take, and lines of 256 parentheses.
+ * STACK. Leave 256 KiB. tests/c measures the deepest stack of each function, which guards and assigned numbers of 1,024 nested nodes take, and lines of 256 parentheses.
  *
  * TIME. Turns are taken in file order of the charts, at the positions 1 to n of a cycle for n charts; at position n + 1 time passes. A cycle is 100 ms.
  * Time empties the events, adds 1 to the ages and to the cycle count, and lets clocks grow; then the position is 1 again.
  * Times of a set are rounded to the nearest tick of 100 ms, exact halves to the even tick: 150, 249 and 250 ms are 2 ticks, 251 are 3, 350 are 4.
  * A transition after d ticks is due at age d and at every later age until its state is left, one every d ticks at the ages d, 2 d, 3 d, .. alone.
+ * At these ages a state's waiting actions of d ticks are done, where its chart idles: the turn still answers MONUVALECK_IDLE, and the age goes on.
  *
  * EVENTS. The events given at position 1 are present for all charts of that cycle. An event that a chart raises is present for the later charts of the same cycle
  * only: not for those before it, and not in the next cycle. A cycle ends with time, so one that is done leaves no events: after charts_cycle run.events is 0, whatever
@@ -32,7 +33,7 @@
  * the cycle's. Automata go alike.
  *
  * FAULTS. An accepted set may fault (15 to 17). The run is then as before the call, and the same call faults again. A run that stands past position 1 and whose turn
- * faults cannot go on, since no other events can be given there.
+ * faults cannot go on, since no other events can be given there. An action or update with a guard that is false is skipped: its number is not worked out, and cannot fault.
  *
  * THE END OF A RUN. A run has 1,000,000 cycles, which is 27 h 46 min 40 s at 100 ms a cycle. From then on every turn and cycle is refused by MONUVALECK_CYCLES_DONE (14),
  * and the run stays as it is. A control unit must then stop in a safe state and start a fresh run with charts_start: in the initial states, variables at
@@ -58,9 +59,11 @@ enum monuvaleck_refusal {
     MONUVALECK_BROKEN_CODE = 5,      /* a code is unknown, or a number out of its range */
     MONUVALECK_DANGLING_NUMBER = 6,  /* a number names nothing */
     MONUVALECK_BROKEN_STRUCTURE = 7, /* a transition across charts; an initial state of another chart, without exactly one leaving transition, that one with
-                                        trigger or guard, entered, or with entry or exit action; equal priorities leaving a state; a ninth action */
-    MONUVALECK_BROKEN_NODE = 8,      /* an operand is not lower or of the wrong sort; a guard is no truth, an assigned node no number; a node is not used exactly once */
-    MONUVALECK_ZERO_TICKS = 9,       /* a timing trigger of 50 ms or less: 0 ticks */
+                                        trigger or guard, entered, or with entry or exit action; equal priorities leaving a state; a ninth action of an owner */
+    MONUVALECK_BROKEN_NODE = 8,      /* an operand is not lower or of the wrong sort; a guard, of a transition or an action, is no truth, an assigned node no number; a node is
+                                        not used exactly once */
+    MONUVALECK_ZERO_TICKS = 9,       /* a timing trigger or waiting action of 50 ms or less: 0 ticks */
+    MONUVALECK_UNEQUAL_TIMES = 25,   /* waiting actions of one state have different milliseconds; asked after 9 */
 
     /* translating */
     MONUVALECK_SHORT_BUFFER = 10, /* the result is longer than the buffer */
@@ -93,13 +96,13 @@ enum monuvaleck_refusal {
 };
 
 /* What a turn answers where nothing was taken. */
-#define MONUVALECK_IDLE 65534 /* the chart idled; a twin answers the number of its idle edge instead */
+#define MONUVALECK_IDLE 65534 /* the chart idled, whether or not it did waiting actions; a twin answers the number of its idle edge instead */
 #define MONUVALECK_TIME 65535 /* position n + 1: time passed */
 
 /* Limits: lengths in bytes that no accepted set, no accepted table and no translation is above; cycles of a run; bytes of a line that is read, which has no more
  * nodes than bytes; nodes of a list that is written. */
 #define MONUVALECK_LONGEST_SET 31872
-#define MONUVALECK_LONGEST_TWIN 232576
+#define MONUVALECK_LONGEST_TWIN 265344
 #define MONUVALECK_MOST_CYCLES 1000000
 #define MONUVALECK_LONGEST_LINE 256
 #define MONUVALECK_MOST_NODES 1024
@@ -117,14 +120,14 @@ typedef struct {
 /* A run of an automata table. Places past the table's own automata, clocks and variables are 0. */
 typedef struct {
     uint16_t locations[8]; /* of each automaton its present location */
-    uint16_t clocks[256];  /* the clocks, in ticks, none above its own */
+    uint16_t clocks[384];  /* the clocks, in ticks, none above its own */
     int16_t variables[64];
     uint32_t events;
     uint32_t position;
     uint32_t cycles;
 } automata_run;
 
-/* Checks a file. 0: accepted. A set is refused by 1 to 9, a table by 11. */
+/* Checks a file. 0: accepted. A set is refused by 1 to 9 and 25, a table by 11. */
 int32_t charts_check(const uint8_t *set, size_t set_len);
 int32_t automata_check(const uint8_t *table, size_t table_len);
 
@@ -152,12 +155,12 @@ int32_t charts_play(const uint8_t *set, size_t set_len, charts_run *run, const u
 int32_t automata_play(const uint8_t *table, size_t table_len, automata_run *run, const uint32_t *masks, size_t masks_len);
 
 /* Translates a set into its twin, an automata table. The answer is the twin's length; the bytes beyond it are kept. MONUVALECK_LONGEST_TWIN bytes are always
- * enough. Refused by 1 to 10. */
+ * enough. Refused as by the check, and by 10. */
 int32_t charts_translate(const uint8_t *set, size_t set_len, uint8_t *out, size_t out_len);
 
 /* Leads a path of the set's twin back. The path starts with a fresh run and names what each turn took: an edge, or MONUVALECK_TIME. Each edge that came of a
  * transition gives a row of three words: cycle, chart, transition. The answer is the number of rows; the words beyond them are kept. As many rows as
- * the path has steps are always enough. Refused by 1 to 9, 20 and 21. */
+ * the path has steps are always enough. Refused as by the check, and by 20 and 21. */
 int32_t path_back(const uint8_t *set, size_t set_len, const uint16_t *path, size_t path_len, uint32_t *rows, size_t rows_len);
 
 /* Guards typed as a line, such as v0 < 10 && !(v1 == 0): 1 to 256 bytes of ASCII, without a zero at the end.

@@ -104,6 +104,18 @@ pub fn action(place: u8, owner: u16, deed: Deed) -> Record {
     record
 }
 
+/// A waiting action, done at each multiple of the milliseconds.
+pub fn at_each(mut action: Record, milliseconds: u32) -> Record {
+    write_u32(&mut action, 12, milliseconds);
+    action
+}
+
+/// An action or update that is done only where the guard holds.
+pub fn done_if(mut record: Record, guard: u16) -> Record {
+    write_u16(&mut record, 8, guard + 1);
+    record
+}
+
 pub fn automaton(initial: u16) -> Record {
     let mut record = of_kind(AUTOMATON);
     write_u16(&mut record, 2, initial);

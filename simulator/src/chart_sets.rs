@@ -4,7 +4,7 @@ use crate::assemble::*;
 use crate::deeds::Deed;
 use crate::expressions::Node;
 use crate::operators::*;
-use crate::records::{Record, ENTRY, EXIT, NODE, ON_TRANSITION, VARIABLE};
+use crate::records::{Record, ENTRY, EXIT, NODE, ON_TRANSITION, VARIABLE, WAITING};
 use crate::variables::Variable;
 
 /// One chart; states 0 initial, 1 ahead, 2 behind; one variable from -100 to 100.
@@ -220,6 +220,171 @@ pub fn action_order() -> Vec<u8> {
     .bytes()
 }
 
+/// At event 0 variable 1 becomes 5 where variable 0 is 1; then variable 0 becomes 1; then, where it is 1, variable 1 grows
+/// by 2 and event 5 is raised, which chart 1 counts. At event 1 variable 0 becomes 0 again. So the first guard is false
+/// where those after it, of the same text, are true.
+pub fn guards_in_sequence() -> Vec<u8> {
+    let is_one = |first: u16| [variable_value(0), constant(1), operation(EQUAL, &[first, first + 1])];
+    let grown = |variable: u16, by: i32, first: u16| {
+        [variable_value(variable), constant(by), operation(SUM, &[first, first + 1])]
+    };
+    let assign =
+        |transition, variable, node| action(ON_TRANSITION, transition, Deed::Assign { variable, node });
+    SetParts {
+        charts: vec![chart(0), chart(2)],
+        states: vec![state(0), state(0), state(1), state(1)],
+        transitions: vec![
+            transition(1, 0, 1),
+            on_event(transition(1, 1, 1), 0),
+            on_event(transition(2, 1, 1), 1),
+            transition(1, 2, 3),
+            on_event(transition(1, 3, 3), 5),
+        ],
+        variables: [1, 9, 99].map(|highest| Variable { lowest: 0, highest, start: 0 }).to_vec(),
+        nodes: [
+            &is_one(0)[..],
+            &is_one(3),
+            &is_one(6),
+            &grown(1, 2, 9),
+            &grown(2, 1, 12),
+            &[constant(5), constant(1), constant(0)],
+        ]
+        .concat(),
+        actions: vec![
+            done_if(assign(1, 1, 15), 2),
+            assign(1, 0, 16),
+            done_if(assign(1, 1, 11), 5),
+            done_if(action(ON_TRANSITION, 1, Deed::Raise { event: 5 }), 8),
+            assign(2, 0, 17),
+            assign(4, 2, 14),
+        ],
+    }
+    .bytes()
+}
+
+/// At event 0 variable 0 falls by 1; then, where it is below 0, a number outside variable 1 would be assigned to that; then
+/// variable 1 grows by 1 where 6 divided by variable 0 is 3. From 3 on: 2 makes that guard true, 1 false, and 0 a fault.
+pub fn guard_that_faults() -> Vec<u8> {
+    SetParts {
+        charts: vec![chart(0)],
+        states: vec![state(0), state(0)],
+        transitions: vec![transition(1, 0, 1), on_event(transition(1, 1, 1), 0)],
+        variables: [3, 0].map(|start| Variable { lowest: -9, highest: 9, start }).to_vec(),
+        nodes: vec![
+            variable_value(0),
+            constant(1),
+            operation(DIFFERENCE, &[0, 1]),
+            variable_value(0),
+            constant(0),
+            operation(LESS, &[3, 4]),
+            constant(100),
+            constant(6),
+            variable_value(0),
+            operation(QUOTIENT, &[7, 8]),
+            constant(3),
+            operation(EQUAL, &[9, 10]),
+            variable_value(1),
+            constant(1),
+            operation(SUM, &[12, 13]),
+        ],
+        actions: vec![
+            action(EXIT, 1, Deed::Assign { variable: 0, node: 2 }),
+            done_if(action(ON_TRANSITION, 1, Deed::Assign { variable: 1, node: 6 }), 5),
+            done_if(action(ENTRY, 1, Deed::Assign { variable: 1, node: 14 }), 11),
+        ],
+    }
+    .bytes()
+}
+
+/// State 1 counts while it waits, each 250 ms, which are 2 ticks; event 0 enters it anew.
+pub fn counts_while_waiting() -> Vec<u8> {
+    SetParts {
+        charts: vec![chart(0)],
+        states: vec![state(0), state(0)],
+        transitions: vec![transition(1, 0, 1), on_event(transition(1, 1, 1), 0)],
+        variables: vec![Variable { lowest: 0, highest: 1_000, start: 0 }],
+        nodes: vec![variable_value(0), constant(1), operation(SUM, &[0, 1])],
+        actions: vec![at_each(action(WAITING, 1, Deed::Assign { variable: 0, node: 2 }), 250)],
+    }
+    .bytes()
+}
+
+/// Each 3 ticks that state 1 waits, variable 0 grows by 1, which at 4 is a fault; then variable 1 becomes 60 divided by
+/// what variable 0 lacks of 3, where it is below 3: at 3 itself that number would fault. Event 0 enters state 1 anew, which
+/// sets variable 0 back.
+pub fn sees_while_waiting() -> Vec<u8> {
+    let waiting = |variable, node| at_each(action(WAITING, 1, Deed::Assign { variable, node }), 300);
+    SetParts {
+        charts: vec![chart(0)],
+        states: vec![state(0), state(0)],
+        transitions: vec![transition(1, 0, 1), on_event(transition(1, 1, 1), 0)],
+        variables: [4, 99].map(|highest| Variable { lowest: 0, highest, start: 0 }).to_vec(),
+        nodes: vec![
+            variable_value(0),
+            constant(1),
+            operation(SUM, &[0, 1]),
+            variable_value(0),
+            constant(3),
+            operation(LESS, &[3, 4]),
+            constant(60),
+            constant(3),
+            variable_value(0),
+            operation(DIFFERENCE, &[7, 8]),
+            operation(QUOTIENT, &[6, 9]),
+            constant(0),
+        ],
+        actions: vec![
+            waiting(0, 2),
+            action(ENTRY, 1, Deed::Assign { variable: 0, node: 11 }),
+            done_if(waiting(1, 10), 5),
+        ],
+    }
+    .bytes()
+}
+
+/// Chart 1 raises event 5 each 2 ticks that it waits in state 3; its initial state has such an action in vain. Chart 2,
+/// later in the cycle, counts the event, and chart 0, earlier, only what comes from outside.
+pub fn raises_while_waiting() -> Vec<u8> {
+    let raise = |state| at_each(action(WAITING, state, Deed::Raise { event: 5 }), 200);
+    let count =
+        |transition, variable, node| action(ON_TRANSITION, transition, Deed::Assign { variable, node });
+    SetParts {
+        charts: vec![chart(0), chart(2), chart(4)],
+        states: [0, 0, 1, 1, 2, 2].map(state).to_vec(),
+        transitions: vec![
+            transition(1, 0, 1),
+            on_event(transition(1, 1, 1), 5),
+            transition(1, 2, 3),
+            transition(1, 4, 5),
+            on_event(transition(1, 5, 5), 5),
+        ],
+        variables: vec![Variable { lowest: 0, highest: 1_000, start: 0 }; 2],
+        nodes: vec![
+            variable_value(0),
+            constant(1),
+            operation(SUM, &[0, 1]),
+            variable_value(1),
+            constant(1),
+            operation(SUM, &[3, 4]),
+        ],
+        actions: vec![raise(2), raise(3), count(1, 0, 2), count(4, 1, 5)],
+    }
+    .bytes()
+}
+
+/// State 1 has two waiting actions with the milliseconds given.
+pub fn two_waiting(first: u32, second: u32) -> Vec<u8> {
+    let raise = |event, milliseconds| at_each(action(WAITING, 1, Deed::Raise { event }), milliseconds);
+    SetParts {
+        charts: vec![chart(0)],
+        states: vec![state(0), state(0)],
+        transitions: vec![transition(1, 0, 1)],
+        actions: vec![raise(0, first), raise(1, second)],
+        ..SetParts::default()
+    }
+    .bytes()
+}
+
 /// State 1's two transitions stand in the file against their priorities; the second in priority
 /// has a guard that divides by zero, and is met only where event 0 is absent.
 pub fn guarded_division() -> Vec<u8> {
@@ -274,6 +439,11 @@ pub fn all() -> Vec<(&'static str, Vec<u8>)> {
         ("halves", halves()),
         ("relay", relay()),
         ("action_order", action_order()),
+        ("guards_in_sequence", guards_in_sequence()),
+        ("guard_that_faults", guard_that_faults()),
+        ("counts_while_waiting", counts_while_waiting()),
+        ("sees_while_waiting", sees_while_waiting()),
+        ("raises_while_waiting", raises_while_waiting()),
         ("guarded_division", guarded_division()),
         ("one_assignment", one_assignment(-1, 1, 0, -2)),
     ]

@@ -21,6 +21,13 @@ impl Deed {
     }
 }
 
+/// The deed of an action or update, done only where its guard holds, if it has one.
+#[derive(Clone, Copy, Debug, PartialEq, Eq)]
+pub struct GuardedDeed {
+    pub guard: Option<u16>,
+    pub deed: Deed,
+}
+
 /// What deeds read and change.
 pub struct Scene<'a> {
     pub nodes: &'a [Node],
@@ -31,14 +38,21 @@ pub struct Scene<'a> {
 
 impl Scene<'_> {
     /// Deeds in sequence, each seeing the last; the first fault ends it.
-    pub fn run<'d>(&mut self, deeds: impl IntoIterator<Item = &'d Deed>) -> Result<(), Refusal> {
+    pub fn run<'d>(&mut self, deeds: impl IntoIterator<Item = &'d GuardedDeed>) -> Result<(), Refusal> {
         deeds.into_iter().try_for_each(|deed| self.run_one(deed))
     }
 
-    fn run_one(&mut self, deed: &Deed) -> Result<(), Refusal> {
+    /// The guard is worked out when its deed's turn comes; if false, the deed's number is not.
+    fn run_one(&mut self, GuardedDeed { guard, deed }: &GuardedDeed) -> Result<(), Refusal> {
+        let evaluator = Evaluator { nodes: self.nodes, variables: self.values };
+        if let Some(guard) = guard {
+            if !evaluator.truth(*guard)? {
+                return Ok(());
+            }
+        }
         match *deed {
             Deed::Assign { variable, node } => {
-                let value = Evaluator { nodes: self.nodes, variables: self.values }.number(node)?;
+                let value = evaluator.number(node)?;
                 self.assign(usize::from(variable), value)
             }
             Deed::Raise { event } => {

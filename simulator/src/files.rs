@@ -4,6 +4,9 @@ use crate::operators::{self, CONSTANT, VARIABLE_VALUE};
 use crate::records::*;
 use crate::refusals::{self, Refusal};
 
+/// The bytes that the programs read of a file at once: more than the largest table has.
+pub const READ_AT_ONCE: usize = 524_288;
+
 /// A file whose length, kinds and counts are right, with its records by kind.
 pub struct Sections<'a> {
     records: &'a [Record],
@@ -76,11 +79,11 @@ pub fn named_bytes(record: &Record) -> u16 {
         TRANSITION => span(0, 6) | span(12, 13) | transition_trigger_bytes(record[6]),
         VARIABLE | TWIN_VARIABLE => span(0, 0) | span(2, 7),
         NODE | TWIN_NODE => span(0, 1) | operator_bytes(record[1]),
-        ACTION => span(0, 5) | deed_bytes(record[4]),
+        ACTION => span(0, 5) | span(8, 9) | deed_bytes(record[4]) | place_bytes(record[1]),
         EDGE => span(0, 6),
         LITERAL => span(0, 4) | span(8, 9) | literal_trigger_bytes(record[4]),
         CLOCK => span(0, 3),
-        UPDATE => span(0, 4) | deed_bytes(record[1]),
+        UPDATE => span(0, 4) | span(8, 9) | deed_bytes(record[1]),
         RESET => span(0, 0) | span(2, 5),
         _ => span(0, 15),
     }
@@ -118,6 +121,14 @@ fn deed_bytes(deed: u8) -> u16 {
     match deed {
         RAISE => 0,
         _ => span(6, 7),
+    }
+}
+
+/// Only entry, exit and transition are known not to use the milliseconds' bytes 12-15.
+fn place_bytes(place: u8) -> u16 {
+    match place {
+        ENTRY | EXIT | ON_TRANSITION => 0,
+        _ => span(12, 15),
     }
 }
 

@@ -1,5 +1,6 @@
 //! The listing of a file: a line for each record in file order, from the record formats of the scope paper. A thing has the number
-//! of its record within its kind. A guard is told by its node and, in parentheses, as the line that the writer of guards makes of it.
+//! of its record within its kind. A guard is told by its node and, in parentheses, as the line that the writer of guards makes of it;
+//! an action or update without one says nothing of it.
 
 use crate::expressions::Node;
 use crate::guards::Tree;
@@ -60,7 +61,10 @@ fn fields(record: &Record, nodes: &[Node]) -> String {
             format!("{} to {}, start {}", value(2), value(4), value(6))
         }
         NODE | TWIN_NODE => operation(record),
-        ACTION => format!("{} {}: {}", place(record[1]), two(2), deed(record[4], record[5], two(6))),
+        ACTION => {
+            let done = deed(record[4], record[5], two(6));
+            format!("{}: {done}{}", place(record), condition(record, nodes))
+        }
         AUTOMATON => format!("initial location {}", two(2)),
         LOCATION => format!("automaton {}", record[1]),
         EDGE => {
@@ -72,7 +76,10 @@ fn fields(record: &Record, nodes: &[Node]) -> String {
             format!("edge {} {sign}: {}, {}", two(2), cause(record), guard(two(8), nodes))
         }
         CLOCK => format!("{} {} ticks", timing(record[1]), two(2)),
-        UPDATE => format!("edge {}: {}", two(2), deed(record[1], record[4], two(6))),
+        UPDATE => {
+            let done = deed(record[1], record[4], two(6));
+            format!("edge {}: {done}{}", two(2), condition(record, nodes))
+        }
         RESET => format!("edge {}: clock {}", two(2), two(4)),
         _ => unreachable!("an accepted file"),
     }
@@ -111,11 +118,17 @@ fn guard(node: u16, nodes: &[Node]) -> String {
     format!("guard node {node} ({})", Tree::of(nodes, usize::from(node)).text())
 }
 
-fn place(code: u8) -> &'static str {
-    match code {
-        ENTRY => "entry of state",
-        EXIT => "exit of state",
-        ON_TRANSITION => "transition",
+fn condition(action_or_update: &Record, nodes: &[Node]) -> String {
+    deed_guard(action_or_update).map_or(String::new(), |node| format!(", {}", guard(node, nodes)))
+}
+
+fn place(action: &Record) -> String {
+    let owner = read_u16(action, 2);
+    match action[1] {
+        ENTRY => format!("entry of state {owner}"),
+        EXIT => format!("exit of state {owner}"),
+        ON_TRANSITION => format!("transition {owner}"),
+        WAITING => format!("waiting in state {owner}, every {} ms", read_u32(action, 12)),
         _ => unreachable!("an accepted file"),
     }
 }

@@ -31,14 +31,30 @@ pub const CHART_LIMITS: [(u8, usize); 6] =
 pub const AUTOMATA_LIMITS: [(u8, usize); 9] = [
     (AUTOMATON, 8),
     (LOCATION, 128),
-    (EDGE, 384),
-    (LITERAL, 2_432),
-    (CLOCK, 256),
+    (EDGE, 512),
+    (LITERAL, 2_944),
+    (CLOCK, 384),
     (TWIN_VARIABLE, 64),
     (TWIN_NODE, 1_024),
-    (UPDATE, 6_144),
-    (RESET, 4_096),
+    (UPDATE, 7_168),
+    (RESET, 4_352),
 ];
+
+/// The most of a kind that a file may hold; the kinds of a file follow one another.
+pub const fn most(kind: u8) -> usize {
+    let limits: &[(u8, usize)] = if kind < AUTOMATON { &CHART_LIMITS } else { &AUTOMATA_LIMITS };
+    limits[(kind - limits[0].0) as usize].1
+}
+
+/// The bytes of a file with the most of each kind.
+pub const fn most_bytes(limits: &[(u8, usize)]) -> usize {
+    let (mut records, mut at) = (0, 0);
+    while at < limits.len() {
+        records += limits[at].1;
+        at += 1;
+    }
+    records * RECORD_LEN
+}
 
 pub const ACTIONS_PER_OWNER: usize = 8;
 pub const EVENTS: u8 = 32;
@@ -51,6 +67,8 @@ pub const MOST_TICKS: u16 = 36_000;
 pub const ENTRY: u8 = 1;
 pub const EXIT: u8 = 2;
 pub const ON_TRANSITION: u8 = 3;
+/// Done while a state idles.
+pub const WAITING: u8 = 4;
 
 pub const ASSIGN: u8 = 1;
 pub const RAISE: u8 = 2;
@@ -102,10 +120,22 @@ pub fn write_i32(record: &mut Record, at: usize, value: i32) {
     record[at..at + 4].copy_from_slice(&value.to_le_bytes());
 }
 
-/// The milliseconds of a transition's timing trigger, if it has one.
+/// Where the milliseconds of a transition's timing trigger stand, or those of a waiting action.
+pub fn time_at(record: &Record) -> Option<usize> {
+    match record[0] {
+        TRANSITION if matches!(record[6], AFTER | EVERY) => Some(8),
+        ACTION if record[1] == WAITING => Some(12),
+        _ => None,
+    }
+}
+
 pub fn time_of(record: &Record) -> Option<u32> {
-    let timed = record[0] == TRANSITION && matches!(record[6], AFTER | EVERY);
-    timed.then(|| read_u32(record, 8))
+    time_at(record).map(|at| read_u32(record, at))
+}
+
+/// The guard of an action or update: bytes 8-9 hold its node plus one, zero for none.
+pub fn deed_guard(record: &Record) -> Option<u16> {
+    read_u16(record, 8).checked_sub(1)
 }
 
 /// The whole records of some bytes; a rest of fewer than 16 bytes is left out.

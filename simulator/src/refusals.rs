@@ -28,3 +28,6 @@ pub const ROWS: Refusal = 21;
 pub const LINE: Refusal = 22;
 pub const LINE_SORT: Refusal = 23;
 pub const LINE_ROOM: Refusal = 24;
+
+/// Document 02: waiting actions of one state with different milliseconds, asked after 9.
+pub const WAITING_TIMES: Refusal = 25;

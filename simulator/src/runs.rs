@@ -1,11 +1,12 @@
 //! The lent runs, the answers of turns, and the checks that charts and automata share.
 
+use crate::records::{most, CHART, CLOCK};
 use crate::refusals::{Refusal, CYCLES_DONE, EVENTS_ELSEWHERE};
 use crate::timing::MOST_CYCLES;
 use crate::variables::{Values, VARIABLE_PLACES};
 
-pub const CHART_PLACES: usize = 8;
-pub const CLOCK_PLACES: usize = 256;
+pub const CHART_PLACES: usize = most(CHART);
+pub const CLOCK_PLACES: usize = most(CLOCK);
 
 #[repr(C)]
 #[derive(Clone, Copy, Debug, PartialEq, Eq)]

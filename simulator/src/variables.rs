@@ -1,8 +1,8 @@
 //! Variables: their ranges and the 64 places of a run.
 
-use crate::records::{read_i16, Record};
+use crate::records::{most, read_i16, Record, VARIABLE};
 
-pub const VARIABLE_PLACES: usize = 64;
+pub const VARIABLE_PLACES: usize = most(VARIABLE);
 pub type Values = [i16; VARIABLE_PLACES];
 
 #[derive(Clone, Copy, Debug, PartialEq, Eq)]

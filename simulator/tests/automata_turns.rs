@@ -6,12 +6,13 @@ use simulator::deeds::Deed;
 use simulator::expressions::Node;
 use simulator::generate::calls::{call_list, events_of_table, CallAnswer};
 use simulator::generate::tables::any_table;
+use simulator::node_rules::node_operands;
 use simulator::operators::*;
 use simulator::records::*;
 use simulator::timing::{Clock, Timing};
 use simulator::variables::Variable;
 use simulator::Machine;
-use simulator::{Answer, AutomataRun, Random};
+use simulator::{Answer, Random};
 use std::collections::BTreeMap;
 
 /// One automaton with locations 0 and 1, one variable from 0 to 9, and two clocks: after 2, every 2.
@@ -107,7 +108,7 @@ fn updates_in_file_order_then_resets() {
     let assign = |edge, node| update(edge, Deed::Assign { variable: 0, node });
     let updates = [assign(0, 0), assign(1, 4), assign(0, 3), update(0, Deed::Raise { event: 9 })];
     let table = table(&edges, &[], &numbers, &updates, &[reset(0, 1)]);
-    let mut run = AutomataRun { clocks: [0; 256], ..table.start() };
+    let mut run = table.start();
     run.clocks[0] = 2;
     run.clocks[1] = 2;
     assert_eq!(table.turn(&mut run, 1), Ok(Answer::Taken(0)));
@@ -119,6 +120,35 @@ fn updates_in_file_order_then_resets() {
     let before = run;
     assert_eq!(table.turn(&mut run, 0), Err(17));
     assert_eq!(run, before);
+}
+
+#[test]
+fn an_update_whose_guard_is_false_is_left_out() {
+    let edges = [edge(0, 0, 0, true)];
+    // Node 2: the variable is 0. Node 9 divides by zero and node 14 leaves the range, as truths.
+    let mut numbers =
+        vec![variable_value(0), constant(0), operation(EQUAL, &[0, 1]), constant(5), constant(10)];
+    numbers.extend(nodes().into_iter().map(|mut node| {
+        let count = node_operands(&node).len();
+        node.operands[..count].iter_mut().for_each(|operand| *operand += 5);
+        node
+    }));
+    let assign = |node| update(0, Deed::Assign { variable: 0, node });
+    let raise = |event| update(0, Deed::Raise { event });
+    let after = |updates: &[Record]| {
+        let table = table(&edges, &[], &numbers, updates, &[]);
+        let mut run = table.start();
+        table.turn(&mut run, 0).map(|_| (run.variables[0], run.events))
+    };
+    // Many updates share the guard, and each sees what those before it assigned.
+    assert_eq!(after(&[done_if(raise(0), 2), done_if(assign(3), 2), done_if(raise(1), 2)]), Ok((5, 1)));
+    assert_eq!(after(&[assign(3), done_if(assign(4), 2)]), Ok((5, 0)), "10 is outside, but not assigned");
+    assert_eq!(after(&[done_if(assign(4), 2)]), Err(17));
+    assert_eq!(after(&[assign(3), done_if(assign(7), 2)]), Ok((5, 0)), "the quotient is not worked out");
+    assert_eq!(after(&[done_if(assign(7), 2)]), Err(16));
+    assert_eq!(after(&[done_if(raise(0), DIVIDES + 5)]), Err(16), "a raise's guard faults");
+    assert_eq!(after(&[done_if(assign(4), OVERFLOWS + 5)]), Err(15), "the guard before the number");
+    assert_eq!(after(&[assign(4), done_if(raise(0), DIVIDES + 5)]), Err(17), "the fault met first");
 }
 
 #[test]

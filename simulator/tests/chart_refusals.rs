@@ -1,7 +1,7 @@
-//! Refusals 1 to 9 of chart files, with concrete bytes: the zero-watch set with single fields changed.
+//! Refusals 1 to 9 and 25 of chart files, with concrete bytes: the zero-watch set with single fields changed.
 
 use simulator::assemble::*;
-use simulator::chart_sets::{relay, winch, zero_watch, SetParts};
+use simulator::chart_sets::{counts_while_waiting, relay, two_waiting, winch, zero_watch, SetParts};
 use simulator::charts::check;
 use simulator::deeds::Deed;
 use simulator::operators::*;
@@ -77,7 +77,7 @@ fn four_unnamed_bytes() {
         (FIRST_TRANSITION, &[0, 1, 2, 3, 4, 5, 6, 12, 13]),
         (FIRST_VARIABLE, &[0, 2, 3, 4, 5, 6, 7]),
         (FIRST_NODE + 2, &[0, 1, 2, 3, 4, 5]),
-        (FIRST_ACTION, &[0, 1, 2, 3, 4, 5, 6, 7]),
+        (FIRST_ACTION, &[0, 1, 2, 3, 4, 5, 6, 7, 8, 9]),
     ];
     for (record, named) in named {
         for at in 0..16 {
@@ -123,10 +123,22 @@ fn four_under_an_unknown_code_asks_only_unnamed_bytes() {
     assert_eq!(changed(FIRST_NODE, &[(1, 9), (2, 1), (7, 1), (8, 1), (11, 1)]), 5);
     assert_eq!(changed(FIRST_NODE, &[(1, 9), (12, 1)]), 4);
     assert_eq!(changed(FIRST_ACTION, &[(4, 3), (6, 1), (7, 1)]), 5);
-    assert_eq!(changed(FIRST_ACTION, &[(4, 3), (8, 1)]), 4);
+    assert_eq!(changed(FIRST_ACTION, &[(4, 3), (10, 1)]), 4);
     // An unknown place excuses no byte: 6-7 hang on the deed.
     assert_eq!(changed(FIRST_ACTION, &[(1, 9), (4, 2), (6, 1)]), 4);
     assert_eq!(changed(FIRST_ACTION, &[(1, 9)]), 5);
+    // A guard's bytes are named under every code.
+    for code in [(1, 9), (4, 3)] {
+        assert_eq!(changed(FIRST_ACTION, &[code, (8, 255), (9, 255)]), 5);
+        assert_eq!(changed(FIRST_ACTION, &[code, (8, 1), (11, 1)]), 4);
+    }
+    // The milliseconds hang on the place alone.
+    assert_eq!(changed(FIRST_ACTION, &[(1, 9), (12, 1), (15, 255)]), 5);
+    assert_eq!(changed(FIRST_ACTION, &[(4, 3), (12, 1)]), 4);
+    assert_eq!(changed(FIRST_ACTION, &[(1, 4), (10, 1)]), 4);
+    for (place, at) in [(1, 12), (2, 13), (3, 14), (3, 15)] {
+        assert_eq!(changed(FIRST_ACTION, &[(1, place), (at, 1)]), 4, "place {place} uses no milliseconds");
+    }
 }
 
 #[test]
@@ -140,7 +152,7 @@ fn five_codes_and_ranges() {
     for operator in [0, 9, 15, 22] {
         assert_eq!(changed(FIRST_NODE, &[(1, operator)]), 5, "operator {operator}");
     }
-    for place in [0, 4] {
+    for place in [0, 5] {
         assert_eq!(changed(FIRST_ACTION, &[(1, place)]), 5, "place {place}");
     }
     for deed in [0, 3] {
@@ -154,27 +166,45 @@ fn five_codes_and_ranges() {
     assert_eq!(changed(FIRST_VARIABLE, &[(6, 0x9B), (7, 0xFF)]), 5);
 }
 
-/// The winch set with other milliseconds of its after and of its every, one at a time.
-fn timed_sets(milliseconds: u32) -> [u32; 2] {
-    [6, 8].map(|record| {
+/// The winch set with other milliseconds of its after and of its every, one at a time, and a set with those of a waiting
+/// action.
+fn timed_sets(milliseconds: u32) -> [u32; 3] {
+    let [after, every] = [6, 8].map(|record| {
         let mut bytes = winch();
         bytes[16 * record + 8..16 * record + 12].copy_from_slice(&milliseconds.to_le_bytes());
         check(&bytes)
-    })
+    });
+    [after, every, check(&two_waiting(milliseconds, milliseconds))]
 }
 
 #[test]
 fn five_and_nine_milliseconds() {
-    assert_eq!(timed_sets(0), [5, 5]);
-    assert_eq!(timed_sets(1), [9, 9]);
-    assert_eq!(timed_sets(49), [9, 9]);
-    assert_eq!(timed_sets(50), [9, 9], "a half goes to the even 0");
-    assert_eq!(timed_sets(51), [0, 0]);
-    assert_eq!(timed_sets(3_600_000), [0, 0]);
-    assert_eq!(timed_sets(3_600_001), [5, 5]);
+    assert_eq!(timed_sets(0), [5; 3]);
+    assert_eq!(timed_sets(1), [9; 3]);
+    assert_eq!(timed_sets(49), [9; 3]);
+    assert_eq!(timed_sets(50), [9; 3], "a half goes to the even 0");
+    assert_eq!(timed_sets(51), [0; 3]);
+    assert_eq!(timed_sets(3_600_000), [0; 3]);
+    assert_eq!(timed_sets(3_600_001), [5; 3]);
     // Half a tick past the range is refused by 5, however it would be rounded.
-    assert_eq!(timed_sets(3_600_050), [5, 5]);
-    assert_eq!(timed_sets(u32::MAX), [5, 5]);
+    assert_eq!(timed_sets(3_600_050), [5; 3]);
+    assert_eq!(timed_sets(u32::MAX), [5; 3]);
+}
+
+#[test]
+fn twenty_five_compares_milliseconds() {
+    assert_eq!(check(&two_waiting(200, 200)), 0);
+    assert_eq!(check(&two_waiting(200, 201)), 25, "of as many ticks");
+    assert_eq!(check(&two_waiting(3_600_000, 51)), 25);
+    assert_eq!((check(&two_waiting(49, 200)), check(&two_waiting(200, 50))), (9, 9), "9 before 25");
+    assert_eq!(check(&two_waiting(200, 0)), 5);
+    let mut bytes = counts_while_waiting();
+    let last = bytes.len() - 16;
+    // Owners are states: 2 is none, and state 0, being initial, may wait.
+    bytes[last + 2] = 2;
+    assert_eq!(check(&bytes), 6);
+    bytes[last + 2] = 0;
+    assert_eq!(check(&bytes), 0);
 }
 
 #[test]
@@ -197,6 +227,10 @@ fn six_numbers_naming_nothing() {
         assert_eq!(changed(record, &[(at, value)]), 6, "{what}");
     }
     assert_eq!(changed(FIRST_ACTION, &[(1, 1), (2, 3)]), 6, "state as owner");
+    assert_eq!(changed(FIRST_ACTION, &[(8, 8)]), 6, "an action's guard 7");
+    assert_eq!(changed(FIRST_ACTION, &[(8, 7)]), 8, "an action's guard 6, which is a number");
+    assert_eq!(changed(FIRST_ACTION, &[(8, 255), (9, 255)]), 6, "an action's guard 65,534");
+    assert_eq!(changed(FIRST_ACTION, &[(4, 2), (6, 0), (8, 255), (9, 255)]), 6, "a raise's guard 65,534");
     // 65,535 means none for a guard alone.
     assert_eq!(changed(FIRST_NODE + 2, &[(2, 255), (3, 255)]), 6);
     assert_eq!(changed(FIRST_ACTION, &[(6, 255), (7, 255)]), 6);
@@ -263,6 +297,20 @@ fn seven_actions_and_priorities() {
         |exits: usize| [vec![action(ENTRY, 1, raise); 5], vec![action(EXIT, 1, raise); exits]].concat();
     assert_eq!(with(|p| p.actions = mixed(3)), 0);
     assert_eq!(with(|p| p.actions = mixed(4)), 7, "entry and exit actions count together");
+    let waiting = |state| at_each(action(WAITING, state, raise), 200);
+    assert_eq!(with(|p| p.actions = vec![waiting(1); 8]), 0);
+    assert_eq!(with(|p| p.actions = vec![waiting(1); 9]), 7);
+    assert_eq!(with(|p| p.actions = vec![waiting(0); 8]), 0, "an initial state may have waiting actions");
+    assert_eq!(with(|p| p.actions = vec![waiting(0); 9]), 7);
+    assert_eq!(with(|p| p.actions = [mixed(2), vec![waiting(1)]].concat()), 0);
+    assert_eq!(
+        with(|p| p.actions = [mixed(3), vec![waiting(1)]].concat()),
+        7,
+        "waiting ones count with them"
+    );
+    let at_different = [at_each(waiting(1), 201), waiting(1)];
+    assert_eq!(with(|p| p.actions = at_different.to_vec()), 25);
+    assert_eq!(with(|p| p.actions = [at_each(waiting(2), 201), waiting(1)].to_vec()), 0, "of two states");
     let beside = [vec![action(ENTRY, 1, raise); 8], vec![action(ON_TRANSITION, 1, raise); 8]].concat();
     assert_eq!(with(|p| p.actions = beside), 0, "state 1 and transition 1 are different owners");
 }
@@ -306,6 +354,37 @@ fn eight_nodes() {
 }
 
 #[test]
+fn eight_guards_of_actions() {
+    let raise = action(ON_TRANSITION, 1, Deed::Raise { event: 0 });
+    let assign = |node| action(ENTRY, 1, Deed::Assign { variable: 0, node });
+    let more = [constant(2), constant(2), operation(EQUAL, &[3, 4]), constant(3)];
+    let with_more = |actions: &[Record]| {
+        with(|p| {
+            p.nodes.extend(more);
+            p.actions.extend(actions);
+        })
+    };
+    assert_eq!(with_more(&[done_if(raise, 5), assign(6)]), 0);
+    assert_eq!(with_more(&[raise, done_if(assign(6), 5)]), 0);
+    assert_eq!(with_more(&[raise, assign(6)]), 8, "a guard that nothing uses");
+    assert_eq!(with_more(&[done_if(raise, 5), done_if(assign(6), 5)]), 8, "a guard of two actions");
+    assert_eq!(with_more(&[done_if(raise, 5), done_if(assign(6), 2)]), 8, "a transition's guard");
+    assert_eq!(with_more(&[done_if(raise, 6), done_if(raise, 5)]), 8, "a number");
+    assert_eq!(with_more(&[done_if(assign(6), 6), done_if(raise, 5)]), 8, "its own number");
+    let negated = |guard: u16| {
+        with(|p| {
+            p.nodes.push(operation(NOT, &[2]));
+            p.transitions[1] = transition(2, 1, 2);
+            p.actions.extend([done_if(raise, 3)]);
+            if guard != 3 {
+                p.actions.push(done_if(raise, guard));
+            }
+        })
+    };
+    assert_eq!((negated(3), negated(2)), (0, 8), "an operand");
+}
+
+#[test]
 fn a_choice_takes_a_truth_and_two_numbers() {
     let choice = |operands: [u16; 3]| {
         with(|p| {
@@ -321,9 +400,13 @@ fn a_choice_takes_a_truth_and_two_numbers() {
 
 #[test]
 fn the_lowest_number_is_given() {
-    // 9 with 8: a node too many; with 7: equal priorities; and so on down.
+    // 25 with 9: a time of no ticks; with 8: a node too many; with 7: equal priorities; and so on down.
     let mut parts = two_charts();
-    parts.transitions[1] = after(guarded(parts.transitions[1], 2), 50);
+    parts.transitions[1] = guarded(parts.transitions[1], 2);
+    let waiting = action(WAITING, 1, Deed::Raise { event: 0 });
+    parts.actions = vec![at_each(waiting, 200), at_each(waiting, 300)];
+    assert_eq!(check(&parts.bytes()), 25);
+    parts.transitions[1] = after(parts.transitions[1], 50);
     assert_eq!(check(&parts.bytes()), 9);
     parts.nodes.push(constant(0));
     assert_eq!(check(&parts.bytes()), 8);

@@ -135,6 +135,33 @@ fn exit_transition_entry_in_this_order() {
 }
 
 #[test]
+fn an_action_whose_guard_is_false_is_left_out() {
+    // Variables 0, 1 and 2 after each cycle: the first guard is false where those after it are true.
+    let set = ChartSet::read(&guards_in_sequence()).unwrap();
+    let mut run = set.start();
+    let cycle = |events: &u32| {
+        set.cycle(&mut run, *events).unwrap();
+        [run.variables[0], run.variables[1], run.variables[2]]
+    };
+    let seen: Vec<[i16; 3]> = [0, 1, 1, 2, 1, 0].iter().map(cycle).collect();
+    assert_eq!(seen, [[0, 0, 0], [1, 2, 1], [1, 7, 2], [0, 7, 2], [1, 9, 3], [1, 9, 3]]);
+}
+
+#[test]
+fn the_fault_of_an_actions_guard_is_the_turns() {
+    let set = ChartSet::read(&guard_that_faults()).unwrap();
+    let mut run = set.start();
+    let values = [0, 1, 1].map(|events| {
+        set.cycle(&mut run, events).unwrap();
+        (run.variables[0], run.variables[1])
+    });
+    assert_eq!(values, [(3, 0), (2, 1), (1, 1)]);
+    let before = run;
+    assert_eq!((set.turn(&mut run, 1), set.cycle(&mut run, 1)), (Err(16), Err(16)));
+    assert_eq!(run, before);
+}
+
+#[test]
 fn the_guard_is_met_only_where_it_is_reached() {
     // Priority 1 is the event's transition, though the file has it last.
     assert_eq!(first_charts(&guarded_division(), &[0, 1, 1]), [Taken(0), Taken(2), Taken(2)]);

@@ -4,13 +4,14 @@
 use simulator::automata::{self, AutomataTable};
 use simulator::charts::{self, ChartSet, Trigger};
 use simulator::generate::buffers::{bytes, lengths, FILL};
-use simulator::generate::longest_twins::longest;
+use simulator::generate::idling_sets::idling_set;
+use simulator::generate::longest_twins::{longest, most_resets, LENGTH};
 use simulator::generate::sets::{any_valid_set, valid_set, Size};
 use simulator::generate::waiting_sets::waiting_set;
 use simulator::generate::{set_damage, table_damage, tables};
 use simulator::records::*;
 use simulator::translation::{translate, twin};
-use simulator::Random;
+use simulator::{Answer, Machine, Random};
 use std::collections::BTreeMap;
 
 const SIZES: [Size; 3] = [Size::Tiny, Size::Middling, Size::Largest];
@@ -47,6 +48,33 @@ fn the_largest_sets_have_the_most_of_each_kind() {
 }
 
 #[test]
+fn the_longest_twins_come_of_full_sets_and_have_their_length() {
+    let mut random = Random::new(13);
+    for _ in 0..5 {
+        let bytes = longest(&mut random);
+        for (kind, most) in CHART_LIMITS {
+            assert_eq!(count(&bytes, kind), most, "kind {kind}");
+        }
+        assert_eq!(twin(&ChartSet::read(&bytes).unwrap()).len(), LENGTH);
+    }
+}
+
+#[test]
+fn a_set_reaches_the_limits_of_edges_and_resets() {
+    let mut random = Random::new(14);
+    for _ in 0..5 {
+        let bytes = most_resets(&mut random);
+        let table = twin(&ChartSet::read(&bytes).unwrap());
+        assert_eq!((count(&bytes, CHART), automata::check(&table)), (1, 0));
+        for (kind, most) in &CHART_LIMITS[1..] {
+            assert_eq!(count(&bytes, *kind), *most, "kind {kind}");
+        }
+        assert_eq!((count(&table, EDGE), count(&table, RESET)), (most(EDGE), most(RESET)));
+        assert_eq!((count(&table, LITERAL), count(&table, CLOCK)), (2_929, 383));
+    }
+}
+
+#[test]
 fn sets_have_what_they_are_made_for() {
     let mut random = Random::new(3);
     let mut found: BTreeMap<&str, usize> = BTreeMap::new();
@@ -59,6 +87,9 @@ fn sets_have_what_they_are_made_for() {
                 matches!(t.trigger, Trigger::Timed(timing, _) if (timing == simulator::timing::Timing::After) == after)
             })
         };
+        let has = |kind: u8, fits: &dyn Fn(&Record) -> bool| {
+            whole_records(&bytes).iter().any(|record| record[0] == kind && fits(record))
+        };
         let both_places = set.entry.iter().any(|d| !d.is_empty()) && set.exit.iter().any(|d| !d.is_empty());
         for (what, seen) in [
             ("priorities out of file order", out_of_order),
@@ -70,6 +101,13 @@ fn sets_have_what_they_are_made_for() {
             ("entry and exit actions", both_places),
             ("a state that is not left", set.rows.iter().any(Vec::is_empty)),
             ("a self-transition", set.transitions.iter().any(|t| t.source == t.target)),
+            ("a guarded assignment", has(ACTION, &|r| r[4] == ASSIGN && deed_guard(r).is_some())),
+            ("a guarded raise", has(ACTION, &|r| r[4] == RAISE && deed_guard(r).is_some())),
+            ("an action without guard", has(ACTION, &|r| deed_guard(r).is_none())),
+            ("waiting actions", set.waiting.iter().any(Option::is_some)),
+            ("no waiting actions", set.waiting.iter().all(Option::is_none)),
+            ("several of one state", set.waiting.iter().flatten().any(|waiting| waiting.deeds.len() > 1)),
+            ("a waiting initial state", set.initial.iter().any(|s| set.waiting[usize::from(*s)].is_some())),
         ] {
             *found.entry(what).or_default() += usize::from(seen);
         }
@@ -79,15 +117,45 @@ fn sets_have_what_they_are_made_for() {
     }
 }
 
+/// Quiet cycles of sets whose states act while they idle: how often such an action is met, and by a later chart.
+#[test]
+fn events_raised_while_waiting_are_answered() {
+    let mut random = Random::new(15);
+    let (mut raised, mut answered) = (0, 0);
+    for _ in 0..500 {
+        let set = ChartSet::read(&idling_set(&mut random)).unwrap();
+        let mut run = set.start();
+        let mut waiting = 0;
+        for _ in 0..60 {
+            let before = run.events;
+            match set.turn(&mut run, 0) {
+                Ok(Answer::Idle) if run.events != before => {
+                    waiting = run.events & !before;
+                    raised += 1;
+                }
+                Ok(Answer::Taken(transition)) => {
+                    let trigger = set.transitions[usize::from(transition)].trigger;
+                    let by_it = matches!(trigger, Trigger::Event(event) if waiting & 1 << event != 0);
+                    answered += usize::from(by_it);
+                }
+                Ok(_) => waiting = 0,
+                Err(_) => break,
+            }
+        }
+    }
+    assert!(raised > 300 && answered > 100, "{raised} raised, {answered} answered");
+}
+
 type Make = fn(&mut Random) -> Vec<u8>;
 
 #[test]
 fn exact_halves_come_often_and_their_neighbours_at_times() {
-    let makes: [(&str, usize, Make); 5] = [
+    let makes: [(&str, usize, Make); 6] = [
         ("tiny", 2_000, |random| valid_set(random, Size::Tiny)),
         ("middling", 400, |random| valid_set(random, Size::Middling)),
         ("largest", 80, |random| valid_set(random, Size::Largest)),
         ("waiting", 3_000, waiting_set),
+        ("idling", 1_000, idling_set),
         ("longest", 20, longest),
     ];
     for (what, sets, make) in makes {
@@ -135,7 +203,7 @@ fn twice_damaged_sets_are_refused_by_the_lower_number() {
             *pairs.entry((damaged.number, damaged.clauses.len())).or_default() += 1;
         }
     }
-    for number in 1..=8 {
+    for number in 1..=9 {
         assert!(pairs.contains_key(&(number, 2)), "no pair gave {number}: {pairs:?}");
     }
 }
@@ -177,6 +245,18 @@ fn the_largest_table_has_the_most_of_each_kind() {
 }
 
 #[test]
+fn tables_may_have_the_most_of_a_kind_and_no_more() {
+    let mut random = Random::new(12);
+    for (kind, most) in AUTOMATA_LIMITS {
+        let full = tables::filled(&mut random, kind, 0);
+        assert_eq!((count(&full, kind), automata::check(&full)), (most, 0), "kind {kind}");
+        let over = tables::filled(&mut random, kind, 1);
+        assert_eq!((count(&over, kind), automata::check(&over)), (most + 1, 11), "kind {kind}");
+        assert_eq!(automata::broken_clauses(&over), ["counts"], "kind {kind}");
+    }
+}
+
+#[test]
 fn tables_have_what_they_are_made_for() {
     let mut random = Random::new(8);
     let mut found: BTreeMap<&str, usize> = BTreeMap::new();
@@ -193,11 +273,16 @@ fn tables_have_what_they_are_made_for() {
             .filter(|node| *node != NONE)
             .collect();
         guards.sort_unstable();
+        let of_updates = || table.edges.iter().flat_map(|e| &e.updates).filter_map(|update| update.guard);
+        let shared = |guard: u16| of_updates().filter(|other| *other == guard).count() > 1;
         for (what, seen) in [
             ("unsorted literals", unsorted(LITERAL)),
             ("unsorted updates", unsorted(UPDATE)),
             ("unsorted resets", unsorted(RESET)),
             ("shared guards", guards.windows(2).any(|pair| pair[0] == pair[1])),
+            ("guarded updates", of_updates().count() > 0),
+            ("updates that share a guard", of_updates().any(shared)),
+            ("an update with a literal's guard", of_updates().any(|guard| guards.contains(&guard))),
             ("idle edge with updates", table.edges.iter().any(|e| e.idle && !e.updates.is_empty())),
             ("idle edge with resets", table.edges.iter().any(|e| e.idle && !e.resets.is_empty())),
         ] {
@@ -239,9 +324,11 @@ fn lent_buffers_are_written_only_as_far_as_the_twin_goes() {
 fn a_refused_set_is_not_translated() {
     let mut random = Random::new(10);
     let mut numbers = std::collections::BTreeSet::new();
-    for _ in 0..300 {
-        let set = valid_set(&mut random, Size::Tiny);
-        let damage = &set_damage::DAMAGES[random.below(set_damage::DAMAGES.len())];
+    for round in 0..300 {
+        let set = any_valid_set(&mut random);
+        let number = set_damage::NUMBERS[round % set_damage::NUMBERS.len()];
+        let ways: Vec<_> = set_damage::DAMAGES.iter().filter(|way| way.number == number).collect();
+        let damage = random.pick(&ways);
         let Some(damaged) = set_damage::damage(&mut random, &set, damage) else {
             continue;
         };
@@ -250,5 +337,5 @@ fn a_refused_set_is_not_translated() {
         assert!(out.iter().all(|byte| *byte == FILL));
         numbers.insert(damaged.number);
     }
-    assert_eq!(numbers.into_iter().collect::<Vec<u32>>(), (1..=9).collect::<Vec<u32>>());
+    assert_eq!(numbers.into_iter().collect::<Vec<u32>>(), set_damage::NUMBERS);
 }

@@ -12,10 +12,10 @@ fn runs_have_the_layout_of_the_interface() {
     assert_eq!(offset_of!(ChartsRun, variables), 48);
     assert_eq!(offset_of!(ChartsRun, events), 176);
     assert_eq!(offset_of!(ChartsRun, cycles), 184);
-    assert_eq!(size_of::<AutomataRun>(), 16 + 512 + 128 + 12);
+    assert_eq!(size_of::<AutomataRun>(), 16 + 768 + 128 + 12);
     assert_eq!(offset_of!(AutomataRun, clocks), 16);
-    assert_eq!(offset_of!(AutomataRun, variables), 528);
-    assert_eq!(offset_of!(AutomataRun, position), 660);
+    assert_eq!(offset_of!(AutomataRun, variables), 784);
+    assert_eq!(offset_of!(AutomataRun, position), 916);
 }
 
 #[test]

@@ -1,13 +1,13 @@
 //! Listings: each guard as its line beside its node's number.
 
-use simulator::chart_sets::{guarded_division, zero_watch};
+use simulator::chart_sets::{guarded_division, guards_in_sequence, sees_while_waiting, zero_watch};
 use simulator::expressions::Node;
 use simulator::generate::sets::any_valid_set;
 use simulator::generate::tables;
 use simulator::guards::{self, write_guard};
 use simulator::listing::listing;
 use simulator::node_rules::node_operands;
-use simulator::records::{whole_records, LITERAL, NODE, NONE, TRANSITION, TWIN_NODE};
+use simulator::records::{whole_records, ACTION, LITERAL, NODE, NONE, TRANSITION, TWIN_NODE, UPDATE};
 use simulator::translation::twin;
 use simulator::{ChartSet, Random};
 
@@ -37,6 +37,33 @@ fn transitions_and_literals_show_their_guards() {
     );
     let division = lines(&guarded_division(), "transition 1");
     assert!(division[0].ends_with("always, guard node 4 (1/v0==0)"), "{division:?}");
+}
+
+#[test]
+fn actions_and_updates_show_the_guards_that_they_have() {
+    let set = guards_in_sequence();
+    let actions = [
+        "action 0: transition 1: variable 1 := node 15, guard node 2 (v0==1)",
+        "action 1: transition 1: variable 0 := node 16",
+        "action 2: transition 1: variable 1 := node 11, guard node 5 (v0==1)",
+        "action 3: transition 1: raise event 5, guard node 8 (v0==1)",
+        "action 4: transition 2: variable 0 := node 17",
+        "action 5: transition 4: variable 2 := node 14",
+    ];
+    assert_eq!(lines(&set, "action"), actions);
+    let updates = lines(&twin(&ChartSet::read(&set).unwrap()), "update");
+    let of_edges = actions.map(|line| line.replace("action", "update").replace(": transition", ": edge"));
+    assert_eq!(updates, of_edges);
+}
+
+#[test]
+fn waiting_actions_show_their_time() {
+    let actions = [
+        "action 0: waiting in state 1, every 300 ms: variable 0 := node 2",
+        "action 1: entry of state 1: variable 0 := node 11",
+        "action 2: waiting in state 1, every 300 ms: variable 1 := node 10, guard node 5 (v0<3)",
+    ];
+    assert_eq!(lines(&sees_while_waiting(), "action"), actions);
 }
 
 /// The nodes below one, by the numbers that stand in the file: another way to the tree than the simulator's own.
@@ -75,22 +102,27 @@ fn line_of(file: &[u8], root: u16) -> String {
 #[test]
 fn every_guard_is_shown_as_the_writer_writes_it() {
     let mut random = Random::new(31);
-    let mut shown = [0; 2];
-    for round in 0..400 {
-        let (file, kind, word, at) = match round % 2 {
+    let mut shown = [0; 4];
+    for round in 0..800 {
+        let (file, kind, word, at) = match round % 4 {
             0 => (any_valid_set(&mut random), TRANSITION, "transition", 12),
-            _ => (tables::any_table(&mut random), LITERAL, "literal", 8),
+            1 => (tables::any_table(&mut random), LITERAL, "literal", 8),
+            2 => (any_valid_set(&mut random), ACTION, "action", 8),
+            _ => (tables::any_table(&mut random), UPDATE, "update", 8),
         };
+        let of_deed = matches!(kind, ACTION | UPDATE);
         let records = whole_records(&file).iter().filter(|record| record[0] == kind);
         for (record, line) in records.zip(lines(&file, word)) {
-            let node = u16::from_le_bytes([record[at], record[at + 1]]);
+            let stored = u16::from_le_bytes([record[at], record[at + 1]]);
+            // An action's and update's guard stands there plus one, so that none is one below 0.
+            let node = if of_deed { stored.wrapping_sub(1) } else { stored };
             if node == NONE {
-                assert!(line.ends_with(", no guard"), "{line}");
+                assert!(line.ends_with(", no guard") != of_deed && !line.contains(", guard"), "{line}");
                 continue;
             }
             let guard = format!(", guard node {node} ({})", line_of(&file, node));
             assert!(line.ends_with(&guard), "{line} and {guard}");
-            shown[round % 2] += 1;
+            shown[round % 4] += 1;
         }
     }
     assert!(shown.iter().all(|times| *times > 500), "{shown:?}");

@@ -78,7 +78,7 @@ fn twelve_for_clocks() {
     };
     assert_eq!((with(0, 3), with(0, 4)), (0, 12), "ticks is an after-clock's top");
     assert_eq!((with(1, 2), with(1, 3)), (0, 12), "ticks is an every-clock's top");
-    assert_eq!((with(2, 0), with(2, 1), with(255, 1)), (0, 12, 12), "unused clocks");
+    assert_eq!((with(2, 0), with(2, 1), with(383, 1)), (0, 12, 12), "unused clocks");
 }
 
 #[test]
@@ -166,6 +166,17 @@ fn late_runs_reach_fourteen_and_wild_runs_twelve() {
         twelve += usize::from(table.turn(&mut wild_automata(&mut random), 0) == Err(12));
     }
     assert!(done > 50 && fourteen > 20 && twelve > 500, "{done} {fourteen} {twelve}");
+}
+
+#[test]
+fn aged_runs_are_possible() {
+    let mut random = Random::new(4);
+    for _ in 0..300 {
+        let set = ChartSet::read(&any_valid_set(&mut random)).unwrap();
+        assert!(set.possible(&aged_charts(&mut random, &set, 6)));
+        let table = AutomataTable::read(&any_table(&mut random)).unwrap();
+        assert!(table.possible(&aged_automata(&mut random, &table, 6)));
+    }
 }
 
 #[test]

@@ -3,12 +3,17 @@
 use simulator::automata::AutomataTable;
 use simulator::charts::{ChartSet, Trigger};
 use simulator::correspondence::correspond;
+use simulator::deeds::GuardedDeed;
 use simulator::generate::calls::{call_list, events_of_set, Call, CallAnswer};
+use simulator::generate::deed_outcomes::{outcomes, OUTCOMES};
+use simulator::generate::guarded_sets::guarded_set;
+use simulator::generate::idling_sets::idling_set;
+use simulator::generate::longest_twins::{longest, most_resets};
 use simulator::generate::sets::{valid_set, Size};
 use simulator::generate::states::late_count;
 use simulator::generate::waiting_sets::waiting_set;
 use simulator::runs::{Answer, AutomataRun, ChartsRun};
-use simulator::timing::Timing;
+use simulator::timing::{timing_holds, Timing};
 use simulator::translation::twin;
 use simulator::Machine;
 use simulator::{chart_sets, Random};
@@ -16,6 +21,8 @@ use std::collections::BTreeMap;
 
 /// How often each outcome came up.
 type Tally = BTreeMap<String, usize>;
+
+const WAITED: [&str; 4] = ["one due", "several due", "not due", "left where due"];
 
 const TAKEN: [&str; 4] =
     ["taken without trigger", "taken by event", "taken after, at its ticks", "taken every"];
@@ -39,10 +46,41 @@ impl Pair {
         Pair { set, table, charts, automata }
     }
 
+    /// Of a turn to come: what becomes of the guarded actions that it does, and whether waiting ones are due.
+    fn count_actions(&self, call: Call, tally: &mut Tally) {
+        let Call::Turn(events) = call else { return };
+        let turn = usize::try_from(self.charts.position).expect("small") - 1;
+        if turn == self.set.charts() || self.set.check_before_turn(&self.charts, events).is_err() {
+            return;
+        }
+        let mut given = ChartSet::with_events(&self.charts, events);
+        let (state, age) = (usize::from(given.states[turn]), given.ages[turn]);
+        let waiting = self.set.waiting[state].as_ref();
+        let due = waiting.filter(|waiting| timing_holds(Timing::Every, age, waiting.ticks));
+        let deeds: Vec<GuardedDeed> = match (self.set.first_that_holds(&given, turn), due) {
+            (Ok(Some(transition)), due) => {
+                due.iter().for_each(|_| count(tally, "left where due"));
+                self.set.deeds_of(usize::from(transition)).copied().collect()
+            }
+            (Ok(None), Some(due)) => {
+                count(tally, if due.deeds.len() > 1 { "several due" } else { "one due" });
+                due.deeds.clone()
+            }
+            (Ok(None), None) => {
+                waiting.iter().for_each(|_| count(tally, "not due"));
+                return;
+            }
+            (Err(_), _) => return,
+        };
+        let outcomes = outcomes(&mut self.set.scene(&mut given), &deeds);
+        outcomes.into_iter().for_each(|outcome| count(tally, outcome));
+    }
+
     fn follow(&mut self, calls: &[Call], tally: &mut Tally, place: &str) {
         for (number, call) in calls.iter().enumerate() {
             let before = (self.charts, self.automata);
             self.one_open_edge(*call);
+            self.count_actions(*call, tally);
             let chart = call.on_charts(&self.set, &mut self.charts);
             let edge = call.on_automata(&self.table, &mut self.automata);
             let place = format!("{place}, call {number} {call:?}: {chart:?} against {edge:?}");
@@ -138,6 +176,8 @@ fn tiny_sets_go_with_their_twins() {
     }
     assert_reached(&tally, &["taken", "idle", "time", "done", "13", "14", "15", "16", "17"]);
     assert_reached(&tally, &TAKEN);
+    assert_reached(&tally, &OUTCOMES);
+    assert_reached(&tally, &WAITED);
     assert!(!tally.contains_key("18") && !tally.contains_key("19") && !tally.contains_key("12"));
 }
 
@@ -149,6 +189,8 @@ fn middling_sets_go_with_their_twins() {
     }
     assert_reached(&tally, &["taken", "idle", "time", "done", "13", "14", "15", "16", "17"]);
     assert_reached(&tally, &TAKEN);
+    assert_reached(&tally, &OUTCOMES);
+    assert_reached(&tally, &WAITED);
     assert!(!tally.contains_key("18") && !tally.contains_key("19") && !tally.contains_key("12"));
 }
 
@@ -173,6 +215,49 @@ fn due_times_that_wait_go_with_their_twins() {
     }
     assert_reached(&tally, &TAKEN);
     assert!(tally["taken after, later"] > 500, "{tally:?}");
+}
+
+#[test]
+fn guarded_actions_go_with_their_twins() {
+    let mut tally = Tally::new();
+    for seed in 0..2_000 {
+        let mut random = Random::new(40_000 + seed);
+        let mut pair = Pair::new(&guarded_set(&mut random));
+        let calls = call_list(&mut random, pair.set.charts(), events_of_set(&pair.set), 60);
+        pair.follow(&calls, &mut tally, &format!("guarded set {seed}"));
+    }
+    assert_reached(&tally, &["taken", "idle", "15", "16", "17"]);
+    for outcome in OUTCOMES {
+        assert!(tally.get(outcome).copied().unwrap_or(0) > 500, "{outcome}: {tally:?}");
+    }
+}
+
+#[test]
+fn waiting_actions_go_with_their_twins() {
+    let mut tally = Tally::new();
+    for seed in 0..2_000 {
+        let mut random = Random::new(50_000 + seed);
+        let mut pair = Pair::new(&idling_set(&mut random));
+        let calls = call_list(&mut random, pair.set.charts(), events_of_set(&pair.set), 60);
+        pair.follow(&calls, &mut tally, &format!("idling set {seed}"));
+    }
+    assert_reached(&tally, &["taken", "idle", "15", "16", "17"]);
+    for outcome in OUTCOMES.iter().chain(&WAITED) {
+        assert!(tally.get(*outcome).copied().unwrap_or(0) > 300, "{outcome}: {tally:?}");
+    }
+}
+
+#[test]
+fn sets_with_the_longest_twins_go_with_them() {
+    let mut tally = Tally::new();
+    for seed in 0..12 {
+        let mut random = Random::new(60_000 + seed);
+        let full = if seed % 2 == 0 { longest(&mut random) } else { most_resets(&mut random) };
+        let mut pair = Pair::new(&full);
+        let calls = call_list(&mut random, pair.set.charts(), events_of_set(&pair.set), 200);
+        pair.follow(&calls, &mut tally, &format!("full set {seed}"));
+    }
+    assert_reached(&tally, &["taken", "idle", "one due", "not due"]);
 }
 
 #[test]

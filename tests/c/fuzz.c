@@ -12,13 +12,14 @@
 #include <string.h>
 
 enum { IN_FILE, IN_RUN, IN_LIST, IN_OUT };
-enum { LARGE_SETS = 5, LARGE_TABLES = 1, MOST_MASKS = 24, MOST_STEPS = 120, MOST_NODES = 1024, FILL = 0xA5 };
+enum { LARGE_SETS = 6, LARGE_TABLES = 2, MOST_MASKS = 24, MOST_STEPS = 120, MOST_NODES = 1024, FILL = 0xA5 };
 enum { ENOUGH = 10000 }; /* iterations in which every number is met */
 
-enum { NUMBERS = 25 };
+enum { NUMBERS = 26, UNEQUAL = -MONUVALECK_UNEQUAL_TIMES };
 
 static unsigned long iteration;
 static unsigned long met[NUMBERS]; /* the answers met: number 0 for all that are no refusal */
+static unsigned long waits_met[2]; /* turns in which a chart idled in a state with waiting actions: not due, due */
 
 static void must(bool holds, const char *what)
 {
@@ -157,13 +158,29 @@ static void damage_records(file *f)
     }
 }
 
-/* Other milliseconds in one transition: exact halves, and times about those of 0 to 4 ticks. */
+/* Other milliseconds in one transition, or in one action, which then waits: exact halves, and times about those of 0 to 4 ticks. */
 static void damage_timing(file *f)
 {
-    size_t transitions = count_of(f->bytes, f->len, TRANSITION);
-    if (transitions > 0) {
-        uint8_t *one = f->bytes + first_of(f->bytes, f->len, TRANSITION) + RECORD * below(transitions);
-        set_four(one, 8, (uint32_t)(100 * below(4) + (chance(1, 2) ? 50 : 45 + below(10))));
+    uint8_t kind = chance(1, 2) ? TRANSITION : ACTION;
+    size_t count = count_of(f->bytes, f->len, kind);
+    if (count > 0) {
+        uint8_t *one = f->bytes + first_of(f->bytes, f->len, kind) + RECORD * below(count);
+        if (kind == ACTION && one[1] != ON_TRANSITION) {
+            one[1] = WAITING;
+        }
+        set_four(one, kind == ACTION ? 12 : 8, (uint32_t)(100 * below(4) + (chance(1, 2) ? 50 : 45 + below(10))));
+    }
+}
+
+/* Another guard of one action or update: none, a node, or none that is there. */
+static void damage_guard(file *f)
+{
+    uint8_t kind = count_of(f->bytes, f->len, ACTION) > 0 ? ACTION : UPDATE, nodes_kind = kind == ACTION ? NODE : TWIN_NODE;
+    size_t count = count_of(f->bytes, f->len, kind);
+    if (count > 0) {
+        uint8_t *one = f->bytes + first_of(f->bytes, f->len, kind) + RECORD * below(count);
+        size_t nodes = count_of(f->bytes, f->len, nodes_kind);
+        set_two(one, 8, chance(1, 20) ? 65535 : (unsigned)below(nodes + 2));
     }
 }
 
@@ -194,7 +211,7 @@ static void any_bytes(file *f, uint8_t first_kind, unsigned kinds)
 /* Many copies of a sample's first record: far too many of a kind, also past the longest file. */
 static void oversize(file *f)
 {
-    size_t len = RECORD * (600 + below(15000)) + below(2);
+    size_t len = RECORD * (600 + below(17600)) + below(2);
     for (size_t at = RECORD; at < len && at < sizeof f->bytes; at++) {
         f->bytes[at] = f->bytes[at % RECORD];
     }
@@ -215,6 +232,7 @@ static void pick_file(const samples *from, size_t large, bool whole)
     case 2: if (chance(1, 8)) { oversize(&work); } break;
     case 3: damage_records(&work); damage_bytes(&work); break;
     case 4: damage_timing(&work); break;
+    case 5: damage_guard(&work); break;
     default: chance(1, 2) ? damage_bytes(&work) : damage_records(&work);
     }
 }
@@ -261,7 +279,7 @@ static int32_t checked(const machine *m)
 {
     lend(IN_FILE, work.bytes, work.len, chance(1, 2));
     int32_t answer = noted(m->check(areas[IN_FILE].bytes, areas[IN_FILE].len));
-    must(answer == 0 || (answer >= m->lowest_file && answer <= m->highest_file), "a check's answer");
+    must(answer == 0 || (answer >= m->lowest_file && answer <= m->highest_file) || (m->idles && answer == UNEQUAL), "a check's answer");
     must(kept(IN_FILE), "a check changed the file");
     return answer;
 }
@@ -440,22 +458,32 @@ static uint32_t ticks_of(uint32_t milliseconds)
     return past == 50 ? down + down % 2 : down + (past > 50);
 }
 
-/* The clocks of the present state's leaving transitions stand as its age says. */
+/* A clock of a state stands as the age says, where the state is present. */
+static bool clock_corresponds(const charts_run *c, unsigned clock, unsigned trigger, uint32_t milliseconds, unsigned state)
+{
+    unsigned chart = work.bytes[first_of(work.bytes, work.len, STATE) + RECORD * state + 1];
+    uint32_t ticks = ticks_of(milliseconds), age = c->ages[chart];
+    uint32_t as_after = age < ticks ? age : ticks, as_every = age == 0 ? 0 : (age - 1) % ticks + 1;
+    return c->states[chart] != state || clock == (trigger == AFTER ? as_after : as_every);
+}
+
+/* Those of transitions that leave it, then that of its waiting actions. */
 static bool clocks_correspond(const charts_run *c, const automata_run *a)
 {
-    size_t at = first_of(work.bytes, work.len, TRANSITION), clock = 0;
-    size_t end = at + RECORD * count_of(work.bytes, work.len, TRANSITION), states = first_of(work.bytes, work.len, STATE);
+    size_t at = first_of(work.bytes, work.len, TRANSITION), end = at + RECORD * count_of(work.bytes, work.len, TRANSITION);
+    unsigned states = (unsigned)count_of(work.bytes, work.len, STATE);
+    const uint16_t *clock = a->clocks;
     for (; at < end; at += RECORD) {
-        unsigned trigger = work.bytes[at + 6], source = two_at(work.bytes, at + 2), chart = work.bytes[states + RECORD * source + 1];
-        if (trigger != AFTER && trigger != EVERY) {
-            continue;
-        }
-        uint32_t ticks = ticks_of(four_at(work.bytes, at + 8)), age = c->ages[chart];
-        uint32_t as_after = age < ticks ? age : ticks, as_every = age == 0 ? 0 : (age - 1) % ticks + 1;
-        if (c->states[chart] == source && a->clocks[clock] != (trigger == AFTER ? as_after : as_every)) {
+        unsigned trigger = work.bytes[at + 6];
+        if ((trigger == AFTER || trigger == EVERY) && !clock_corresponds(c, *clock++, trigger, four_at(work.bytes, at + 8), two_at(work.bytes, at + 2))) {
             return false;
         }
-        clock++;
+    }
+    for (unsigned state = 0; state < states; state++) {
+        uint32_t milliseconds = waiting_time(work.bytes, work.len, state);
+        if (milliseconds > 0 && !clock_corresponds(c, *clock++, EVERY, milliseconds, state)) {
+            return false;
+        }
     }
     return true;
 }
@@ -468,10 +496,20 @@ static void correspond(const charts_run *c, const automata_run *a)
     must(clocks_correspond(c, a), "ages and clocks");
 }
 
-/* What the twin answers where the chart in this state answered so. */
-static int32_t twins_answer(int32_t answer, unsigned chart_state)
+/* What the twin answers where the chart in this state, of this age, answered so: a state that waits has two idle edges, due and not due. */
+static int32_t twins_answer(int32_t answer, unsigned chart_state, uint32_t age)
 {
-    return answer == MONUVALECK_IDLE ? (int32_t)(count_of(work.bytes, work.len, TRANSITION) + chart_state) : answer;
+    if (answer != MONUVALECK_IDLE) {
+        return answer;
+    }
+    int32_t edge = (int32_t)count_of(work.bytes, work.len, TRANSITION);
+    for (unsigned state = 0; state < chart_state; state++) {
+        edge += waiting_time(work.bytes, work.len, state) > 0 ? 2 : 1;
+    }
+    uint32_t milliseconds = waiting_time(work.bytes, work.len, chart_state);
+    bool due = milliseconds > 0 && age > 0 && age % ticks_of(milliseconds) == 0;
+    waits_met[due] += milliseconds > 0;
+    return edge + (milliseconds > 0 && !due);
 }
 
 /* The path that the twin took, and the rows it came of. */
@@ -501,7 +539,8 @@ static void turns_alike(void)
         charts_run before = c;
         uint32_t events = c.position == 1 || chance(1, 20) ? some_mask() : 0;
         int32_t answer = charts_turn(work.bytes, work.len, &c, events), twin_answer = automata_turn(twin.bytes, twin.len, &a, events);
-        must(twin_answer == twins_answer(answer, before.states[(before.position - 1) % 8]), "a turn of charts and twin");
+        unsigned chart = (before.position - 1) % 8;
+        must(twin_answer == twins_answer(answer, before.states[chart], before.ages[chart]), "a turn of charts and twin");
         correspond(&c, &a);
         if (answer >= 0) {
             note(answer, twin_answer, &before);
@@ -588,12 +627,12 @@ static void pad_table(size_t len)
     padded.len += work.len - at;
 }
 
-/* Such nodes change no answer and no run, whatever room the functions take for a table of that length: often about 8,192 bytes. */
+/* Such nodes change no answer and no run, whatever room the functions take for a table of that length: often about 16,384 bytes. */
 static void padded_alike(void)
 {
     uint32_t masks[MOST_MASKS];
     any_run run, one, other;
-    pad_table(RECORD * (chance(1, 2) ? 510 + below(5) : below(1200)));
+    pad_table(RECORD * (chance(1, 2) ? 1022 + below(5) : below(1200)));
     must(automata_check(padded.bytes, padded.len) == 0, "a table with nodes that nothing reads");
     some_run(&automata, &run);
     for (size_t i = 0; i < MOST_MASKS; i++) {
@@ -989,10 +1028,11 @@ int main(int argc, char **argv)
     for (unsigned number = 1; number < NUMBERS; number++) {
         printf(" %u: %lu%s", number, met[number], number + 1 < NUMBERS ? "," : "; ");
     }
-    printf("answers: %lu\n", met[0]);
+    printf("answers: %lu; waiting: %lu due, %lu not\n", met[0], waits_met[1], waits_met[0]);
     for (unsigned number = 0; number < NUMBERS; number++) {
         must(count < ENOUGH || met[number] > 0, "every number is met");
     }
+    must(count < ENOUGH || (waits_met[0] > 0 && waits_met[1] > 0), "waiting actions are due and are not");
     printf("ok: %lu sets and tables, as many guards, seed %s, %s\n", count, argv[2], on_heap ? "on the heap" : "between guard pages");
     return 0;
 }

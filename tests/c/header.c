@@ -14,21 +14,22 @@ _Static_assert(offsetof(charts_run, events) == 176, "events");
 _Static_assert(offsetof(charts_run, position) == 180, "position");
 _Static_assert(offsetof(charts_run, cycles) == 184, "cycles");
 
-_Static_assert(sizeof(automata_run) == 668, "size of automata_run");
+_Static_assert(sizeof(automata_run) == 924, "size of automata_run");
 _Static_assert(alignof(automata_run) == 4, "alignment of automata_run");
 _Static_assert(offsetof(automata_run, locations) == 0, "locations");
 _Static_assert(offsetof(automata_run, clocks) == 16, "clocks");
-_Static_assert(offsetof(automata_run, variables) == 528, "variables");
-_Static_assert(offsetof(automata_run, events) == 656, "events");
-_Static_assert(offsetof(automata_run, position) == 660, "position");
-_Static_assert(offsetof(automata_run, cycles) == 664, "cycles");
+_Static_assert(offsetof(automata_run, variables) == 784, "variables");
+_Static_assert(offsetof(automata_run, events) == 912, "events");
+_Static_assert(offsetof(automata_run, position) == 916, "position");
+_Static_assert(offsetof(automata_run, cycles) == 920, "cycles");
 
 _Static_assert(sizeof(size_t) == 8, "lengths of 64 bits");
 _Static_assert(MONUVALECK_LONGEST_SET == 16 * (8 + 128 + 256 + 64 + 1024 + 512), "the most of each kind of a set");
-_Static_assert(MONUVALECK_LONGEST_TWIN == 16 * (8 + 128 + 384 + 2432 + 256 + 64 + 1024 + 6144 + 4096), "the most of each kind of a table");
+_Static_assert(MONUVALECK_LONGEST_TWIN == 16 * (8 + 128 + 512 + 2944 + 384 + 64 + 1024 + 7168 + 4352), "the most of each kind of a table");
 _Static_assert(MONUVALECK_ODD_LENGTH == 1 && MONUVALECK_ZERO_TICKS == 9 && MONUVALECK_SHORT_BUFFER == 10 && MONUVALECK_BAD_TABLE == 11, "a file's numbers");
 _Static_assert(MONUVALECK_IMPOSSIBLE_RUN == 12 && MONUVALECK_CYCLES_DONE == 14 && MONUVALECK_MANY_OPEN == 19 && MONUVALECK_SHORT_ROWS == 21, "the other numbers");
 
+_Static_assert(MONUVALECK_UNEQUAL_TIMES == 25, "a set's number after 9");
 _Static_assert(MONUVALECK_BROKEN_LINE == 22 && MONUVALECK_WRONG_SORT == 23 && MONUVALECK_SHORT_SPACE == 24, "a guard's numbers");
 _Static_assert(MONUVALECK_LONGEST_LINE == 256 && MONUVALECK_MOST_NODES == 1024, "a guard's limits");
 

@@ -161,6 +161,27 @@ void add_action(file *f, unsigned place, unsigned owner, unsigned deed, unsigned
     set_two(record, 6, node);
 }
 
+void add_waiting(file *f, unsigned state, uint32_t milliseconds, unsigned deed, unsigned thing, unsigned node)
+{
+    add_action(f, WAITING, state, deed, thing, node);
+    set_four(f->bytes + f->len - RECORD, 12, milliseconds);
+}
+
+uint32_t waiting_time(const uint8_t *bytes, size_t len, unsigned state)
+{
+    for (size_t at = first_of(bytes, len, ACTION); at < len; at += RECORD) {
+        if (bytes[at + 1] == WAITING && two_at(bytes, at + 2) == state) {
+            return four_at(bytes, at + 12);
+        }
+    }
+    return 0;
+}
+
+void guard_last(file *f, unsigned node)
+{
+    set_two(f->bytes + f->len - RECORD, 8, node + 1);
+}
+
 void add_automaton(file *f, unsigned initial)
 {
     set_two(add(f, AUTOMATON), 2, initial);

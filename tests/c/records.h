@@ -5,7 +5,7 @@
 #include <stddef.h>
 #include <stdint.h>
 
-enum { RECORD = 16, MOST_BYTES = 262144, NONE = 65535 };
+enum { RECORD = 16, MOST_BYTES = 288 * 1024, NONE = 65535 }; /* some more bytes than the longest table has */
 
 /* kinds of a chart set; a table's variables and nodes have kinds of their own */
 enum { CHART = 1, STATE, TRANSITION, VARIABLE, NODE, ACTION };
@@ -14,7 +14,7 @@ enum { NO_TRIGGER, ON_EVENT, AFTER, EVERY };
 enum { ON_CLOCK = 2 }; /* a literal's trigger */
 enum { CONSTANT = 1, VALUE, SUM, DIFFERENCE, PRODUCT, QUOTIENT, REMAINDER, CHOICE };
 enum { EQUAL = 16, LESS, AT_MOST, NOT, AND, OR };
-enum { ENTRY = 1, EXIT, ON_TRANSITION };
+enum { ENTRY = 1, EXIT, ON_TRANSITION, WAITING };
 enum { ASSIGN = 1, RAISE };
 enum { MUST_HOLD = 1, MUST_NOT };
 
@@ -45,6 +45,12 @@ void add_guard(file *f, const char *words);
 unsigned operands_of(unsigned operator_code);
 /* the thing is the variable or the event */
 void add_action(file *f, unsigned place, unsigned owner, unsigned deed, unsigned thing, unsigned node);
+/* an action that is done while the state idles, every so many milliseconds */
+void add_waiting(file *f, unsigned state, uint32_t milliseconds, unsigned deed, unsigned thing, unsigned node);
+/* the milliseconds of a state's waiting actions, as the first has them; 0 where there are none */
+uint32_t waiting_time(const uint8_t *bytes, size_t len, unsigned state);
+/* the last record, an action or an update, gets the node as its guard */
+void guard_last(file *f, unsigned node);
 
 void add_automaton(file *f, unsigned initial);
 void add_location(file *f, unsigned automaton);

@@ -9,7 +9,7 @@
 #include <string.h>
 
 enum { IN_FILE, IN_RUN, IN_LIST, IN_OUT };
-enum { MOST_NUMBER = 24, MANY_STEPS = 2 * MONUVALECK_MOST_CYCLES + 1 };
+enum { MOST_NUMBER = 25, MANY_STEPS = 2 * MONUVALECK_MOST_CYCLES + 1 };
 
 /* What a call is given; each call lends copies of it. */
 static struct {
@@ -52,18 +52,19 @@ enum { CHECK_C, START_C, TURN_C, CYCLE_C, PLAY_C, TRANSLATE, BACK, CHECK_A, STAR
 
 /* Each function with the numbers that it can answer, as bits. Lines and lists of nodes are lent as files are, and what is made of them as a translation is. */
 #define FROM_TO(a, b) ((2u << (b)) - (1u << (a)))
+#define OF_A_SET (FROM_TO(1, 9) | FROM_TO(25, 25))
 static const struct {
     const char *name;
     int32_t (*call)(void);
     uint32_t numbers;
 } calls[CALLS] = {
-    {"charts_check", check_charts, FROM_TO(1, 9)},
-    {"charts_start", start_charts, FROM_TO(1, 9)},
-    {"charts_turn", turn_charts, FROM_TO(1, 9) | FROM_TO(12, 17)},
-    {"charts_cycle", cycle_charts, FROM_TO(1, 9) | FROM_TO(12, 17)},
-    {"charts_play", play_charts, FROM_TO(1, 9) | FROM_TO(12, 17)},
-    {"charts_translate", translate, FROM_TO(1, 10)},
-    {"path_back", lead_back, FROM_TO(1, 9) | FROM_TO(20, 21)},
+    {"charts_check", check_charts, OF_A_SET},
+    {"charts_start", start_charts, OF_A_SET},
+    {"charts_turn", turn_charts, OF_A_SET | FROM_TO(12, 17)},
+    {"charts_cycle", cycle_charts, OF_A_SET | FROM_TO(12, 17)},
+    {"charts_play", play_charts, OF_A_SET | FROM_TO(12, 17)},
+    {"charts_translate", translate, OF_A_SET | FROM_TO(10, 10)},
+    {"path_back", lead_back, OF_A_SET | FROM_TO(20, 21)},
     {"automata_check", check_automata, FROM_TO(11, 11)},
     {"automata_start", start_automata, FROM_TO(11, 11)},
     {"automata_turn", turn_automata, FROM_TO(11, 19)},
@@ -74,6 +75,14 @@ static const struct {
 };
 
 static unsigned met[CALLS][MOST_NUMBER + 1], wrong[CALLS][MOST_NUMBER + 1];
+
+static void must(bool holds, const char *what)
+{
+    if (!holds) {
+        printf("FAILED: %s\n", what);
+        exit(1);
+    }
+}
 
 static void lend_given(unsigned call, bool low)
 {
@@ -115,9 +124,9 @@ static void all_refuse(unsigned first, unsigned last, unsigned number, const cha
     }
 }
 
-/* ---- chart sets: two charts with every kind of trigger, each kind of node and action used once */
+/* ---- chart sets: two charts with every kind of trigger, each kind of node and action, an action with a guard, state 4 with two waiting actions */
 
-enum { AT_STATES = 2, AT_TRANSITIONS = 7, AT_NODES = 15, RECORDS = 25 };
+enum { AT_STATES = 2, AT_TRANSITIONS = 7, AT_NODES = 15, AT_ACTIONS = 25, AT_WAITING = 28, RECORDS = 30 };
 
 static void make_set(file *f)
 {
@@ -142,9 +151,15 @@ static void make_set(file *f)
     add_node(f, NODE, VALUE, 0, 0, 0);
     add_constant(f, NODE, 2);
     add_node(f, NODE, QUOTIENT, 4, 5, 0);
+    add_node(f, NODE, VALUE, 1, 0, 0);
+    add_constant(f, NODE, 9);
+    add_node(f, NODE, AT_MOST, 7, 8, 0);
     add_action(f, ENTRY, 1, ASSIGN, 1, 3);
+    guard_last(f, 9);
     add_action(f, ON_TRANSITION, 1, ASSIGN, 0, 6);
     add_action(f, EXIT, 2, RAISE, 5, 0);
+    add_waiting(f, 4, 200, RAISE, 6, 0);
+    add_waiting(f, 4, 200, RAISE, 7, 0);
 }
 
 static uint8_t *record(file *f, size_t number)
@@ -165,22 +180,24 @@ static void break_set(file *f, unsigned number)
     case 7: record(f, AT_TRANSITIONS + 2)[1] = 1; break;
     case 8: set_two(record(f, AT_NODES + 6), 4, 4); break;
     case 9: set_four(record(f, AT_TRANSITIONS + 2), 8, 50); break;
+    case 25: set_four(record(f, AT_WAITING), 12, 300); break;
     default: abort();
     }
 }
 
 static file work, table;
 
-/* All 511 choices of what is broken, the length last since it moves the end. */
+/* All 1,023 choices of what is broken, from the last that is asked to the first; the length comes last since it moves the end. */
 static void broken_sets(void)
 {
-    for (unsigned broken = 1; broken < 512; broken++) {
+    static const unsigned numbers[] = {25, 9, 8, 7, 6, 5, 4, 3, 2, 1};
+    for (unsigned broken = 1; broken < 1024; broken++) {
         unsigned lowest = 0;
         make_set(&work);
-        for (unsigned number = 9; number >= 1; number--) {
-            if (broken >> (number - 1) & 1) {
-                break_set(&work, number);
-                lowest = number;
+        for (unsigned i = 0; i < 10; i++) {
+            if (broken >> i & 1) {
+                break_set(&work, numbers[i]);
+                lowest = numbers[i];
             }
         }
         all_refuse(CHECK_C, BACK, lowest, "a broken set");
@@ -208,13 +225,20 @@ static void apply(file *f, const change *c)
 }
 
 static const change set_changes[] = {
-    {"an unknown kind", 24, 0, 1, 7, 2},
+    {"an unknown kind", RECORDS - 1, 0, 1, 7, 2},
     {"a descending kind", 3, 0, 1, 1, 2},
     {"an unnamed byte of a chart", 0, 1, 1, 1, 4},
     {"an unused event", 7, 7, 1, 1, 4},
     {"unused milliseconds", 8, 8, 4, 100, 4},
     {"an unused operand", 16, 2, 2, 1, 4},
-    {"an unused node", 24, 6, 2, 1, 4},
+    {"an unused node", AT_ACTIONS + 2, 6, 2, 1, 4},
+    {"an unnamed byte behind an action's guard", AT_ACTIONS, 10, 1, 1, 4},
+    {"an unnamed byte of an action without guard", AT_ACTIONS + 1, 10, 1, 1, 4},
+    {"milliseconds of an entry action", AT_ACTIONS, 12, 4, 200, 4},
+    {"milliseconds of a transition's action", AT_ACTIONS + 1, 12, 4, 200, 4},
+    {"the last byte of an exit action", AT_ACTIONS + 2, 15, 1, 1, 4},
+    {"an unnamed byte of a waiting action", AT_WAITING, 11, 1, 1, 4},
+    {"a waiting action that becomes an exit action", AT_WAITING, 1, 1, EXIT, 4},
     {"priority 0", 7, 1, 1, 0, 5},
     {"an unknown trigger", 7, 6, 1, 4, 5},
     {"event 32", 8, 7, 1, 32, 5},
@@ -222,27 +246,48 @@ static const change set_changes[] = {
     {"3,600,001 ms", 9, 8, 4, 3600001, 5},
     {"a start below the lowest", 14, 6, 2, 65535, 5},
     {"an unknown operator", 16, 1, 1, 9, 5},
-    {"an unknown place", 24, 1, 1, 4, 5},
-    {"an unknown deed", 24, 4, 1, 3, 5},
-    {"raised event 32", 24, 5, 1, 32, 5},
+    {"an unknown place", AT_ACTIONS + 2, 1, 1, 5, 5},
+    {"an unknown place of a guarded action", AT_ACTIONS, 1, 1, 0, 5},
+    {"an unknown place of a waiting action", AT_WAITING, 1, 1, 5, 5},
+    {"a waiting action without milliseconds", AT_WAITING, 12, 4, 0, 5},
+    {"an exit action that becomes a waiting one", AT_ACTIONS + 2, 1, 1, WAITING, 5},
+    {"a waiting action of 3,600,001 ms", AT_WAITING + 1, 12, 4, 3600001, 5},
+    {"a waiting action of the most milliseconds that there are", AT_WAITING, 12, 4, UINT32_MAX, 5},
+    {"an unknown deed", AT_ACTIONS + 2, 4, 1, 3, 5},
+    {"an unknown deed of a guarded action", AT_ACTIONS, 4, 1, 3, 5},
+    {"raised event 32", AT_ACTIONS + 2, 5, 1, 32, 5},
     {"an initial state that is not there", 0, 2, 2, 5, 6},
     {"a chart that is not there", 6, 1, 1, 2, 6},
-    {"a guard that is not there", 8, 12, 2, 7, 6},
+    {"a guard that is not there", 8, 12, 2, 10, 6},
+    {"an action's guard that is not there", AT_ACTIONS, 8, 2, 10 + 1, 6},
+    {"guard 65,534 of a raise", AT_ACTIONS + 2, 8, 2, 65535, 6},
     {"a variable that is not there", 15, 2, 2, 2, 6},
     {"an operand that is not there", 17, 2, 2, 65535, 6},
-    {"an owner that is not there", 23, 2, 2, 6, 6},
-    {"an assigned variable that is not there", 22, 5, 1, 2, 6},
+    {"an owner that is not there", AT_ACTIONS + 1, 2, 2, 6, 6},
+    {"a waiting action whose owner is a transition's number", AT_WAITING, 2, 2, 5, 6},
+    {"a waiting action's guard that is not there", AT_WAITING, 8, 2, 10 + 1, 6},
+    {"an assigned variable that is not there", AT_ACTIONS, 5, 1, 2, 6},
     {"a transition across charts", 8, 4, 2, 4, 7},
     {"an initial state of another chart", 1, 2, 2, 1, 7},
     {"an initial state with trigger", 11, 6, 1, 1, 7},
     {"an initial state entered", 12, 4, 2, 3, 7},
-    {"an initial state with an entry action", 22, 2, 2, 0, 7},
+    {"an initial state with an entry action", AT_ACTIONS, 2, 2, 0, 7},
     {"an operand that is not lower", 17, 2, 2, 2, 8},
     {"a truth where a number stands", 21, 2, 2, 2, 8},
     {"a guard that is no truth", 8, 12, 2, 6, 8},
+    {"an action's guard that is no truth", AT_ACTIONS, 8, 2, 8 + 1, 8},
+    {"a raise's guard that is a number of another action", AT_ACTIONS + 2, 8, 2, 3 + 1, 8},
+    {"an action's guard twice", AT_ACTIONS + 1, 8, 2, 9 + 1, 8},
+    {"an action's guard that is a transition's", AT_ACTIONS + 2, 8, 2, 2 + 1, 8},
+    {"the node of a guard that is taken away", AT_ACTIONS, 8, 2, 0, 8},
+    {"a waiting action's guard that is another's", AT_WAITING, 8, 2, 9 + 1, 8},
     {"after 49 ms", 9, 8, 4, 49, 9},
     {"after 50 ms, an exact half", 9, 8, 4, 50, 9},
     {"every 50 ms, an exact half", 10, 8, 4, 50, 9},
+    {"a waiting action of 50 ms, an exact half", AT_WAITING, 12, 4, 50, 9},
+    {"a waiting action of 49 ms", AT_WAITING + 1, 12, 4, 49, 9},
+    {"waiting actions of 300 and 200 ms", AT_WAITING, 12, 4, 300, 25},
+    {"waiting actions of 200 and 201 ms, both 2 ticks", AT_WAITING + 1, 12, 4, 201, 25},
 };
 
 static void changed_sets(void)
@@ -265,21 +310,21 @@ static void changed_sets(void)
     }
     all_refuse(CHECK_C, BACK, 7, "a ninth action");
     make_set(&work);
+    for (unsigned i = 0; i < 8; i++) {
+        add_waiting(&work, 2, 200, RAISE, 5, 0);
+    }
+    all_refuse(CHECK_C, BACK, 7, "an exit action and eight waiting ones");
+    work.len -= RECORD;
+    add_waiting(&work, 0, 100, RAISE, 5, 0);
+    must(charts_check(work.bytes, work.len) == 0, "eight actions of a state, waiting ones among them, and a waiting one of an initial state");
+    make_set(&work);
     for (size_t cut = 1; cut < RECORD; cut++) {
         work.len = RECORD * RECORDS - cut;
         all_refuse(CHECK_C, BACK, 1, "an odd length");
     }
 }
 
-/* ---- automata tables: the twin of the set, with 11 edges, 2 clocks */
-
-static void must(bool holds, const char *what)
-{
-    if (!holds) {
-        printf("FAILED: %s\n", what);
-        exit(1);
-    }
-}
+/* ---- automata tables: the twin of the set, with 12 edges, 3 clocks */
 
 static void make_twin(const file *of)
 {
@@ -300,6 +345,11 @@ static void rounded_times(void)
         set_four(record(&work, AT_TRANSITIONS + 2), 8, times[i].milliseconds);
         make_twin(&work);
         must(two_at(table.bytes, first_of(table.bytes, table.len, CLOCK) + 2) == times[i].ticks, "the ticks of a time");
+        make_set(&work);
+        set_four(record(&work, AT_WAITING), 12, times[i].milliseconds);
+        set_four(record(&work, AT_WAITING + 1), 12, times[i].milliseconds);
+        make_twin(&work);
+        must(two_at(table.bytes, first_of(table.bytes, table.len, CLOCK) + 2 * RECORD + 2) == times[i].ticks, "the ticks of waiting actions");
     }
     puts("ok: times are rounded to the nearest tick, exact halves to the even one");
 }
@@ -323,13 +373,17 @@ static const struct {
     {TWIN_VARIABLE, {"a lowest above the start", 0, 2, 2, 2, 11}},
     {TWIN_NODE, {"an unknown operator", 1, 1, 1, 15, 11}},
     {UPDATE, {"an unknown deed", 0, 1, 1, 0, 11}},
+    {UPDATE, {"an unnamed byte behind an update's guard", 0, 10, 1, 1, 11}},
+    {UPDATE, {"the last byte of an update", 0, 15, 1, 1, 11}},
     {AUTOMATON, {"an initial location that is not there", 0, 2, 2, 5, 11}},
     {LOCATION, {"an automaton that is not there", 4, 1, 1, 2, 11}},
     {EDGE, {"a target that is not there", 0, 4, 2, 5, 11}},
-    {LITERAL, {"an edge that is not there", 0, 2, 2, 11, 11}},
-    {LITERAL, {"a node that is not there", 0, 8, 2, 7, 11}},
+    {LITERAL, {"an edge that is not there", 0, 2, 2, 12, 11}},
+    {LITERAL, {"a node that is not there", 0, 8, 2, 10, 11}},
+    {UPDATE, {"an update's guard that is not there", 0, 8, 2, 10 + 1, 11}},
+    {UPDATE, {"guard 65,534 of an update", 1, 8, 2, 65535, 11}},
     {UPDATE, {"an updated variable that is not there", 0, 4, 1, 64, 11}},
-    {RESET, {"a clock that is not there", 0, 4, 2, 2, 11}},
+    {RESET, {"a clock that is not there", 0, 4, 2, 3, 11}},
     {AUTOMATON, {"an initial location of another automaton", 0, 2, 2, 4, 11}},
     {EDGE, {"an edge across automata", 0, 4, 2, 4, 11}},
     {EDGE, {"an idle edge with two ends", 0, 6, 1, 1, 11}},
@@ -337,6 +391,7 @@ static const struct {
     {TWIN_NODE, {"an operand twice", 6, 4, 2, 4, 11}},
     {LITERAL, {"a guard that is no truth", 1, 8, 2, 3, 11}},
     {UPDATE, {"an updating node that is a truth", 0, 6, 2, 2, 11}},
+    {UPDATE, {"an update's guard that is no truth", 0, 8, 2, 3 + 1, 11}},
 };
 
 static void broken_tables(void)
@@ -359,14 +414,73 @@ static void broken_tables(void)
     table.len = 0;
     all_refuse(CHECK_A, PLAY_A, 11, "no bytes");
     table = *whole;
-    while (count_of(table.bytes, table.len, RESET) <= 4096) {
-        add_reset(&table, 0, 0);
-    }
-    all_refuse(CHECK_A, PLAY_A, 11, "too many resets");
     table.bytes[table.len - 1] = 1;
     table.len += 1;
     all_refuse(CHECK_A, PLAY_A, 11, "many things at once");
     free(whole);
+}
+
+/* ---- tables with the most of a kind, and with one more */
+
+static const struct {
+    uint8_t kind;
+    unsigned most;
+    const char *one_more;
+} limits[] = {
+    {AUTOMATON, 8, "9 automata"}, {LOCATION, 128, "129 locations"}, {EDGE, 512, "513 edges"}, {LITERAL, 2944, "2,945 literals"}, {CLOCK, 384, "385 clocks"},
+    {TWIN_VARIABLE, 64, "65 variables"}, {TWIN_NODE, 1024, "1,025 nodes"}, {UPDATE, 7168, "7,169 updates"}, {RESET, 4352, "4,353 resets"},
+};
+enum { LIMITS = sizeof limits / sizeof limits[0] };
+
+/* The record of a kind in a table of so many of each kind: each has its number wherever that can be, updates share one guard. */
+static void add_some(file *f, uint8_t kind, unsigned i, const unsigned counts[LIMITS])
+{
+    unsigned edge = i % counts[EDGE - AUTOMATON], clock = i % counts[CLOCK - AUTOMATON], nodes = counts[TWIN_NODE - AUTOMATON];
+    switch (kind) {
+    case AUTOMATON: add_automaton(f, i); break;
+    case LOCATION: add_location(f, i % counts[0]); break;
+    case EDGE: add_edge(f, 0, 0, 0, i % 2); break;
+    case LITERAL: add_literal(f, MUST_HOLD, edge, ON_CLOCK, clock, nodes - 1); break;
+    case CLOCK: add_clock(f, AFTER, 1); break;
+    case TWIN_VARIABLE: add_variable(f, kind, 0, 0, 0); break;
+    case TWIN_NODE: i + 1 < nodes ? add_constant(f, kind, 0) : add_node(f, kind, LESS, 0, 1, 0); break;
+    case UPDATE: add_update(f, ASSIGN, edge, i % counts[TWIN_VARIABLE - AUTOMATON], i % (nodes - 1)); guard_last(f, nodes - 1); break;
+    default: add_reset(f, edge, clock);
+    }
+}
+
+static void make_table(file *f, const unsigned counts[LIMITS])
+{
+    f->len = 0;
+    for (unsigned k = 0; k < LIMITS; k++) {
+        for (unsigned i = 0; i < counts[k]; i++) {
+            add_some(f, limits[k].kind, i, counts);
+        }
+    }
+}
+
+/* Each kind's most alone, and the most of all kinds, the longest table, are accepted; with one more of a kind neither is. */
+static void most_of_each(void)
+{
+    for (unsigned k = 0; k < LIMITS; k++) {
+        unsigned few[LIMITS], most[LIMITS];
+        for (unsigned other = 0; other < LIMITS; other++) {
+            few[other] = other == 0 ? 1 : 9;
+            most[other] = limits[other].most;
+        }
+        few[k] = limits[k].most;
+        make_table(&table, few);
+        must(automata_check(table.bytes, table.len) == 0, "the most of a kind");
+        few[k]++;
+        make_table(&table, few);
+        all_refuse(CHECK_A, PLAY_A, 11, limits[k].one_more);
+        make_table(&table, most);
+        must(automata_check(table.bytes, table.len) == 0 && table.len == MONUVALECK_LONGEST_TWIN, "the longest table");
+        most[k]++;
+        make_table(&table, most);
+        all_refuse(CHECK_A, PLAY_A, 11, limits[k].one_more);
+    }
+    puts("ok: tables with the most of each kind");
 }
 
 /* ---- runs: 12 to 14 */
@@ -411,8 +525,9 @@ static const poke automata_pokes[] = {
     {"an unused location", PLACE(automata_run, locations[2]), 1},
     {"an after-clock over its top", PLACE(automata_run, clocks[0]), 4},
     {"an every-clock over its top", PLACE(automata_run, clocks[1]), 3},
-    {"an unused clock", PLACE(automata_run, clocks[2]), 1},
-    {"the last clock", PLACE(automata_run, clocks[255]), 65535},
+    {"a waiting clock over its top", PLACE(automata_run, clocks[2]), 3},
+    {"an unused clock", PLACE(automata_run, clocks[3]), 1},
+    {"the last clock", PLACE(automata_run, clocks[383]), 65535},
 };
 
 static void fresh_runs(void)
@@ -446,7 +561,7 @@ static void impossible_runs(void)
     }
     fresh_runs();
     given.automata.clocks[0] = 3;
-    given.automata.clocks[1] = 2;
+    given.automata.clocks[1] = given.automata.clocks[2] = 2;
     must(automata_cycle(table.bytes, table.len, &given.automata, 0) == 0, "clocks at their tops");
 }
 
@@ -552,6 +667,181 @@ static void faulting_sets(void)
     }
 }
 
+/* ---- guards of actions */
+
+/* A guard behind the nodes of a fault by a number, which is false, or faults by another number. */
+static unsigned add_condition(file *f, bool faults_too, unsigned number)
+{
+    unsigned n = (unsigned)count_of(f->bytes, f->len, NODE);
+    add_constant(f, NODE, INT32_MAX);
+    add_constant(f, NODE, number == 16 ? 1 : 0);
+    if (faults_too) {
+        add_node(f, NODE, number == 16 ? SUM : QUOTIENT, n, n + 1, 0);
+        add_constant(f, NODE, 0);
+        n += 2;
+    }
+    add_node(f, NODE, EQUAL, n, n + 1, 0);
+    return n + 2;
+}
+
+/* The assignment of a fault with a guard that is false: nothing faults. With one that faults: the guard's fault, which is another, comes first. */
+static void guarded_faults(void)
+{
+    for (size_t i = 0; i < sizeof faults / sizeof faults[0]; i++) {
+        for (unsigned faults_too = 0; faults_too < 2; faults_too++) {
+            uint8_t assignment[RECORD];
+            make_faulting(&work, i);
+            work.len -= RECORD;
+            memcpy(assignment, work.bytes + work.len, RECORD);
+            unsigned guard = add_condition(&work, faults_too, faults[i].number);
+            memcpy(work.bytes + work.len, assignment, RECORD);
+            work.len += RECORD;
+            guard_last(&work, guard);
+            make_twin(&work);
+            fresh_runs();
+            given.f = &work;
+            given.masks[0] = given.events = 7;
+            if (faults_too) {
+                all_refuse(CYCLE_C, PLAY_C, faults[i].number == 16 ? 15 : 16, "a guard's fault before its number's");
+                given.f = &table;
+                all_refuse(CYCLE_A, PLAY_A, faults[i].number == 16 ? 15 : 16, "a guard's fault before its number's");
+            } else {
+                must(charts_cycle(work.bytes, work.len, &given.charts, 7) == 0 && given.charts.variables[0] == 0 &&
+                         automata_cycle(table.bytes, table.len, &given.automata, 7) == 0 && given.automata.variables[0] == 0,
+                     "an assignment whose guard is false");
+            }
+        }
+    }
+    puts("ok: an action whose guard is false is skipped, its number not worked out");
+}
+
+/* v0 := 1; v0 := 2 if v0 is 1; v0 := 3 if v0 is 1; raise 5 if v0 is 2; raise 6 if v0 is 1: each guard sees what the actions before it did. */
+static void guards_in_sequence(void)
+{
+    static const int compared[] = {0, 1, 1, 2, 1};
+    begin_faulting(&work);
+    for (unsigned i = 0; i < 3; i++) {
+        add_constant(&work, NODE, (int32_t)i + 1);
+    }
+    for (unsigned i = 1; i < 5; i++) {
+        add_node(&work, NODE, VALUE, 0, 0, 0);
+        add_constant(&work, NODE, compared[i]);
+        add_node(&work, NODE, EQUAL, 3 * i, 3 * i + 1, 0);
+    }
+    for (unsigned i = 0; i < 5; i++) {
+        add_action(&work, ON_TRANSITION, 0, i < 3 ? ASSIGN : RAISE, i < 3 ? 0 : i + 2, i < 3 ? i : 0);
+        if (i > 0) {
+            guard_last(&work, 3 * i + 2);
+        }
+    }
+    make_twin(&work);
+    fresh_runs();
+    must(charts_turn(work.bytes, work.len, &given.charts, 1) == 0 && given.charts.variables[0] == 2 && given.charts.events == (1 | 1u << 5) &&
+             automata_turn(table.bytes, table.len, &given.automata, 1) == 0 && given.automata.variables[0] == 2 && given.automata.events == (1 | 1u << 5),
+         "guards in sequence");
+    puts("ok: an action's guard sees what the actions before it did");
+}
+
+/* ---- waiting actions */
+
+/* Chart 0 enters state 1 and, while it idles there, every 2 ticks adds 1 to v0, which goes to 100, and raises event 5 where v0 is even; event 0 enters it anew. Chart 1
+ * counts in v1 the events 5 that it meets. */
+static void make_waiting(file *f)
+{
+    f->len = 0;
+    add_chart(f, 0);
+    add_chart(f, 2);
+    for (unsigned state = 0; state < 4; state++) {
+        add_state(f, state >= 2);
+    }
+    add_transition(f, 1, 0, 1, NO_TRIGGER, 0, NONE);
+    add_transition(f, 1, 1, 1, ON_EVENT, 0, NONE);
+    add_transition(f, 1, 2, 3, NO_TRIGGER, 0, NONE);
+    add_transition(f, 1, 3, 3, ON_EVENT, 5, NONE);
+    add_variable(f, VARIABLE, -100, 100, 0);
+    add_variable(f, VARIABLE, -100, 100, 0);
+    for (unsigned v = 0; v < 2; v++) {
+        add_node(f, NODE, VALUE, v, 0, 0);
+        add_constant(f, NODE, 1);
+        add_node(f, NODE, SUM, 3 * v, 3 * v + 1, 0);
+    }
+    add_node(f, NODE, VALUE, 0, 0, 0);
+    add_constant(f, NODE, 2);
+    add_node(f, NODE, REMAINDER, 6, 7, 0);
+    add_constant(f, NODE, 0);
+    add_node(f, NODE, EQUAL, 8, 9, 0);
+    add_waiting(f, 1, 250, ASSIGN, 0, 2);
+    add_action(f, ON_TRANSITION, 3, ASSIGN, 1, 5);
+    add_waiting(f, 1, 250, RAISE, 5, 0);
+    guard_last(f, 10);
+}
+
+/* Both sides through a cycle turn by turn: the transition or idle edge of chart 0, and the values after the cycle. */
+static void waited(uint32_t events, int32_t answer, int32_t edge, int v0, int v1)
+{
+    must(charts_turn(work.bytes, work.len, &given.charts, events) == answer && automata_turn(table.bytes, table.len, &given.automata, events) == edge,
+         "what a chart that waits answers");
+    must(charts_cycle(work.bytes, work.len, &given.charts, 0) == 0 && automata_cycle(table.bytes, table.len, &given.automata, 0) == 0, "a cycle with waiting actions");
+    must(given.charts.variables[0] == v0 && given.charts.variables[1] == v1 && given.automata.variables[0] == v0 && given.automata.variables[1] == v1,
+         "what waiting actions do");
+}
+
+/* Idle edges: 4 of state 0; 5, 6 of state 1, due and not due; 7 and 8. */
+static void waiting_actions(void)
+{
+    make_waiting(&work);
+    make_twin(&work);
+    fresh_runs();
+    waited(0, 0, 0, 0, 0);
+    waited(0, MONUVALECK_IDLE, 6, 0, 0);
+    waited(0, MONUVALECK_IDLE, 5, 1, 0);
+    waited(0, MONUVALECK_IDLE, 6, 1, 0);
+    waited(0, MONUVALECK_IDLE, 5, 2, 1);
+    must(given.charts.ages[0] == 5 && given.automata.clocks[0] == 1, "the age goes on");
+    waited(0, MONUVALECK_IDLE, 6, 2, 1);
+    waited(1, 1, 1, 2, 1); /* due, but a transition is taken; age 0 again */
+    waited(0, MONUVALECK_IDLE, 6, 2, 1);
+    waited(0, MONUVALECK_IDLE, 5, 3, 1);
+    given.charts.variables[0] = given.automata.variables[0] = 100;
+    waited(0, MONUVALECK_IDLE, 6, 100, 1);
+    moves_refuse(false, 0, 17, "a waiting action that faults");
+    moves_refuse(true, 0, 17, "a waiting action that faults");
+    moves_refuse(false, 8, 17, "a waiting action that faults, with events");
+    waited(1, 1, 1, 100, 1);
+    static const uint16_t both[] = {0, 2, 65535, 5, 8, 65535, 6, 8};
+    uint32_t back[6];
+    must(path_back(work.bytes, work.len, both, 8, back, 6) == 2, "due and not-due edges, which give no row");
+    puts("ok: waiting actions of charts and twins");
+}
+
+/* All of 128 states wait, and all of 256 transitions enter a state that 16 timed ones leave: as many edges and resets as a table may have. */
+static void widest_twin(void)
+{
+    work.len = 0;
+    add_chart(&work, 0);
+    for (unsigned state = 0; state < 128; state++) {
+        add_state(&work, 0);
+    }
+    add_transition(&work, 1, 0, 1, NO_TRIGGER, 0, NONE);
+    for (unsigned t = 0; t < 255; t++) {
+        add_transition(&work, 1 + t % 16, 1 + t / 16, 1, t % 2 == 0 ? AFTER : EVERY, 100 * (t + 1), NONE);
+    }
+    for (unsigned state = 0; state < 128; state++) {
+        add_waiting(&work, state, 100 * (state + 1), RAISE, 0, 0);
+    }
+    make_twin(&work);
+    must(count_of(table.bytes, table.len, EDGE) == 512 && count_of(table.bytes, table.len, RESET) == 4352 && count_of(table.bytes, table.len, CLOCK) == 255 + 128 &&
+             count_of(table.bytes, table.len, UPDATE) == 128,
+         "the most edges and resets of a twin");
+    fresh_runs();
+    for (unsigned cycle = 0; cycle < 40; cycle++) {
+        must(charts_cycle(work.bytes, work.len, &given.charts, 0) == 0 && automata_cycle(table.bytes, table.len, &given.automata, 0) == 0 &&
+                 given.charts.states[0] == given.automata.locations[0],
+             "a cycle of the most edges and resets");
+    }
+    puts("ok: a twin of 512 edges and 4,352 resets");
+}
+
 /* One automaton, one location, so many idle edges without literals; a literal that faults at the last edge if asked. */
 static void make_open(file *f, unsigned edges, bool fault)
 {
@@ -577,7 +867,7 @@ static void open_edges(void)
         unsigned edges;
         bool fault;
         unsigned number;
-    } cases[] = {{0, false, 18}, {2, false, 19}, {384, false, 19}, {1, true, 16}, {3, true, 16}};
+    } cases[] = {{0, false, 18}, {2, false, 19}, {512, false, 19}, {1, true, 16}, {3, true, 16}};
     for (size_t i = 0; i < sizeof cases / sizeof cases[0]; i++) {
         make_open(&table, cases[i].edges, cases[i].fault);
         must(automata_start(table.bytes, table.len, &given.automata) == 0, "a table of open edges");
@@ -615,11 +905,11 @@ static void path_refused(const uint16_t *path, size_t len, size_t rows_len, unsi
     refuses(BACK, number, what);
 }
 
-/* Paths of the set's twin: edges 0 to 5 of the transitions, 6 to 10 of the idle states. */
+/* Paths of the set's twin: edges 0 to 5 of the transitions, 6 to 9 of the idle states 0 to 3, 10 and 11 of state 4, which waits. */
 static void paths(void)
 {
-    static const uint16_t no_edge[] = {0, 4, 65535, 11}, time_first[] = {65535}, time_second[] = {0, 65535}, late[] = {0, 4, 7}, another[] = {4},
-                          elsewhere[] = {3}, idle_elsewhere[] = {0, 4, 65535, 6}, high[] = {65534}, good[] = {0, 4, 65535, 2, 10, 65535, 7, 5};
+    static const uint16_t no_edge[] = {0, 4, 65535, 12}, time_first[] = {65535}, time_second[] = {0, 65535}, late[] = {0, 4, 7}, another[] = {4},
+                          elsewhere[] = {3}, idle_elsewhere[] = {0, 4, 65535, 6}, due_elsewhere[] = {0, 10}, high[] = {65534}, good[] = {0, 4, 65535, 2, 11, 65535, 7, 5};
     given.f = &work;
     path_refused(no_edge, 4, 30, 20, "an edge that is not there");
     path_refused(high, 1, 30, 20, "65,534");
@@ -629,6 +919,7 @@ static void paths(void)
     path_refused(another, 1, 30, 20, "an edge of another automaton");
     path_refused(elsewhere, 1, 30, 20, "an edge of another location");
     path_refused(idle_elsewhere, 4, 30, 20, "an idle edge of another location");
+    path_refused(due_elsewhere, 2, 30, 20, "a due edge of another location");
     path_refused(late, 3, 0, 20, "a broken path, and no rows");
     must(path_back(work.bytes, work.len, good, 8, rows, 12) == 4, "a path of four rows");
     for (size_t rows_len = 0; rows_len < 12; rows_len++) {
@@ -1147,11 +1438,16 @@ int main(int argc, char **argv)
     rounded_times();
     given.f = &table;
     broken_tables();
+    most_of_each();
     make_set(&work);
     make_twin(&work);
     impossible_runs();
     times();
     faulting_sets();
+    guarded_faults();
+    guards_in_sequence();
+    waiting_actions();
+    widest_twin();
     open_edges();
     buffers();
     paths();

@@ -228,7 +228,7 @@ static unsigned node(unsigned operator_code, unsigned a, unsigned b, unsigned c)
     return nodes++;
 }
 
-/* A chart whose second transition, from state 1 to itself, will get the guard, or whose first the assignment. */
+/* A chart whose second transition, from state 1 to itself, will get the guard, or whose first the action, or whose state 1 the waiting action. */
 static void begin(void)
 {
     work.len = 0;
@@ -318,27 +318,46 @@ static unsigned nested(unsigned shape, unsigned most)
     }
 }
 
-/* The guard of the second transition, record 4; a number is compared with 0. */
-static void make_guard(unsigned shape)
+/* A truth; a number is compared with 0. */
+static unsigned nested_truth(unsigned shape)
 {
-    begin();
     unsigned root = nested(shape, shape < NUMBERS ? MOST_NODES - 2 : MOST_NODES);
-    if (shape < NUMBERS) {
-        root = node(AT_MOST, constant(0), root, 0);
-    }
-    set_two(work.bytes, RECORD * 4 + 12, root);
+    return shape < NUMBERS ? node(AT_MOST, constant(0), root, 0) : root;
 }
 
-/* An assigned number; a truth picks between two numbers. */
-static void make_assigned(unsigned shape)
+/* A number; a truth picks between two. */
+static unsigned nested_number(unsigned shape)
 {
-    begin();
     unsigned root = nested(shape, shape < NUMBERS ? MOST_NODES : MOST_NODES - 3);
     if (shape >= NUMBERS) {
         unsigned a = constant(1);
         root = node(CHOICE, root, a, constant(2));
     }
-    add_action(&work, ON_TRANSITION, 0, ASSIGN, 0, root);
+    return root;
+}
+
+/* Where the expression stands: the guard of the second transition, record 4; the number that an action assigns; the guard of an action; both of a waiting action. */
+enum { IN_GUARD, ASSIGNED, IN_ACTIONS_GUARD, ASSIGNED_WAITING, IN_WAITING_GUARD, USES };
+
+static void make_nested(unsigned shape, unsigned use)
+{
+    bool assigned = use == ASSIGNED || use == ASSIGNED_WAITING;
+    begin();
+    unsigned root = assigned ? nested_number(shape) : nested_truth(shape), deed = assigned ? ASSIGN : RAISE;
+    if (use == IN_GUARD) {
+        set_two(work.bytes, RECORD * 4 + 12, root);
+        return;
+    } else if (use < ASSIGNED_WAITING) {
+        add_action(&work, ON_TRANSITION, 0, deed, 0, assigned ? root : 0);
+    } else {
+        /* the chart idles in cycles without event 31, which are due from age 1 on */
+        work.bytes[RECORD * 4 + 6] = ON_EVENT;
+        work.bytes[RECORD * 4 + 7] = 31;
+        add_waiting(&work, 1, 100, deed, 0, assigned ? root : 0);
+    }
+    if (!assigned) {
+        guard_last(&work, root);
+    }
 }
 
 static uint16_t steps[MANY_STEPS];
@@ -366,20 +385,16 @@ static void measure_list(void)
 static void measure_nested(void)
 {
     for (unsigned shape = 0; shape < SHAPES; shape++) {
-        for (unsigned assigned = 0; assigned < 2; assigned++) {
-            if (assigned) {
-                make_assigned(shape);
-            } else {
-                make_guard(shape);
-            }
+        for (unsigned use = 0; use < USES; use++) {
+            make_nested(shape, use);
             int32_t check = charts_check(work.bytes, work.len);
             if (check != 0 || nodes > MOST_NODES || nodes + 5 < MOST_NODES) {
                 printf("FAILED: a nested expression: check %d, %u nodes\n", (int)check, nodes);
                 exit(1);
             }
-            bool first = shape == 0 && assigned == 0;
+            bool first = shape == 0 && use == 0;
             measure_set(work.bytes, work.len, steps, first ? MANY_STEPS : 2);
-            if (!assigned) {
+            if (use == IN_GUARD) {
                 measure_list();
             }
         }

@@ -55,7 +55,9 @@ fn names(table: &RawTable) -> bool {
         && table.nodes.iter().all(|n| names_something(n, table.nodes.len(), table.variables.len()))
         && table.updates.iter().all(|update| {
             let assigns = update.deed == ASSIGN;
-            edge(update.edge) && (!assigns || variable(update.variable_or_event) && node(update.node))
+            edge(update.edge)
+                && (!assigns || variable(update.variable_or_event) && node(update.node))
+                && update.guard.is_none_or(node)
         })
         && table.resets.iter().all(|(of_edge, of_clock)| edge(*of_edge) && clock(*of_clock))
 }
@@ -75,10 +77,9 @@ fn within_automata(table: &RawTable) -> bool {
 
 /// Literals and updates may share nodes or leave them out; as an operand a node stands once at most.
 fn nodes_kept(table: &RawTable) -> bool {
-    let guards = table.literals.iter().map(|literal| literal.node).filter(|node| *node != NONE);
     let assigned = table.updates.iter().filter(|update| update.deed == ASSIGN).map(|update| update.node);
     operands_lower_and_sorted(&table.nodes)
-        && guards.map(usize::from).all(|node| gives(&table.nodes, node, Sort::Truth))
+        && table.guards().all(|node| gives(&table.nodes, node, Sort::Truth))
         && assigned.map(usize::from).all(|node| gives(&table.nodes, node, Sort::Number))
         && operand_uses(&table.nodes).iter().all(|count| *count <= 1)
 }

@@ -105,10 +105,11 @@ fn names(table: &RawTable) -> bool {
             .iter()
             .filter(|node| shape(node.operator).is_some())
             .all(|node| names_something(node, table.nodes.len(), table.variables.len()))
-        && table
-            .updates
-            .iter()
-            .all(|update| below(update.edge, edges) && (update.deed != ASSIGN || assignment(update)))
+        && table.updates.iter().all(|update| {
+            below(update.edge, edges)
+                && (update.deed != ASSIGN || assignment(update))
+                && update.guard.is_none_or(|guard| below(guard, table.nodes.len()))
+        })
         && table.resets.iter().all(|(edge, clock)| below(*edge, edges) && below(*clock, table.clocks.len()))
 }
 
@@ -148,10 +149,9 @@ fn wrong_sort(table: &RawTable) -> bool {
         let known = table.nodes.get(node).is_some_and(|node| shape(node.operator).is_some());
         known && !gives(&table.nodes, node, sort)
     };
-    let guards = table.literals.iter().map(|literal| literal.node).filter(|node| *node != NONE);
     let assigned = table.updates.iter().filter(|update| update.deed == ASSIGN).map(|update| update.node);
     operands(table).any(|(_, operand, sort)| wrong(operand, sort))
-        || guards.map(usize::from).any(|node| wrong(node, Sort::Truth))
+        || table.guards().any(|node| wrong(node, Sort::Truth))
         || assigned.map(usize::from).any(|node| wrong(node, Sort::Number))
 }
 

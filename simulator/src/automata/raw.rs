@@ -29,6 +29,7 @@ pub struct RawUpdate {
     pub edge: u16,
     pub variable_or_event: u8,
     pub node: u16,
+    pub guard: Option<u16>,
 }
 
 pub struct RawTable {
@@ -61,6 +62,12 @@ impl RawTable {
             resets: sections.of(RESET).iter().map(|r| (read_u16(r, 2), read_u16(r, 4))).collect(),
         }
     }
+
+    /// The guards of literals and of updates.
+    pub fn guards(&self) -> impl Iterator<Item = usize> + '_ {
+        let of_literals = self.literals.iter().map(|literal| literal.node).filter(|node| *node != NONE);
+        of_literals.chain(self.updates.iter().filter_map(|update| update.guard)).map(usize::from)
+    }
 }
 
 fn read_edge(record: &Record) -> RawEdge {
@@ -89,5 +96,6 @@ fn read_update(record: &Record) -> RawUpdate {
         edge: read_u16(record, 2),
         variable_or_event: record[4],
         node: read_u16(record, 6),
+        guard: deed_guard(record),
     }
 }

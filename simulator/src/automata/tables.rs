@@ -2,7 +2,7 @@
 
 use super::check;
 use super::raw::{RawLiteral, RawTable};
-use crate::deeds::Deed;
+use crate::deeds::{Deed, GuardedDeed};
 use crate::expressions::Node;
 use crate::files::Sections;
 use crate::records::*;
@@ -31,7 +31,7 @@ pub struct Edge {
     pub idle: bool,
     /// In file order, as are the updates and resets.
     pub literals: Vec<Literal>,
-    pub updates: Vec<Deed>,
+    pub updates: Vec<GuardedDeed>,
     pub resets: Vec<u16>,
 }
 
@@ -115,7 +115,7 @@ fn prepare_edges(raw: &RawTable) -> Vec<Edge> {
     }
     for update in &raw.updates {
         let deed = Deed::from_codes(update.deed, update.variable_or_event, update.node);
-        edges[usize::from(update.edge)].updates.push(deed);
+        edges[usize::from(update.edge)].updates.push(GuardedDeed { guard: update.guard, deed });
     }
     for (edge, clock) in &raw.resets {
         edges[usize::from(*edge)].resets.push(*clock);

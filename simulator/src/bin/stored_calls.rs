@@ -5,12 +5,14 @@
 
 use simulator::assemble::*;
 use simulator::chart_sets;
+use simulator::files::READ_AT_ONCE as LONG;
 use simulator::generate::calls::{events_of_table, mask};
-use simulator::generate::longest_twins::longest;
+use simulator::generate::longest_twins::{longest, most_resets};
 use simulator::generate::{set_damage, sets, table_damage, tables};
 use simulator::listing::listing;
 use simulator::operators::*;
 use simulator::path_back::rows_of;
+use simulator::records::{most_bytes, AUTOMATA_LIMITS, CHART_LIMITS};
 use simulator::refusals::{self, Refusal};
 use simulator::replay::replay_twin;
 use simulator::translation::{translate, twin};
@@ -19,13 +21,14 @@ use std::path::Path;
 use std::{env, fs, io};
 
 /// The most bytes of a set.
-const LARGEST: usize = 31_872;
-/// The bytes that the programs read at once.
-const LONG: usize = 262_144;
+const LARGEST: usize = most_bytes(&CHART_LIMITS);
 /// The most bytes of a twin.
-const LARGEST_TWIN: usize = 232_576;
+const LARGEST_TWIN: usize = most_bytes(&AUTOMATA_LIMITS);
 /// Time, in a path.
 const TIME: u16 = 65_535;
+/// Where the zero-watch set has its first action, and its twin its first update.
+const ACTION: usize = 16 * 16;
+const UPDATE: usize = 28 * 16;
 
 /// A name; the file, or none; the path, or standard input.
 type Call = (String, Option<Vec<u8>>, Vec<u8>);
@@ -235,6 +238,14 @@ fn check_calls() -> Vec<Call> {
             ("stray_byte", damaged(15, 1)),
             ("code", damaged(4 * 16 + 1, 17)),
             ("named_nothing", damaged(2, 3)),
+            ("guards_in_sequence", chart_sets::guards_in_sequence()),
+            ("stray_byte_of_an_action", damaged(ACTION + 10, 1)),
+            ("guard_named_nothing", damaged(ACTION + 8, 8)),
+            ("guard_is_a_number", damaged(ACTION + 8, 1)),
+            ("counts_while_waiting", chart_sets::counts_while_waiting()),
+            ("waiting_times_differ", chart_sets::two_waiting(200, 201)),
+            ("waiting_half_a_tick", chart_sets::two_waiting(50, 200)),
+            ("waiting_no_time", chart_sets::two_waiting(200, 0)),
             ("zero_ticks", chart_sets::one_after(49)),
             ("half_a_tick", chart_sets::one_after(50)),
             ("past_half_a_tick", chart_sets::one_after(51)),
@@ -249,6 +260,10 @@ fn check_calls() -> Vec<Call> {
             ("table_stray_byte", damaged_twin(15, 1)),
             ("table_code", damaged_twin(4 * 16 + 6, 2)),
             ("table_named_nothing", damaged_twin(2, 3)),
+            ("guards_in_sequence_twin", twin_of(&chart_sets::guards_in_sequence())),
+            ("table_stray_byte_of_an_update", damaged_twin(UPDATE + 10, 1)),
+            ("table_guard_named_nothing", damaged_twin(UPDATE + 8, 8)),
+            ("table_guard_is_a_number", damaged_twin(UPDATE + 8, 1)),
             ("long_table", long_table()),
             ("long_text", text(LONG + 64)),
         ]
@@ -275,6 +290,12 @@ fn path_calls() -> Vec<Call> {
         .map(|(name, path)| call(name, chart_sets::zero_watch(), &path)),
     );
     calls.push(call("relay", chart_sets::relay(), &path(&relay)));
+    let waiting = chart_sets::counts_while_waiting();
+    let counted = taken(&waiting, &[0, 0, 0, 0, 0, 1, 0, 0, 0, 1, 0, 0]);
+    calls.push(call("waiting", waiting.clone(), &path(&counted)));
+    // Its due edge is 3 and the other 4; no literal is read.
+    calls.push(call("waiting_at_any_age", waiting.clone(), &path(&[0, TIME, 3, TIME, 3, TIME, 4, TIME, 1])));
+    calls.push(call("waiting_no_edge", waiting, &path(&[0, TIME, 5])));
     calls.push(call("a_table", twin_of(&chart_sets::zero_watch()), &path(&watched)));
     calls.push(call("broken_and_refused", equal_priorities(), &path(&[9])));
     calls
@@ -355,6 +376,13 @@ fn twin_calls() -> Vec<Call> {
         call("two_open", damaged_twin(16 * 16 + 1, 1), &watched),
         call("due_late", twin_of(&chart_sets::held_back()), &masks(&[0, 0, 0, 0, 1, 0, 0, 2, 0, 0])),
         call("halves_round", twin_of(&chart_sets::halves()), &masks(&[0; 25])),
+        call(
+            "waiting_round",
+            twin_of(&chart_sets::counts_while_waiting()),
+            &masks(&[0, 0, 0, 0, 0, 1, 0, 0, 0, 1, 0, 0]),
+        ),
+        call("waiting_fault", twin_of(&chart_sets::sees_while_waiting()), &masks(&[0; 20])),
+        call("guards_round", twin_of(&chart_sets::guards_in_sequence()), &masks(&[0, 1, 1, 2, 1, 0])),
     ];
     calls.extend(chart_sets::all().into_iter().map(|(name, set)| {
         call(&name.replace(' ', "_"), twin_of(&set), &masks(&[0, 1, 3, 64, 32, 33, 2, 1, 0]))
@@ -370,6 +398,10 @@ fn translate_calls() -> Vec<Call> {
             ("winch", chart_sets::winch()),
             ("relay", chart_sets::relay()),
             ("action_order", chart_sets::action_order()),
+            ("guards_in_sequence", chart_sets::guards_in_sequence()),
+            ("counts_while_waiting", chart_sets::counts_while_waiting()),
+            ("raises_while_waiting", chart_sets::raises_while_waiting()),
+            ("waiting_times_differ", chart_sets::two_waiting(200, 201)),
             ("halves", chart_sets::halves()),
             ("a_table", twin_of(&chart_sets::zero_watch())),
             ("long_table", long_table()),
@@ -548,10 +580,15 @@ fn any_play(random: &mut Random) -> (Vec<u8>, Vec<u8>) {
     (bytes, masks(&list))
 }
 
-/// A set with the most of each kind, and its twin.
-fn largest(random: &mut Random) -> [Call; 2] {
-    let set = longest(random);
-    [call("largest_twin", twin_of(&set), &[]), call("largest", set, &[])]
+/// A set with the most of each kind, one whose twin has the most edges and resets, and their twins.
+fn largest(random: &mut Random) -> [Call; 4] {
+    let (set, other) = (longest(random), most_resets(random));
+    [
+        call("largest_twin", twin_of(&set), &[]),
+        call("largest", set, &[]),
+        call("most_resets_twin", twin_of(&other), &[]),
+        call("most_resets", other, &[]),
+    ]
 }
 
 fn generated(count: usize) -> [Vec<Call>; 5] {
@@ -566,9 +603,10 @@ fn generated(count: usize) -> [Vec<Call>; 5] {
     let mut any = |random: &mut Random| any_file(random).map(|file| (file, Vec::new()));
     let checked = numbered(&mut any);
     let played = numbered(&mut |random| Some(any_play(random)));
-    let translated = numbered(&mut any);
+    let mut translated = numbered(&mut any);
     let mut listed = numbered(&mut any);
     listed.extend(largest(&mut random));
+    translated.extend(largest(&mut random));
     [checked, Vec::new(), listed, played, translated]
 }
 

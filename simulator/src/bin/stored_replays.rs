@@ -5,8 +5,9 @@
 use simulator::assemble::*;
 use simulator::chart_sets::{self, SetParts};
 use simulator::deeds::Deed;
+use simulator::files::READ_AT_ONCE as LONG;
 use simulator::operators::*;
-use simulator::records::{ENTRY, EXIT, ON_TRANSITION};
+use simulator::records::{most_bytes, CHART_LIMITS, ENTRY, EXIT, ON_TRANSITION};
 use simulator::replay::replay;
 use simulator::translation::twin;
 use simulator::variables::Variable;
@@ -14,8 +15,8 @@ use simulator::ChartSet;
 use std::path::Path;
 use std::{env, fs, io};
 
-/// The bytes that the replay program reads at once, more than those of the largest set.
-const LONG: usize = 262_144;
+/// The most bytes of a set.
+const LARGEST: usize = most_bytes(&CHART_LIMITS);
 
 /// A name; the set, or no file; the masks.
 type Case = (&'static str, Option<Vec<u8>>, Vec<u8>);
@@ -105,6 +106,13 @@ fn equal_priorities() -> Vec<u8> {
     set
 }
 
+/// The zero-watch set whose first action has the guard 65,534.
+fn guard_named_nothing() -> Vec<u8> {
+    let mut set = chart_sets::zero_watch();
+    set[16 * 16 + 8..16 * 16 + 10].fill(0xFF);
+    set
+}
+
 /// Charts up to a length: too many, in order.
 fn charts_of(len: usize) -> Vec<u8> {
     chart(0).into_iter().cycle().take(len).collect()
@@ -141,6 +149,19 @@ fn sets() -> Vec<(&'static str, Vec<u8>, Vec<u8>)> {
         ("due_late", chart_sets::held_back(), masks(&[0, 0, 0, 0, 1, 0, 0, 2, 0, 0])),
         // Two rounds of charts 0 and 1.
         ("halves", chart_sets::halves(), masks(&[0; 25])),
+        ("guards_in_sequence", chart_sets::guards_in_sequence(), masks(&[0, 1, 1, 2, 1, 0])),
+        ("guard_that_faults", chart_sets::guard_that_faults(), masks(&[0, 1, 0, 1, 1, 0])),
+        ("guard_named_nothing", guard_named_nothing(), watched.clone()),
+        // Entered anew in cycle 5, and in cycle 9, where an action would be due.
+        (
+            "counts_while_waiting",
+            chart_sets::counts_while_waiting(),
+            masks(&[0, 0, 0, 0, 0, 1, 0, 0, 0, 1, 0, 0]),
+        ),
+        ("sees_while_waiting", chart_sets::sees_while_waiting(), masks(&[0; 20])),
+        ("raises_while_waiting", chart_sets::raises_while_waiting(), masks(&[0, 0, 0, 32, 0, 0, 32, 0])),
+        ("waiting_times_differ", chart_sets::two_waiting(200, 201), watched.clone()),
+        ("waiting_zero_ticks", chart_sets::two_waiting(49, 200), watched.clone()),
         ("widest_lines", widest(), masks(&[0, 0, 0])),
         ("fault_in_cycle", fault_in_cycle(), masks(&[0; 9])),
         ("zero_divisor", chart_sets::guarded_division(), masks(&[0, 1, 1, 0, 1])),
@@ -152,8 +173,8 @@ fn sets() -> Vec<(&'static str, Vec<u8>, Vec<u8>)> {
         ("odd_length", with_rest(chart_sets::zero_watch(), &[0]), watched.clone()),
         ("refused_set", equal_priorities(), watched.clone()),
         ("half_a_tick", chart_sets::one_after(50), watched.clone()),
-        ("oversized_set", charts_of(31_872 + 16), watched.clone()),
-        ("oversized_odd", charts_of(31_872 + 1), watched.clone()),
+        ("oversized_set", charts_of(LARGEST + 16), watched.clone()),
+        ("oversized_odd", charts_of(LARGEST + 1), watched.clone()),
         ("long_set", charts_of(LONG), watched.clone()),
         ("long_odd", charts_of(LONG + 5), watched.clone()),
         ("long_unordered", long_unordered(), watched.clone()),

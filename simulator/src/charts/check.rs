@@ -1,4 +1,4 @@
-//! Refusals 5 to 9 of a chart set. Each is asked of the whole file before the next.
+//! Refusals 5 to 9, and 25, of a chart set. Each is asked of the whole file before the next.
 
 use super::raw::{RawAction, RawSet, RawTransition};
 use crate::node_rules::{gives, names_something, node_operands, operand_uses, operands_lower_and_sorted};
@@ -12,12 +12,13 @@ type Condition = fn(&RawSet) -> bool;
 
 /// Asked in this order, so that a condition may rely on those before it: numbers are followed
 /// only where they name something.
-const CONDITIONS: [(Condition, Refusal); 5] = [
+const CONDITIONS: [(Condition, Refusal); 6] = [
     (codes_and_ranges, refusals::CODE_OR_RANGE),
     (names, refusals::NAMES_NOTHING),
     (structure, refusals::STRUCTURE),
     (node_rules, refusals::NODES),
     (ticks_positive, refusals::ZERO_TICKS),
+    (waiting_times_equal, refusals::WAITING_TIMES),
 ];
 
 /// The lowest refusal from 5 on that applies.
@@ -39,10 +40,14 @@ fn transition_codes(transition: &RawTransition) -> bool {
     let trigger_kept = match transition.trigger {
         NO_TRIGGER => true,
         ON_EVENT => transition.event < EVENTS,
-        AFTER | EVERY => (1..=MOST_MILLISECONDS).contains(&transition.milliseconds),
+        AFTER | EVERY => in_range(transition.milliseconds),
         _ => false,
     };
     (HIGHEST_PRIORITY..=LOWEST_PRIORITY).contains(&transition.priority) && trigger_kept
+}
+
+fn in_range(milliseconds: u32) -> bool {
+    (1..=MOST_MILLISECONDS).contains(&milliseconds)
 }
 
 fn action_codes(action: &RawAction) -> bool {
@@ -51,7 +56,12 @@ fn action_codes(action: &RawAction) -> bool {
         RAISE => action.variable_or_event < EVENTS,
         _ => false,
     };
-    matches!(action.place, ENTRY | EXIT | ON_TRANSITION) && deed_kept
+    let place_kept = match action.place {
+        ENTRY | EXIT | ON_TRANSITION => true,
+        WAITING => in_range(action.milliseconds),
+        _ => false,
+    };
+    place_kept && deed_kept
 }
 
 /// Numbers name something. Under a broken code a number has no meaning, but then 5 applies.
@@ -73,7 +83,8 @@ fn action_names(set: &RawSet, action: &RawAction) -> bool {
     let assignment_named = action.deed != ASSIGN
         || usize::from(action.variable_or_event) < set.variables.len()
             && usize::from(action.node) < set.nodes.len();
-    usize::from(action.owner) < owners && assignment_named
+    let guard_named = action.guard.is_none_or(|guard| usize::from(guard) < set.nodes.len());
+    usize::from(action.owner) < owners && assignment_named && guard_named
 }
 
 fn structure(set: &RawSet) -> bool {
@@ -89,7 +100,7 @@ fn within_charts(set: &RawSet) -> bool {
 }
 
 /// An initial state is of its own chart, has one plain leaving transition, is not entered, and
-/// has no entry or exit action.
+/// has no entry or exit action. Waiting ones it may have.
 fn initial_kept(set: &RawSet, chart: usize, initial: u16) -> bool {
     let of_its_chart = usize::from(set.chart_of[usize::from(initial)]) == chart;
     let leaving: Vec<&RawTransition> = set.leaving(initial).collect();
@@ -98,7 +109,8 @@ fn initial_kept(set: &RawSet, chart: usize, initial: u16) -> bool {
         _ => false,
     };
     let entered = set.transitions.iter().any(|transition| transition.target == initial);
-    let acts = set.actions.iter().any(|action| action.of_state() && action.owner == initial);
+    let acts =
+        set.actions.iter().any(|action| matches!(action.place, ENTRY | EXIT) && action.owner == initial);
     of_its_chart && one_plain && !entered && !acts
 }
 
@@ -109,7 +121,7 @@ fn priorities_differ(set: &RawSet) -> bool {
     })
 }
 
-/// At most 8 actions an owner; a state's entry and exit actions count together.
+/// At most 8 actions an owner; a state's entry, exit and waiting actions count together.
 fn actions_per_owner(set: &RawSet) -> bool {
     set.actions.iter().all(|action| {
         let same_owner =
@@ -125,8 +137,11 @@ fn node_rules(set: &RawSet) -> bool {
         && each_node_used_once(set)
 }
 
+/// The guards of transitions and of actions.
 fn guards(set: &RawSet) -> impl Iterator<Item = usize> + '_ {
-    set.transitions.iter().map(|transition| transition.guard).filter(|guard| *guard != NONE).map(usize::from)
+    let of_transitions =
+        set.transitions.iter().map(|transition| transition.guard).filter(|guard| *guard != NONE);
+    of_transitions.chain(set.actions.iter().filter_map(|action| action.guard)).map(usize::from)
 }
 
 fn assigned(set: &RawSet) -> impl Iterator<Item = usize> + '_ {
@@ -143,19 +158,25 @@ fn each_node_used_once(set: &RawSet) -> bool {
 }
 
 fn ticks_positive(set: &RawSet) -> bool {
-    let mut timed = set.transitions.iter().filter(|transition| transition.timed());
-    timed.all(|transition| ticks(transition.milliseconds) > 0)
+    set.times().all(|time| ticks(time) > 0)
+}
+
+/// The milliseconds count, not the ticks: 200 and 201 differ.
+fn waiting_times_equal(set: &RawSet) -> bool {
+    let mut waiting = set.actions.iter().filter(|action| action.waits());
+    waiting.all(|one| set.waiting_in(one.owner).all(|other| other.milliseconds == one.milliseconds))
 }
 
 /// For each refusal from 5 on whether it applies by itself. What an earlier refusal is for, a broken code or a number that
 /// names nothing, the later ones pass over.
-pub fn applying(set: &RawSet) -> [(Refusal, bool); 5] {
+pub fn applying(set: &RawSet) -> [(Refusal, bool); 6] {
     [
         (refusals::CODE_OR_RANGE, !codes_and_ranges(set)),
         (refusals::NAMES_NOTHING, !names(set)),
         (refusals::STRUCTURE, structure_broken(set)),
         (refusals::NODES, nodes_broken(set)),
         (refusals::ZERO_TICKS, some_zero_ticks(set)),
+        (refusals::WAITING_TIMES, !waiting_times_equal(set)),
     ]
 }
 
@@ -198,7 +219,5 @@ fn nodes_broken(set: &RawSet) -> bool {
 
 /// Milliseconds out of range are for 5.
 fn some_zero_ticks(set: &RawSet) -> bool {
-    let timed = set.transitions.iter().filter(|transition| transition.timed());
-    let mut times = timed.map(|transition| transition.milliseconds);
-    times.any(|time| (1..=MOST_MILLISECONDS).contains(&time) && ticks(time) == 0)
+    set.times().any(|time| in_range(time) && ticks(time) == 0)
 }

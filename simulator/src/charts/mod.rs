@@ -1,4 +1,4 @@
-//! Chart sets: the reader with its refusals 1 to 9, the run, the turn and the cycle.
+//! Chart sets: the reader with its refusals 1 to 9 and 25, the run, the turn and the cycle.
 
 mod check;
 mod raw;
@@ -6,11 +6,11 @@ mod step;
 mod tables;
 
 pub use raw::{RawAction, RawSet, RawTransition};
-pub use tables::{ChartSet, Transition, Trigger};
+pub use tables::{ChartSet, Transition, Trigger, Waiting};
 
 use crate::files::Sections;
 use crate::records::{whole_records, Record, CHART_LIMITS, RECORD_LEN};
-use crate::refusals::Refusal;
+use crate::refusals::{Refusal, WAITING_TIMES};
 use crate::runs::{Answer, ChartsRun, Machine};
 
 /// 0 for an accepted set, else the lowest refusal number that applies.
@@ -18,15 +18,15 @@ pub fn check(set: &[u8]) -> u32 {
     ChartSet::read(set).err().unwrap_or(0)
 }
 
-/// For each number from 1 to 9 whether its refusal applies, each asked by itself of the whole records of known kinds. The
-/// lowest is the one given.
-pub fn applying(set: &[u8]) -> [bool; 10] {
+/// For each number from 1 to 9, and 25, whether its refusal applies, each asked by itself of the whole records of known kinds.
+/// The lowest is the one given.
+pub fn applying(set: &[u8]) -> [bool; WAITING_TIMES as usize + 1] {
     let records = whole_records(set);
     let known = |record: &&Record| CHART_LIMITS.iter().any(|(kind, _)| *kind == record[0]);
     let mut sorted: Vec<Record> = records.iter().filter(known).copied().collect();
     sorted.sort_by_key(|record| record[0]);
     let sections = Sections::of_ascending(&sorted, &CHART_LIMITS);
-    let mut applies = [false; 10];
+    let mut applies = [false; WAITING_TIMES as usize + 1];
     applies[1] = !set.len().is_multiple_of(RECORD_LEN);
     applies[2] = sorted != records;
     applies[3] = sections.miscounted();

@@ -41,6 +41,8 @@ pub struct RawAction {
     pub deed: u8,
     pub variable_or_event: u8,
     pub node: u16,
+    pub guard: Option<u16>,
+    pub milliseconds: u32,
 }
 
 impl RawAction {
@@ -51,11 +53,17 @@ impl RawAction {
             deed: record[4],
             variable_or_event: record[5],
             node: read_u16(record, 6),
+            guard: deed_guard(record),
+            milliseconds: read_u32(record, 12),
         }
     }
 
     pub fn of_state(&self) -> bool {
-        matches!(self.place, ENTRY | EXIT)
+        matches!(self.place, ENTRY | EXIT | WAITING)
+    }
+
+    pub fn waits(&self) -> bool {
+        self.place == WAITING
     }
 }
 
@@ -86,5 +94,16 @@ impl RawSet {
 
     pub fn leaving(&self, state: u16) -> impl Iterator<Item = &RawTransition> {
         self.transitions.iter().filter(move |transition| transition.source == state)
+    }
+
+    pub fn waiting_in(&self, state: u16) -> impl Iterator<Item = &RawAction> {
+        self.actions.iter().filter(move |action| action.waits() && action.owner == state)
+    }
+
+    /// The milliseconds of timing triggers and of waiting actions.
+    pub fn times(&self) -> impl Iterator<Item = u32> + '_ {
+        let of_triggers = self.transitions.iter().filter(|transition| transition.timed());
+        let of_actions = self.actions.iter().filter(|action| action.waits());
+        of_triggers.map(|transition| transition.milliseconds).chain(of_actions.map(|a| a.milliseconds))
     }
 }

@@ -5,7 +5,7 @@ use crate::deeds::Scene;
 use crate::expressions::Evaluator;
 use crate::refusals::{Refusal, IMPOSSIBLE_STATE};
 use crate::runs::{chart_in_turn, check_input, course_possible, Answer, ChartsRun, Machine};
-use crate::timing::timing_holds;
+use crate::timing::{timing_holds, Timing};
 use crate::variables::{start_values, values_possible};
 
 impl Machine for ChartSet {
@@ -62,14 +62,17 @@ impl ChartSet {
                 self.take(run, chart, transition)?;
                 Answer::Taken(transition)
             }
-            None => Answer::Idle,
+            None => {
+                self.wait(run, chart)?;
+                Answer::Idle
+            }
         };
         run.position += 1;
         Ok(answer)
     }
 
     /// The row of the present state is tried in order; the first that holds is taken.
-    fn first_that_holds(&self, run: &ChartsRun, chart: usize) -> Result<Option<u16>, Refusal> {
+    pub fn first_that_holds(&self, run: &ChartsRun, chart: usize) -> Result<Option<u16>, Refusal> {
         for transition in &self.rows[usize::from(run.states[chart])] {
             if self.holds(run, chart, *transition)? {
                 return Ok(Some(*transition));
@@ -97,16 +100,30 @@ impl ChartSet {
     /// Runs the actions and enters the target; its age is 0, also by a self-transition.
     fn take(&self, run: &mut ChartsRun, chart: usize, transition: u16) -> Result<(), Refusal> {
         let transition = usize::from(transition);
-        let mut scene = Scene {
+        self.scene(run).run(self.deeds_of(transition))?;
+        run.states[chart] = self.transitions[transition].target;
+        run.ages[chart] = 0;
+        Ok(())
+    }
+
+    /// The present state's waiting actions, where its age makes them due; the state is not left, and its age goes on.
+    fn wait(&self, run: &mut ChartsRun, chart: usize) -> Result<(), Refusal> {
+        match &self.waiting[usize::from(run.states[chart])] {
+            Some(waiting) if timing_holds(Timing::Every, run.ages[chart], waiting.ticks) => {
+                self.scene(run).run(&waiting.deeds)
+            }
+            _ => Ok(()),
+        }
+    }
+
+    /// What the deeds of a run read and change.
+    pub fn scene<'a>(&'a self, run: &'a mut ChartsRun) -> Scene<'a> {
+        Scene {
             nodes: &self.nodes,
             variables: &self.variables,
             values: &mut run.variables,
             events: &mut run.events,
-        };
-        scene.run(self.deeds_of(transition))?;
-        run.states[chart] = self.transitions[transition].target;
-        run.ages[chart] = 0;
-        Ok(())
+        }
     }
 
     /// Position n + 1: empties the events, adds 1 to each chart's age and to the cycle count.

@@ -2,7 +2,7 @@
 
 use super::check;
 use super::raw::{RawSet, RawTransition};
-use crate::deeds::Deed;
+use crate::deeds::{Deed, GuardedDeed};
 use crate::expressions::Node;
 use crate::files::Sections;
 use crate::records::*;
@@ -26,6 +26,14 @@ pub struct Transition {
     pub guard: Option<u16>,
 }
 
+/// What a state does at each positive multiple of the ticks while it idles.
+#[derive(Clone, Debug)]
+pub struct Waiting {
+    pub ticks: u32,
+    /// In file order.
+    pub deeds: Vec<GuardedDeed>,
+}
+
 #[derive(Clone, Debug)]
 pub struct ChartSet {
     /// The initial state of each chart.
@@ -39,13 +47,15 @@ pub struct ChartSet {
     pub nodes: Vec<Node>,
     pub node_records: Vec<Record>,
     /// Deeds by owner, in file order.
-    pub entry: Vec<Vec<Deed>>,
-    pub exit: Vec<Vec<Deed>>,
-    pub on_transition: Vec<Vec<Deed>>,
+    pub entry: Vec<Vec<GuardedDeed>>,
+    pub exit: Vec<Vec<GuardedDeed>>,
+    pub on_transition: Vec<Vec<GuardedDeed>>,
+    /// For each state its waiting actions, if it has any.
+    pub waiting: Vec<Option<Waiting>>,
 }
 
 impl ChartSet {
-    /// Reads a chart file; refused with the lowest number from 1 to 9 that applies.
+    /// Reads a chart file; refused with the lowest number of 1 to 9 and 25 that applies.
     pub fn read(bytes: &[u8]) -> Result<ChartSet, Refusal> {
         let sections = Sections::read(bytes, &CHART_LIMITS)?;
         if sections.has_stray_byte() {
@@ -63,6 +73,10 @@ impl ChartSet {
             entry: deeds_by_owner(&raw, ENTRY, states),
             exit: deeds_by_owner(&raw, EXIT, states),
             on_transition: deeds_by_owner(&raw, ON_TRANSITION, raw.transitions.len()),
+            waiting: (0u16..)
+                .zip(deeds_by_owner(&raw, WAITING, states))
+                .map(|(state, deeds)| waiting(&raw, state, deeds))
+                .collect(),
             transitions: raw.transitions.iter().map(Transition::prepare).collect(),
             initial: raw.initial,
             chart_of: raw.chart_of,
@@ -77,7 +91,7 @@ impl ChartSet {
     }
 
     /// Exit actions of the source, the transition's, entry actions of the target.
-    pub fn deeds_of(&self, transition: usize) -> impl Iterator<Item = &Deed> {
+    pub fn deeds_of(&self, transition: usize) -> impl Iterator<Item = &GuardedDeed> {
         let Transition { source, target, .. } = self.transitions[transition];
         self.exit[usize::from(source)]
             .iter()
@@ -109,11 +123,17 @@ fn row_by_priority(raw: &RawSet, state: usize) -> Vec<u16> {
     row
 }
 
-fn deeds_by_owner(raw: &RawSet, place: u8, owners: usize) -> Vec<Vec<Deed>> {
+/// The milliseconds of a state's waiting actions are the same.
+fn waiting(raw: &RawSet, state: u16, deeds: Vec<GuardedDeed>) -> Option<Waiting> {
+    let first = raw.waiting_in(state).next()?;
+    Some(Waiting { ticks: ticks(first.milliseconds), deeds })
+}
+
+fn deeds_by_owner(raw: &RawSet, place: u8, owners: usize) -> Vec<Vec<GuardedDeed>> {
     let mut deeds = vec![Vec::new(); owners];
     for action in raw.actions.iter().filter(|action| action.place == place) {
         let deed = Deed::from_codes(action.deed, action.variable_or_event, action.node);
-        deeds[usize::from(action.owner)].push(deed);
+        deeds[usize::from(action.owner)].push(GuardedDeed { guard: action.guard, deed });
     }
     deeds
 }

@@ -2,7 +2,7 @@
 
 use crate::automata::{AutomataTable, LiteralTrigger};
 use crate::charts::{ChartSet, Trigger};
-use crate::deeds::Deed;
+use crate::deeds::{Deed, GuardedDeed};
 use crate::random::Random;
 use crate::refusals::Refusal;
 use crate::runs::Machine;
@@ -43,7 +43,8 @@ pub fn events_of_set(set: &ChartSet) -> u32 {
         Trigger::Event(event) => Some(event),
         _ => None,
     });
-    let deeds = set.entry.iter().chain(&set.exit).chain(&set.on_transition).flatten();
+    let placed = set.entry.iter().chain(&set.exit).chain(&set.on_transition).flatten();
+    let deeds = placed.chain(set.waiting.iter().flatten().flat_map(|waiting| &waiting.deeds));
     triggers.chain(raised(deeds)).fold(0, |mask, event| mask | 1 << event)
 }
 
@@ -57,9 +58,9 @@ pub fn events_of_table(table: &AutomataTable) -> u32 {
     triggers.chain(raised(deeds)).fold(0, |mask, event| mask | 1 << event)
 }
 
-fn raised<'a>(deeds: impl Iterator<Item = &'a Deed> + 'a) -> impl Iterator<Item = u8> + 'a {
-    deeds.filter_map(|deed| match deed {
-        Deed::Raise { event } => Some(*event),
+fn raised<'a>(deeds: impl Iterator<Item = &'a GuardedDeed> + 'a) -> impl Iterator<Item = u8> + 'a {
+    deeds.filter_map(|deed| match deed.deed {
+        Deed::Raise { event } => Some(event),
         Deed::Assign { .. } => None,
     })
 }
@@ -79,14 +80,16 @@ pub fn mask(random: &mut Random, known: u32) -> u32 {
 }
 
 /// Calls for `n` charts. Events are given where position 1 is due if no call faults, and at
-/// times elsewhere.
+/// times elsewhere. Some lists have long quiet spells, in which states are not left by events.
 pub fn call_list(random: &mut Random, n: usize, known: u32, length: usize) -> Vec<Call> {
     let mut calls = Vec::new();
     let mut position = 1;
     let turns = random.pick(&[0, 1, 3, 4]);
+    let quiet = random.pick(&[0, 0, 0, 7]);
     for _ in 0..length {
         let wrong = random.chance(1, 24);
-        let events = if position == 1 || wrong { mask(random, known) } else { 0 };
+        let given = wrong || position == 1 && !random.chance(quiet, 8);
+        let events = if given { mask(random, known) } else { 0 };
         if random.chance(turns, 4) {
             calls.push(Call::Turn(events));
             position = if position == n + 1 { 1 } else { position + 1 };

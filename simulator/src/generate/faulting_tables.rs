@@ -1,5 +1,5 @@
 //! Small accepted tables in which faults meet: guards that fault on several edges of a location, beside open and shut ones, and
-//! updates that fault when the one open edge is taken.
+//! updates that fault, or whose guards do, when the one open edge is taken.
 
 use crate::assemble::*;
 use crate::deeds::Deed;
@@ -85,8 +85,8 @@ pub fn faulting(random: &mut Random) -> Vec<u8> {
     records.push(variable(TWIN_VARIABLE, &VARIABLE));
     records.extend(pool.nodes.iter().map(|one| node(TWIN_NODE, one)));
     for number in edge_numbers.clone() {
-        let count = random.pick(&[0, 0, 1, 2]);
-        records.extend((0..count).map(|_| update(number, some_deed(random, &pool))));
+        let count = random.pick(&[0, 0, 1, 2, 3]);
+        records.extend((0..count).map(|_| some_update(random, number, &pool)));
     }
     records.extend(edge_numbers.filter(|_| random.chance(1, 3)).map(|number| reset(number, 0)));
     file(records)
@@ -108,6 +108,14 @@ fn some_literal(random: &mut Random, edge: u16, pool: &Pool) -> Record {
         1 => reads_clock(plain, 0),
         _ => plain,
     }
+}
+
+fn some_update(random: &mut Random, edge: u16, pool: &Pool) -> Record {
+    let plain = update(edge, some_deed(random, pool));
+    if random.chance(1, 2) {
+        return plain;
+    }
+    done_if(plain, random.pick(&pool.guards))
 }
 
 fn some_deed(random: &mut Random, pool: &Pool) -> Deed {

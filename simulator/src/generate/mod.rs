@@ -3,6 +3,7 @@
 
 pub mod buffers;
 pub mod calls;
+pub mod deed_outcomes;
 pub mod expression_files;
 pub mod expressions;
 pub mod faulting_tables;
@@ -10,6 +11,8 @@ pub mod guard_line_damage;
 pub mod guard_lines;
 pub mod guard_list_damage;
 pub mod guard_lists;
+pub mod guarded_sets;
+pub mod idling_sets;
 pub mod longest_twins;
 pub mod paths;
 pub mod record_list;

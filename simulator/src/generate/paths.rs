@@ -4,34 +4,45 @@ use crate::charts::ChartSet;
 use crate::random::Random;
 use crate::records::NONE;
 use crate::timing::MOST_CYCLES;
-
-/// The edges of the twin that leave a state: its transitions', and its idle edge.
-fn edges_leaving(set: &ChartSet, state: u16) -> Vec<u16> {
-    let mut edges = set.rows[usize::from(state)].clone();
-    edges.push(idle_edge(set, state));
-    edges
-}
-
-fn idle_edge(set: &ChartSet, state: u16) -> u16 {
-    u16::try_from(set.transitions.len()).expect("at most 256") + state
-}
+use crate::translation::idle_edges;
+use std::ops::Range;
 
 /// Where the automata stand and whose turn it is; index n is time.
 struct Walker<'a> {
     set: &'a ChartSet,
+    /// The idle edges of each state.
+    idle: Vec<Range<u16>>,
     standing: Vec<u16>,
     turn: usize,
     path: Vec<u16>,
 }
 
 impl Walker<'_> {
+    /// The edges of the twin that leave a state: its transitions', and its idle ones.
+    fn edges_leaving(&self, state: u16) -> Vec<u16> {
+        let state = usize::from(state);
+        self.set.rows[state].iter().copied().chain(self.idle[state].clone()).collect()
+    }
+
+    fn edges(&self) -> u16 {
+        self.idle.last().expect("a state").end
+    }
+
+    /// The state that an edge leaves.
+    fn source(&self, edge: u16) -> usize {
+        match self.set.transitions.get(usize::from(edge)) {
+            Some(transition) => usize::from(transition.source),
+            None => self.idle.iter().position(|own| own.contains(&edge)).expect("an edge"),
+        }
+    }
+
     fn step(&mut self, random: &mut Random) {
         if self.turn == self.standing.len() {
             self.path.push(NONE);
             self.turn = 0;
             return;
         }
-        let edge = random.pick(&edges_leaving(self.set, self.standing[self.turn]));
+        let edge = random.pick(&self.edges_leaving(self.standing[self.turn]));
         if let Some(transition) = self.set.transitions.get(usize::from(edge)) {
             self.standing[self.turn] = transition.target;
         }
@@ -41,7 +52,8 @@ impl Walker<'_> {
 }
 
 fn walker<'a>(random: &mut Random, set: &'a ChartSet, steps: usize) -> Walker<'a> {
-    let mut walker = Walker { set, standing: set.initial.clone(), turn: 0, path: Vec::new() };
+    let (idle, standing) = (idle_edges(set), set.initial.clone());
+    let mut walker = Walker { set, idle, standing, turn: 0, path: Vec::new() };
     for _ in 0..steps {
         walker.step(random);
     }
@@ -79,18 +91,16 @@ pub fn broken(random: &mut Random, set: &ChartSet, steps: usize, clause: &str) -
 }
 
 fn wrong_step(random: &mut Random, walker: &Walker, clause: &str) -> Option<u16> {
-    let set = walker.set;
-    let edges = u16::try_from(set.transitions.len() + set.chart_of.len()).expect("at most 384");
-    let chart_of_edge = |edge: u16| {
-        let state = set.transitions.get(usize::from(edge)).map(|transition| transition.source);
-        let state = state.map_or_else(|| usize::from(edge) - set.transitions.len(), usize::from);
-        (usize::from(set.chart_of[state]), state)
-    };
+    let edges = walker.edges();
     let here = walker.standing.get(walker.turn).map(|state| usize::from(*state));
-    let fits = |edge: &u16| match clause {
-        "an edge where time is due" => true,
-        "an edge of another automaton" => chart_of_edge(*edge).0 != walker.turn,
-        _ => chart_of_edge(*edge).0 == walker.turn && Some(chart_of_edge(*edge).1) != here,
+    let fits = |edge: &u16| {
+        let source = walker.source(*edge);
+        let own = usize::from(walker.set.chart_of[source]) == walker.turn;
+        match clause {
+            "an edge where time is due" => true,
+            "an edge of another automaton" => !own,
+            _ => own && Some(source) != here,
+        }
     };
     match clause {
         "names no edge" => Some(random.pick(&[edges, edges + 1, 1_000, 65_534])),
@@ -104,18 +114,19 @@ fn wrong_step(random: &mut Random, walker: &Walker, clause: &str) -> Option<u16>
 }
 
 /// A path of idle edges through all the cycles a run may do, and one step more if `over`. After
-/// the first cycle, in which the initial states are left, every automaton idles.
+/// the first cycle, in which the initial states are left, every automaton idles, due or not due.
 pub fn whole_run(random: &mut Random, set: &ChartSet, over: bool) -> Vec<u16> {
     let n = set.charts();
     let first = walker(random, set, n + 1);
-    let idle: Vec<u16> = first.standing.iter().map(|state| idle_edge(set, *state)).collect();
-    let mut path = first.path;
+    let idle: Vec<&Range<u16>> =
+        first.standing.iter().map(|state| &first.idle[usize::from(*state)]).collect();
+    let mut path = first.path.clone();
     for _ in 1..MOST_CYCLES {
-        path.extend(&idle);
+        path.extend(idle.iter().map(|own| random.u16_between(own.start, own.end - 1)));
         path.push(NONE);
     }
     if over {
-        path.push(random.pick(&[NONE, idle[0], 65_534]));
+        path.push(random.pick(&[NONE, idle[0].start, 65_534]));
     }
     path
 }

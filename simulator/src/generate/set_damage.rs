@@ -1,4 +1,4 @@
-//! Damaged chart sets: every clause of refusals 1 to 9, one at a time or two together.
+//! Damaged chart sets: every clause of refusals 1 to 9 and 25, one at a time or two together.
 
 use super::record_list::shared::{any, byte, range, unnamed, unused};
 use super::record_list::{not_zero, shared, Damage, RecordList};
@@ -32,10 +32,14 @@ pub fn damage_twice(random: &mut Random, set: &[u8]) -> Option<Damaged> {
     damage_pair(random, set, low, high)
 }
 
-/// Every two numbers of 1 to 9, the lower first. All of them can apply together: the later ones are asked of the whole
-/// records of known kinds, which 1, 2 and 3 leave. 9, being the last, is the lower of none.
+/// The refusals of a chart file.
+pub const NUMBERS: [u32; 10] = [1, 2, 3, 4, 5, 6, 7, 8, 9, 25];
+
+/// Every two of the numbers, the lower first. All of them can apply together: the later ones are asked of the whole
+/// records of known kinds, which 1, 2 and 3 leave. 25, being the last, is the lower of none.
 pub fn number_pairs() -> Vec<(u32, u32)> {
-    (1..9).flat_map(|low| (low + 1..=9).map(move |high| (low, high))).collect()
+    let after = |low: u32| NUMBERS.into_iter().filter(move |high| *high > low);
+    NUMBERS.into_iter().flat_map(|low| after(low).map(move |high| (low, high))).collect()
 }
 
 /// Breaks a clause of each of two numbers; none where the set has nothing to break so, or where the second damage did away
@@ -79,8 +83,7 @@ pub const DAMAGES: &[Damage] = damages! {
     4 "unnamed byte of a variable"
         |random, list| unnamed(random, list, VARIABLE, &[1, 8, 9, 10, 11, 12, 13, 14, 15]);
     4 "unnamed byte of a node" |random, list| unnamed(random, list, NODE, &[12, 13, 14, 15]);
-    4 "unnamed byte of an action"
-        |random, list| unnamed(random, list, ACTION, &[8, 9, 10, 11, 12, 13, 14, 15]);
+    4 "unnamed byte of an action" |random, list| unnamed(random, list, ACTION, &[10, 11]);
     4 "unused byte under no trigger"
         |random, list| unused(random, list, TRANSITION, 6, &[0], &[7, 8, 9, 10, 11]);
     4 "unused byte under an event" |random, list| unused(random, list, TRANSITION, 6, &[1], &[8, 9, 10, 11]);
@@ -94,21 +97,29 @@ pub const DAMAGES: &[Damage] = damages! {
     4 "unused byte of a not" |random, list| unused(random, list, NODE, 1, &[19], &[4, 5, 6, 7, 8, 9, 10, 11]);
     4 "unused byte of a raise" |random, list| unused(random, list, ACTION, 4, &[2], &[6, 7]);
     4 "unused byte of a raise of unknown place" raise_of_unknown_place;
+    4 "unused byte of an action that does not wait"
+        |random, list| unused(random, list, ACTION, 1, &[1, 2, 3], &[12, 13, 14, 15]);
+    4 "milliseconds of another place" |random, list| byte(random, list, ACTION, |r| r[1] == 4, 1, &[1, 2, 3]);
+    4 "unused byte of an action of unknown deed" waits_nowhere_by_unknown_deed;
     4 "unnamed byte under an unknown trigger"
         |random, list| unknown_code(random, list, TRANSITION, 6, &[14, 15]);
     4 "unnamed byte under an unknown operator"
         |random, list| unknown_code(random, list, NODE, 1, &[12, 13, 14, 15]);
+    4 "unnamed byte under an unknown place"
+        |random, list| unknown_code(random, list, ACTION, 1, &[10, 11]);
     4 "unnamed byte under an unknown deed"
-        |random, list| unknown_code(random, list, ACTION, 4, &[8, 9, 10, 11, 12, 13, 14, 15]);
+        |random, list| unknown_code(random, list, ACTION, 4, &[10, 11]);
     5 "priority 0" |random, list| byte(random, list, TRANSITION, any, 1, &[0]);
     5 "priority above 16" |random, list| byte(random, list, TRANSITION, any, 1, &[17, 18, 128, 255]);
     5 "unknown trigger" |random, list| byte(random, list, TRANSITION, any, 6, &[4, 5, 255]);
     5 "unknown trigger, bytes passed over"
         |random, list| unknown_code(random, list, TRANSITION, 6, &[7, 8, 9, 10, 11]);
     5 "event above 31" |random, list| byte(random, list, TRANSITION, |r| r[6] == 1, 7, &[32, 33, 64, 255]);
-    5 "0 milliseconds" |random, list| milliseconds(random, list, &[0]);
-    5 "too many milliseconds"
-        |random, list| milliseconds(random, list, &[3_600_001, 3_600_049, 3_600_050, 1 << 31, u32::MAX]);
+    5 "0 milliseconds" |random, list| milliseconds(random, list, TRANSITION, &[0]);
+    5 "too many milliseconds" |random, list| milliseconds(random, list, TRANSITION, TOO_MANY);
+    5 "0 milliseconds of a waiting action" |random, list| milliseconds(random, list, ACTION, &[0]);
+    5 "too many milliseconds of a waiting action" |random, list| milliseconds(random, list, ACTION, TOO_MANY);
+    5 "waiting without milliseconds" |random, list| byte(random, list, ACTION, |r| r[1] < 4, 1, &[4]);
     5 "start below lowest"
         |random, list| range(random, list, VARIABLE, &[(0, 5, -1), (-1, 5, -2), (300, 400, 299), (-32_767, 0, -32_768)]);
     5 "start above highest"
@@ -117,9 +128,13 @@ pub const DAMAGES: &[Damage] = damages! {
     5 "unknown operator" |random, list| byte(random, list, NODE, any, 1, &[0, 9, 15, 22, 255]);
     5 "unknown operator, bytes passed over"
         |random, list| unknown_code(random, list, NODE, 1, &[2, 3, 4, 5, 6, 7, 8, 9, 10, 11]);
-    5 "unknown place" |random, list| byte(random, list, ACTION, any, 1, &[0, 4, 255]);
+    5 "unknown place" |random, list| byte(random, list, ACTION, any, 1, &[0, 5, 255]);
+    5 "unknown place, bytes passed over"
+        |random, list| unknown_code(random, list, ACTION, 1, &[12, 13, 14, 15]);
+    5 "unknown place, any guard" |random, list| unknown_code(random, list, ACTION, 1, &[8, 9]);
     5 "unknown deed" |random, list| byte(random, list, ACTION, any, 4, &[0, 3, 255]);
     5 "unknown deed, bytes passed over" |random, list| unknown_code(random, list, ACTION, 4, &[6, 7]);
+    5 "unknown deed, any guard" |random, list| unknown_code(random, list, ACTION, 4, &[8, 9]);
     5 "raised event above 31"
         |random, list| byte(random, list, ACTION, |r| r[4] == RAISE, 5, &[32, 63, 64, 255]);
     6 "no such initial state" |random, list| names_none(random, list, CHART, any, 2, STATE);
@@ -132,11 +147,16 @@ pub const DAMAGES: &[Damage] = damages! {
     6 "no such second operand"
         |random, list| names_none(random, list, NODE, |r| r[1] >= 3 && r[1] != 19, 4, NODE);
     6 "no such third operand" |random, list| names_none(random, list, NODE, |r| r[1] == 8, 6, NODE);
-    6 "no such state as owner" |random, list| names_none(random, list, ACTION, |r| r[1] != 3, 2, STATE);
+    6 "no such state as owner" |random, list| names_none(random, list, ACTION, |r| r[1] < 3, 2, STATE);
+    6 "no such state that waits" |random, list| names_none(random, list, ACTION, |r| r[1] == 4, 2, STATE);
     6 "no such transition as owner"
         |random, list| names_none(random, list, ACTION, |r| r[1] == 3, 2, TRANSITION);
     6 "no such variable assigned" no_such_variable_assigned;
     6 "no such node assigned" |random, list| names_none(random, list, ACTION, |r| r[4] == 1, 6, NODE);
+    6 "no such guard of an assignment" |random, list| no_such_action_guard(random, list, ASSIGN);
+    6 "no such guard of a raise" |random, list| no_such_action_guard(random, list, RAISE);
+    6 "guard FF FF of an action"
+        |random, list| list.change(random, ACTION, any, |_, record| write_u16(record, 8, u16::MAX));
     7 "target in another chart" target_elsewhere;
     7 "source in another chart" source_elsewhere;
     7 "initial state of another chart" initial_elsewhere;
@@ -150,6 +170,9 @@ pub const DAMAGES: &[Damage] = damages! {
     7 "equal priorities" equal_priorities;
     7 "ninth action of a state" |random, list| ninth_action(random, list, STATE, &[ENTRY, EXIT]);
     7 "ninth entry action" |random, list| ninth_action(random, list, STATE, &[ENTRY]);
+    7 "ninth action of a state that waits"
+        |random, list| ninth_action(random, list, STATE, &[ENTRY, EXIT, WAITING]);
+    7 "ninth waiting action" |random, list| ninth_action(random, list, STATE, &[WAITING]);
     7 "ninth action of a transition" |random, list| ninth_action(random, list, TRANSITION, &[ON_TRANSITION]);
     8 "operand of its own" |random, list| operand_not_lower(random, list, true);
     8 "operand higher" |random, list| operand_not_lower(random, list, false);
@@ -163,10 +186,27 @@ pub const DAMAGES: &[Damage] = damages! {
     8 "node used twice as assigned" assigned_used_twice;
     8 "node used twice as an operand" operand_used_twice;
     8 "guard that is also an operand" guard_also_operand;
-    // 50 often, which is 0 only because a half goes to the even tick.
-    9 "timing trigger of 0 ticks"
-        |random, list| milliseconds(random, list, &[1, 2, 25, 48, 49, 50, 50, 50, 50]);
+    8 "action's guard that is a number" |random, list| change_one_sort(random, list, action_guards(list));
+    8 "action's guard that is its number" action_guard_its_number;
+    8 "action's guard left out"
+        |random, list| list.change(random, ACTION, has_guard, |_, record| write_u16(record, 8, 0));
+    8 "guard of two actions"
+        |random, list| share_with_action(random, list, |r| !has_guard(r), action_guards(list));
+    8 "guard of an assignment and a transition"
+        |random, list| share_with_action(random, list, |r| r[4] == ASSIGN, guards(list));
+    8 "guard of a raise and a transition"
+        |random, list| share_with_action(random, list, |r| r[4] == RAISE, guards(list));
+    8 "action's guard that is also an operand"
+        |random, list| share_with_action(random, list, any, truth_operands(list));
+    9 "timing trigger of 0 ticks" |random, list| milliseconds(random, list, TRANSITION, ZERO_TICKS);
+    9 "waiting action of 0 ticks" |random, list| milliseconds(random, list, ACTION, ZERO_TICKS);
+    25 "another time of a waiting action" other_waiting_time;
+    25 "two more waiting actions that differ" two_more_that_differ;
 };
+
+const TOO_MANY: &[u32] = &[3_600_001, 3_600_049, 3_600_050, 1 << 31, u32::MAX];
+/// 50 often, which is 0 only because a half goes to the even tick.
+const ZERO_TICKS: &[u32] = &[1, 2, 25, 48, 49, 50, 50, 50, 50];
 
 fn unknown_kind(random: &mut Random, list: &mut RecordList) -> bool {
     if list.records.is_empty() {
@@ -204,15 +244,74 @@ fn raise_of_unknown_place(random: &mut Random, list: &mut RecordList) -> bool {
         ACTION,
         |r| r[4] == RAISE,
         |random, record| {
-            record[1] = random.pick(&[0, 4, 200]);
+            record[1] = random.pick(&[0, 5, 200]);
             shared::stray(random, record, &[6, 7]);
         },
     )
 }
 
-fn milliseconds(random: &mut Random, list: &mut RecordList, values: &[u32]) -> bool {
+/// What the use of the milliseconds hangs on is the place; an unknown deed excuses none.
+fn waits_nowhere_by_unknown_deed(random: &mut Random, list: &mut RecordList) -> bool {
+    list.change(
+        random,
+        ACTION,
+        |r| r[1] != WAITING,
+        |random, record| {
+            record[4] = random.pick(&[0, 3, 200]);
+            shared::stray(random, record, &[12, 13, 14, 15]);
+        },
+    )
+}
+
+fn write_time(record: &mut Record, milliseconds: u32) {
+    write_u32(record, time_at(record).expect("a record with a time"), milliseconds);
+}
+
+/// Another time of a timing trigger, or of a waiting action.
+fn milliseconds(random: &mut Random, list: &mut RecordList, kind: u8, values: &[u32]) -> bool {
     let timed = |r: &Record| time_of(r).is_some();
-    list.change(random, TRANSITION, timed, |random, record| write_u32(record, 8, random.pick(values)))
+    list.change(random, kind, timed, |random, record| write_time(record, random.pick(values)))
+}
+
+fn waiting_in(list: &RecordList, state: u16) -> Vec<usize> {
+    list.numbers(ACTION, |r| r[1] == WAITING && read_u16(r, 2) == state)
+}
+
+/// Next to a time, of as many ticks often, or far from it.
+fn time_beside(random: &mut Random, time: u32) -> u32 {
+    let (less, more) = if time > 51 { (time - 1, time + 1) } else { (time + 2, time + 1) };
+    random.pick(&[less, more, more, 51 + time % 1_000_000, 100]).min(MOST_MILLISECONDS)
+}
+
+fn other_waiting_time(random: &mut Random, list: &mut RecordList) -> bool {
+    let not_alone = |r: &Record| r[1] == WAITING && waiting_in(list, read_u16(r, 2)).len() > 1;
+    let Some(number) = list.pick(random, ACTION, not_alone) else {
+        return false;
+    };
+    let mut record = list.get(ACTION, number);
+    let time = time_of(&record).expect("a waiting action");
+    let other = time_beside(random, time);
+    write_time(&mut record, other);
+    list.set(ACTION, number, record);
+    other != time
+}
+
+/// A state gets two more waiting actions, whose times differ from each other.
+fn two_more_that_differ(random: &mut Random, list: &mut RecordList) -> bool {
+    let of_state =
+        |state: u16| list.numbers(ACTION, |r| r[1] != ON_TRANSITION && read_u16(r, 2) == state).len();
+    let states = (0u16..).take(list.count(STATE));
+    let fit: Vec<u16> = states.filter(|state| of_state(*state) + 2 <= ACTIONS_PER_OWNER).collect();
+    if fit.is_empty() || list.count(ACTION) + 2 > most(ACTION) {
+        return false;
+    }
+    let state = random.pick(&fit);
+    let time = random.pick(&[51, 200, 249, 250, 3_599_999]);
+    for milliseconds in [time, time + 1] {
+        let raise = assemble::action(WAITING, state, Deed::Raise { event: random.u8_between(0, 31) });
+        list.append(assemble::at_each(raise, milliseconds));
+    }
+    true
 }
 
 /// A 16-bit number that names no record of a kind: the first past them, or a far one.
@@ -243,6 +342,12 @@ fn no_such_chart(random: &mut Random, list: &mut RecordList) -> bool {
 fn no_such_guard(random: &mut Random, list: &mut RecordList) -> bool {
     let number = beyond(random, list, NODE).min(u16::MAX - 1);
     list.change(random, TRANSITION, any, |_, record| write_u16(record, 12, number))
+}
+
+/// The bytes of an action's guard hold its node plus one: the last that names nothing is 65,534.
+fn no_such_action_guard(random: &mut Random, list: &mut RecordList, deed: u8) -> bool {
+    let number = beyond(random, list, NODE).min(u16::MAX - 1);
+    list.change(random, ACTION, |r| r[4] == deed, |_, record| *record = assemble::done_if(*record, number))
 }
 
 fn no_such_variable_assigned(random: &mut Random, list: &mut RecordList) -> bool {
@@ -383,10 +488,15 @@ fn initial_entered(random: &mut Random, list: &mut RecordList) -> bool {
     true
 }
 
-/// Adds a raise; a full file has an action replaced, which may leave a node without use, but 8 is
-/// a higher number than 7.
+/// Adds a raise, a waiting one of the state's time; a full file has an action replaced, which may leave a node without use,
+/// but 8 is a higher number than 7.
 fn add_raise(random: &mut Random, list: &mut RecordList, place: u8, owner: u16) {
-    let raise = assemble::action(place, owner, Deed::Raise { event: random.u8_between(0, 31) });
+    let mut raise = assemble::action(place, owner, Deed::Raise { event: random.u8_between(0, 31) });
+    if place == WAITING {
+        let others = waiting_in(list, owner);
+        let time = others.first().and_then(|number| time_of(&list.get(ACTION, *number)));
+        raise = assemble::at_each(raise, time.unwrap_or(200));
+    }
     if list.count(ACTION) < 512 {
         list.append(raise);
     } else {
@@ -417,6 +527,8 @@ fn equal_priorities(random: &mut Random, list: &mut RecordList) -> bool {
 
 fn ninth_action(random: &mut Random, list: &mut RecordList, owners: u8, places: &[u8]) -> bool {
     let owner = match owners {
+        // An initial state may have waiting actions, and so one too many.
+        STATE if places == [WAITING] => random.index(list.count(STATE)),
         STATE => random.pick(&plain_states(list, |_| true)),
         _ => random.index(list.count(TRANSITION)),
     };
@@ -515,14 +627,50 @@ fn number_operand_made_truth(random: &mut Random, list: &mut RecordList) -> bool
     change_one_sort(random, list, operands)
 }
 
+fn truth_operands(list: &RecordList) -> Vec<u16> {
+    operands_of(list, Sort::Truth).into_iter().map(|(_, _, operand)| operand).collect()
+}
+
 fn truth_operand_made_number(random: &mut Random, list: &mut RecordList) -> bool {
-    let operands = operands_of(list, Sort::Truth).into_iter().map(|(_, _, operand)| operand).collect();
-    change_one_sort(random, list, operands)
+    change_one_sort(random, list, truth_operands(list))
 }
 
 fn guards(list: &RecordList) -> Vec<u16> {
     let guarded = list.numbers(TRANSITION, |r| read_u16(r, 12) != NONE);
     guarded.iter().map(|number| read_u16(&list.get(TRANSITION, *number), 12)).collect()
+}
+
+fn has_guard(action: &Record) -> bool {
+    deed_guard(action).is_some()
+}
+
+fn action_guards(list: &RecordList) -> Vec<u16> {
+    let guarded = list.numbers(ACTION, has_guard);
+    guarded.iter().filter_map(|number| deed_guard(&list.get(ACTION, *number))).collect()
+}
+
+/// An action takes a guard that is in use already.
+fn share_with_action(
+    random: &mut Random,
+    list: &mut RecordList,
+    fits: fn(&Record) -> bool,
+    used: Vec<u16>,
+) -> bool {
+    let other = |r: &Record| fits(r) && used.iter().any(|node| Some(*node) != deed_guard(r));
+    list.change(random, ACTION, other, |random, record| {
+        let others: Vec<u16> =
+            used.iter().copied().filter(|node| Some(*node) != deed_guard(record)).collect();
+        *record = assemble::done_if(*record, random.pick(&others));
+    })
+}
+
+fn action_guard_its_number(random: &mut Random, list: &mut RecordList) -> bool {
+    list.change(
+        random,
+        ACTION,
+        |r| r[4] == ASSIGN,
+        |_, record| *record = assemble::done_if(*record, read_u16(record, 6)),
+    )
 }
 
 fn assigned(list: &RecordList) -> Vec<u16> {
@@ -586,8 +734,7 @@ fn operand_used_twice(random: &mut Random, list: &mut RecordList) -> bool {
 
 /// A guard names a truth that is an operand already.
 fn guard_also_operand(random: &mut Random, list: &mut RecordList) -> bool {
-    let truths: Vec<u16> =
-        operands_of(list, Sort::Truth).into_iter().map(|(_, _, operand)| operand).collect();
+    let truths = truth_operands(list);
     let guarded = |r: &Record| read_u16(r, 12) != NONE;
     !truths.is_empty()
         && list

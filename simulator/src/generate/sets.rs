@@ -1,6 +1,8 @@
 //! Valid chart sets: tiny, middling, and of the largest sizes.
 
 use super::expressions::{number_size_possible, number_within, renumber, Grower, Style};
+use super::guarded_sets::guarded_set;
+use super::idling_sets::idling_set;
 use super::times::time_from;
 use super::waiting_sets::waiting_set;
 use crate::assemble::*;
@@ -27,9 +29,12 @@ struct Plan {
     actions: usize,
     /// The exact number of nodes, or a small size for each expression.
     nodes: Option<usize>,
-    /// How often in 16 a guard may fault, and an assignment may leave its variable.
+    /// How often in 16 an action has a guard, a guard may fault, and an assignment may leave its variable.
+    guarded_actions: usize,
     daring_guards: usize,
     daring_deeds: usize,
+    /// The last place that actions have: with waiting ones, or without.
+    last_place: u8,
     /// The events that triggers and raises use.
     events: Vec<u8>,
 }
@@ -49,9 +54,11 @@ impl Plan {
             variables,
             actions,
             nodes,
+            guarded_actions: random.pick(if exact { &[0, 2, 2, 2] } else { &[0, 3, 6, 12] }),
             // In the largest sets there are enough expressions for a few daring ones to be met.
             daring_guards: random.pick(if exact { &[0, 0, 1, 1] } else { &[0, 0, 1, 4] }),
             daring_deeds: random.pick(if exact { &[0, 0, 0, 1] } else { &[0, 0, 1, 6] }),
+            last_place: random.pick(&[ON_TRANSITION, WAITING]),
             events: (0..2 + random.below(5)).map(|_| random.u8_between(0, EVENTS - 1)).collect(),
         }
     }
@@ -68,20 +75,32 @@ pub fn valid_set(random: &mut Random, size: Size) -> Vec<u8> {
     maker.make_variables();
     let guards = maker.choose_guards();
     let owners = maker.choose_owners();
-    let assigns = maker.choose_deeds(owners.len());
-    maker.make_expressions(&guards, &owners, &assigns);
+    let sketches = maker.choose_deeds(&owners);
+    maker.make_expressions(&guards, &sketches);
     maker.parts.bytes()
 }
 
-/// An accepted set of any size, the largest seldom, or one with due times that wait.
+/// An accepted set of any size, the largest seldom, or one whose actions see each other through their guards, one whose
+/// states act while they idle, or one with due times that wait.
 pub fn any_valid_set(random: &mut Random) -> Vec<u8> {
     let size = match random.below(40) {
         0 => Size::Largest,
-        1..=19 => Size::Middling,
-        20..=35 => Size::Tiny,
+        1..=15 => Size::Middling,
+        16..=27 => Size::Tiny,
+        28..=31 => return guarded_set(random),
+        32..=35 => return idling_set(random),
         _ => return waiting_set(random),
     };
     valid_set(random, size)
+}
+
+/// What an action is to be before its expressions are made.
+struct Sketch {
+    place: u8,
+    owner: u16,
+    /// The variable it assigns, or none for a raise.
+    assigns: Option<usize>,
+    guarded: bool,
 }
 
 struct Maker<'a> {
@@ -198,7 +217,7 @@ impl Maker<'_> {
         guards
     }
 
-    /// Place and owner of each action; at most 8 an owner, none of an initial state.
+    /// Place and owner of each action; at most 8 an owner, of an initial state only waiting ones.
     fn choose_owners(&mut self) -> Vec<(u8, u16)> {
         let states = self
             .states_where(|maker, state| !maker.initial.iter().any(|initial| usize::from(*initial) == state));
@@ -206,14 +225,14 @@ impl Maker<'_> {
         let mut of_state = vec![0; self.chart_of.len()];
         let mut of_transition = vec![0; self.parts.transitions.len()];
         for _ in 0..8 * self.plan.actions {
-            let place = self.random.u8_between(ENTRY, ON_TRANSITION);
-            let (owner, count) = if place == ON_TRANSITION {
-                let owner = self.random.index(of_transition.len());
-                (owner, &mut of_transition[usize::from(owner)])
-            } else {
-                let owner = self.random.pick(&states);
-                (owner, &mut of_state[usize::from(owner)])
+            let place = self.random.u8_between(ENTRY, self.plan.last_place);
+            let owner = match place {
+                ON_TRANSITION => self.random.index(of_transition.len()),
+                WAITING => self.random.index(of_state.len()),
+                _ => self.random.pick(&states),
             };
+            let counts = if place == ON_TRANSITION { &mut of_transition } else { &mut of_state };
+            let count = &mut counts[usize::from(owner)];
             if *count < ACTIONS_PER_OWNER && owners.len() < self.plan.actions {
                 *count += 1;
                 owners.push((place, owner));
@@ -222,25 +241,30 @@ impl Maker<'_> {
         owners
     }
 
-    /// For each action the variable it assigns, or none for a raise.
-    fn choose_deeds(&mut self, actions: usize) -> Vec<Option<usize>> {
+    fn choose_deeds(&mut self, owners: &[(u8, u16)]) -> Vec<Sketch> {
         let variables = self.plan.variables;
         // With an exact number of nodes, too many assignments would not leave room for guards.
         let often = if self.plan.nodes.is_some() { 8 } else { 12 };
-        (0..actions)
-            .map(|_| (variables > 0 && self.random.chance(often, 16)).then(|| self.random.below(variables)))
-            .collect()
+        let sketch = |(place, owner): &(u8, u16)| Sketch {
+            place: *place,
+            owner: *owner,
+            assigns: (variables > 0 && self.random.chance(often, 16)).then(|| self.random.below(variables)),
+            guarded: self.random.chance(self.plan.guarded_actions, 16),
+        };
+        owners.iter().map(sketch).collect()
     }
 
-    fn make_expressions(&mut self, guards: &[usize], owners: &[(u8, u16)], assigns: &[Option<usize>]) {
-        let assigned: Vec<usize> = assigns.iter().flatten().copied().collect();
-        let sizes = self.sizes(guards.len(), assigned.len());
+    /// The guards of the transitions given, then those of the actions, then the assigned numbers.
+    fn make_expressions(&mut self, guards: &[usize], sketches: &[Sketch]) {
+        let truths = guards.len() + sketches.iter().filter(|sketch| sketch.guarded).count();
+        let assigned: Vec<usize> = sketches.iter().filter_map(|sketch| sketch.assigns).collect();
+        let sizes = self.sizes(truths, assigned.len());
         let mut nodes = Vec::new();
         let mut roots = Vec::new();
-        for size in &sizes[..guards.len()] {
+        for size in &sizes[..truths] {
             roots.push(self.guard(&mut nodes, *size));
         }
-        for (variable, size) in assigned.iter().zip(&sizes[guards.len()..]) {
+        for (variable, size) in assigned.iter().zip(&sizes[truths..]) {
             roots.push(self.assigned_number(&mut nodes, *size, *variable));
         }
         let (nodes, number) = if self.random.chance(1, 2) {
@@ -250,20 +274,32 @@ impl Maker<'_> {
             (nodes, same)
         };
         self.parts.nodes = nodes;
-        let mut roots = roots.into_iter().map(|root| number[usize::from(root)]);
-        for guard in guards {
-            let root = roots.next().expect("a root for each guard");
-            self.parts.transitions[*guard] = guarded(self.parts.transitions[*guard], root);
+        let roots: Vec<u16> = roots.into_iter().map(|root| number[usize::from(root)]).collect();
+        for (guard, root) in guards.iter().zip(&roots) {
+            self.parts.transitions[*guard] = guarded(self.parts.transitions[*guard], *root);
         }
-        for ((place, owner), assign) in owners.iter().zip(assigns) {
-            let deed = match assign {
+        self.make_actions(sketches, &roots[guards.len()..truths], &roots[truths..]);
+    }
+
+    fn make_actions(&mut self, sketches: &[Sketch], guards: &[u16], numbers: &[u16]) {
+        let (mut guards, mut numbers) = (guards.iter(), numbers.iter());
+        let times: Vec<u32> = self.chart_of.iter().map(|_| milliseconds(self.random)).collect();
+        for sketch in sketches {
+            let deed = match sketch.assigns {
                 Some(variable) => Deed::Assign {
-                    variable: u8::try_from(*variable).expect("at most 64"),
-                    node: roots.next().expect("a root for each assignment"),
+                    variable: u8::try_from(variable).expect("at most 64"),
+                    node: *numbers.next().expect("a number for each assignment"),
                 },
                 None => Deed::Raise { event: self.random.pick(&self.plan.events) },
             };
-            self.parts.actions.push(action(*place, *owner, deed));
+            let mut record = action(sketch.place, sketch.owner, deed);
+            if sketch.place == WAITING {
+                record = at_each(record, times[usize::from(sketch.owner)]);
+            }
+            if sketch.guarded {
+                record = done_if(record, *guards.next().expect("a guard for each guarded action"));
+            }
+            self.parts.actions.push(record);
         }
     }
 

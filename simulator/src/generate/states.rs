@@ -47,6 +47,27 @@ pub fn late_automata(random: &mut Random, table: &AutomataTable, calls: usize) -
     AutomataRun { cycles: late_count(random, run.position), ..run }
 }
 
+/// A reached run whose charts stand at any age that is possible, 0 and those at which waiting actions are due among them.
+pub fn aged_charts(random: &mut Random, set: &ChartSet, calls: usize) -> ChartsRun {
+    let mut run = reached_charts(random, set, calls);
+    run.cycles = run.cycles.max(random.pick(&[1, 20, 400_000]));
+    for (age, state) in run.ages.iter_mut().zip(run.states).take(set.charts()) {
+        let ticks = set.waiting[usize::from(state)].as_ref().map_or(1, |waiting| waiting.ticks);
+        let due = ticks.saturating_mul(random.u32_between(0, 9));
+        *age = random.pick(&[0, due, due, due + 1, run.cycles]).min(run.cycles);
+    }
+    run
+}
+
+/// A reached run of automata with any clocks that are possible.
+pub fn aged_automata(random: &mut Random, table: &AutomataTable, calls: usize) -> AutomataRun {
+    let mut run = reached_automata(random, table, calls);
+    for (value, clock) in run.clocks.iter_mut().zip(&table.clocks) {
+        *value = random.pick(&[0, 1, clock.top() - 1, clock.top(), *value]).min(clock.top());
+    }
+    run
+}
+
 /// A run of any bits, so that most places are impossible.
 pub fn wild_charts(random: &mut Random) -> ChartsRun {
     let mut run = ChartsRun::ZERO;

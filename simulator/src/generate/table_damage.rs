@@ -2,6 +2,7 @@
 
 use super::record_list::shared::{any, byte, range, unnamed, unused};
 use super::record_list::{shared, Damage, RecordList};
+use crate::assemble::done_if;
 use crate::random::Random;
 use crate::records::*;
 
@@ -24,15 +25,15 @@ pub const DAMAGES: &[Damage] = damages! {
     "unknown kind" unknown_kind;
     "no automaton" |_, list| { list.remove_kind(AUTOMATON); true };
     "no records" shared::empty;
-    "too many automata" |_, list| { list.fill(AUTOMATON, 9); true };
-    "too many locations" |_, list| { list.fill(LOCATION, 129); true };
-    "too many edges" |_, list| list.count(EDGE) > 0 && { list.fill(EDGE, 385); true };
-    "too many literals" |_, list| list.count(LITERAL) > 0 && { list.fill(LITERAL, 2_433); true };
-    "too many clocks" |_, list| list.count(CLOCK) > 0 && { list.fill(CLOCK, 257); true };
-    "too many variables" |_, list| list.count(TWIN_VARIABLE) > 0 && { list.fill(TWIN_VARIABLE, 65); true };
+    "too many automata" |_, list| too_many(list, AUTOMATON);
+    "too many locations" |_, list| too_many(list, LOCATION);
+    "too many edges" |_, list| too_many(list, EDGE);
+    "too many literals" |_, list| too_many(list, LITERAL);
+    "too many clocks" |_, list| too_many(list, CLOCK);
+    "too many variables" |_, list| too_many(list, TWIN_VARIABLE);
     "too many nodes" too_many_nodes;
-    "too many updates" |_, list| list.count(UPDATE) > 0 && { list.fill(UPDATE, 6_145); true };
-    "too many resets" |_, list| list.count(RESET) > 0 && { list.fill(RESET, 4_097); true };
+    "too many updates" |_, list| too_many(list, UPDATE);
+    "too many resets" |_, list| too_many(list, RESET);
     "unnamed byte of an automaton" |random, list| unnamed(random, list, AUTOMATON, &[1, 4, 7, 15]);
     "unnamed byte of a location" |random, list| unnamed(random, list, LOCATION, &[2, 3, 9, 15]);
     "unnamed byte of an edge" |random, list| unnamed(random, list, EDGE, &[7, 8, 15]);
@@ -40,7 +41,8 @@ pub const DAMAGES: &[Damage] = damages! {
     "unnamed byte of a clock" |random, list| unnamed(random, list, CLOCK, &[4, 5, 15]);
     "unnamed byte of a variable" |random, list| unnamed(random, list, TWIN_VARIABLE, &[1, 8, 15]);
     "unnamed byte of a node" |random, list| unnamed(random, list, TWIN_NODE, &[12, 13, 14, 15]);
-    "unnamed byte of an update" |random, list| unnamed(random, list, UPDATE, &[5, 8, 9, 15]);
+    "unnamed byte of an update"
+        |random, list| unnamed(random, list, UPDATE, &[5, 10, 11, 12, 13, 14, 15]);
     "unnamed byte of a reset" |random, list| unnamed(random, list, RESET, &[1, 6, 7, 15]);
     "unused byte under no trigger" |random, list| unused(random, list, LITERAL, 4, &[0], &[5, 6, 7]);
     "unused byte under an event" |random, list| unused(random, list, LITERAL, 4, &[1], &[6, 7]);
@@ -77,6 +79,8 @@ pub const DAMAGES: &[Damage] = damages! {
     "no such edge of an update" |random, list| names_none(random, list, UPDATE, any, 2, EDGE);
     "no such variable assigned" |random, list| no_such_variable(random, list);
     "no such node assigned" |random, list| names_none(random, list, UPDATE, |r| r[1] == 1, 6, TWIN_NODE);
+    "no such guard of an assignment" |random, list| no_such_update_guard(random, list, ASSIGN);
+    "no such guard of a raise" |random, list| no_such_update_guard(random, list, RAISE);
     "no such edge of a reset" |random, list| names_none(random, list, RESET, any, 2, EDGE);
     "no such clock reset" |random, list| names_none(random, list, RESET, any, 4, CLOCK);
     "initial location elsewhere" |random, list| elsewhere(random, list, AUTOMATON, 2);
@@ -90,6 +94,7 @@ pub const DAMAGES: &[Damage] = damages! {
     "guard that is a number"
         |random, list| wrong_sort(random, list, LITERAL, 8, |r| read_u16(r, 8) != NONE, |o| o < 16);
     "assigned truth" |random, list| wrong_sort(random, list, UPDATE, 6, |r| r[1] == ASSIGN, |o| o >= 16);
+    "update's guard that is a number" update_guard_a_number;
     "operand twice in one node" operand_twice_in_one;
     "operand of two nodes" operand_of_two;
 };
@@ -100,12 +105,21 @@ fn unknown_kind(random: &mut Random, list: &mut RecordList) -> bool {
     true
 }
 
+/// One more than a table may have, by copies of the first.
+fn too_many(list: &mut RecordList, kind: u8) -> bool {
+    let some = list.count(kind) > 0;
+    if some {
+        list.fill(kind, most(kind) + 1);
+    }
+    some
+}
+
 /// More constants, so that no operand is used twice.
 fn too_many_nodes(_: &mut Random, list: &mut RecordList) -> bool {
     let mut constant = [0; RECORD_LEN];
     constant[0] = TWIN_NODE;
     constant[1] = 1;
-    while list.count(TWIN_NODE) < 1_025 {
+    while list.count(TWIN_NODE) <= most(TWIN_NODE) {
         list.append(constant);
     }
     true
@@ -130,13 +144,24 @@ fn names_none(
     at: usize,
     named: u8,
 ) -> bool {
-    let count = u16::try_from(list.count(named)).expect("at most 6,144");
+    let count = u16::try_from(list.count(named)).expect("at most 7,168");
     word(random, list, kind, fits, at, &[count, count, count + 1, u16::MAX])
 }
 
 fn no_such_guard(random: &mut Random, list: &mut RecordList) -> bool {
     let count = u16::try_from(list.count(TWIN_NODE)).expect("at most 1,024");
     word(random, list, LITERAL, any, 8, &[count, count + 1, u16::MAX - 1])
+}
+
+/// The bytes of an update's guard hold its node plus one.
+fn no_such_update_guard(random: &mut Random, list: &mut RecordList, deed: u8) -> bool {
+    let count = u16::try_from(list.count(TWIN_NODE)).expect("at most 1,024");
+    list.change(
+        random,
+        UPDATE,
+        |r| r[1] == deed,
+        |random, record| write_u16(record, 8, random.pick(&[count + 1, count + 2, u16::MAX])),
+    )
 }
 
 fn no_such_automaton(random: &mut Random, list: &mut RecordList, kind: u8) -> bool {
@@ -238,6 +263,14 @@ fn wrong_sort(
     };
     let node = u16::try_from(node).expect("at most 1,024");
     list.change(random, kind, fits, |_, record| write_u16(record, at, node))
+}
+
+fn update_guard_a_number(random: &mut Random, list: &mut RecordList) -> bool {
+    let Some(node) = list.pick(random, TWIN_NODE, |r| r[1] < 16) else {
+        return false;
+    };
+    let node = u16::try_from(node).expect("at most 1,024");
+    list.change(random, UPDATE, any, |_, record| *record = done_if(*record, node))
 }
 
 fn operand_twice_in_one(random: &mut Random, list: &mut RecordList) -> bool {

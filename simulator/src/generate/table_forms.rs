@@ -1,15 +1,18 @@
-//! What an accepted automata file has that no twin needs to have.
+//! Forms that accepted automata files have, most of them such as no twin has.
 
 use crate::automata::AutomataTable;
 use crate::node_rules::node_operands;
 use crate::records::*;
 
-pub const FORMS: [&str; 13] = [
+pub const FORMS: [&str; 16] = [
     "literals out of order",
     "updates out of order",
     "resets out of order",
     "a guard of two literals",
     "a number of two updates",
+    "an update with a guard",
+    "a guard of two updates",
+    "a guard of a literal and an update",
     "a guard or number that is an operand too",
     "a node without use",
     "an idle edge with updates",
@@ -28,8 +31,10 @@ pub fn forms(bytes: &[u8], table: &AutomataTable) -> Vec<&'static str> {
     };
     let guards = named(bytes, LITERAL, 8, |record| read_u16(record, 8) != NONE);
     let numbers = named(bytes, UPDATE, 6, |record| record[1] == ASSIGN);
+    let conditions: Vec<u16> = of_kind(bytes, UPDATE).filter_map(deed_guard).collect();
     let operands: Vec<u16> = table.nodes.iter().flat_map(node_operands).copied().collect();
-    let used = |node: u16| [&guards, &numbers, &operands].iter().any(|nodes| nodes.contains(&node));
+    let roots: Vec<u16> = [&guards[..], &numbers, &conditions].concat();
+    let used = |node: u16| roots.contains(&node) || operands.contains(&node);
     let nodes = u16::try_from(table.nodes.len()).expect("at most 1,024");
     let has = [
         out_of_order(bytes, LITERAL),
@@ -37,7 +42,10 @@ pub fn forms(bytes: &[u8], table: &AutomataTable) -> Vec<&'static str> {
         out_of_order(bytes, RESET),
         repeated(&guards),
         repeated(&numbers),
-        guards.iter().chain(&numbers).any(|node| operands.contains(node)),
+        !conditions.is_empty(),
+        repeated(&conditions),
+        conditions.iter().any(|node| guards.contains(node)),
+        roots.iter().any(|node| operands.contains(node)),
         (0..nodes).any(|node| !used(node)),
         table.edges.iter().any(|edge| edge.idle && !edge.updates.is_empty()),
         table.edges.iter().any(|edge| edge.idle && !edge.resets.is_empty()),

@@ -64,11 +64,11 @@ fn mutate(random: &mut Random, list: &mut RecordList) {
         4 => change_clock(random, list),
         5 => retarget_edge(random, list),
         6 => share_nodes(random, list),
-        7 if clocks > 0 && list.count(RESET) < 4_096 => {
+        7 if clocks > 0 && list.count(RESET) < most(RESET) => {
             let (edge, clock) = (random.index(edges), random.index(clocks));
             list.append(reset(edge, clock));
         }
-        _ if list.count(UPDATE) < 6_144 => {
+        _ if list.count(UPDATE) < most(UPDATE) => {
             let (edge, event) = (random.index(edges), random.u8_between(0, 31));
             list.append(update(edge, Deed::Raise { event }));
         }
@@ -129,13 +129,19 @@ fn retarget_edge(random: &mut Random, list: &mut RecordList) {
     );
 }
 
-/// A literal takes the guard of another, or an update the number of another.
+/// A literal and an update take the guard of another literal, an update the number of another, and one its guard.
 fn share_nodes(random: &mut Random, list: &mut RecordList) {
     let guarded = list.pick(random, LITERAL, |r| read_u16(r, 8) != NONE);
+    let conditional = list.pick(random, UPDATE, |r| deed_guard(r).is_some());
     let assigning = list.pick(random, UPDATE, |r| r[1] == ASSIGN);
     if let Some(other) = guarded {
         let node = read_u16(&list.get(LITERAL, other), 8);
         list.change(random, LITERAL, |_| true, |_, record| write_u16(record, 8, node));
+        list.change(random, UPDATE, |_| true, |_, record| *record = done_if(*record, node));
+    }
+    if let Some(other) = conditional {
+        let guard = read_u16(&list.get(UPDATE, other), 8);
+        list.change(random, UPDATE, |_| true, |_, record| write_u16(record, 8, guard));
     }
     if let Some(other) = assigning {
         let node = read_u16(&list.get(UPDATE, other), 6);
@@ -157,16 +163,42 @@ pub struct Counts {
 }
 
 pub const LARGEST: Counts = Counts {
-    automata: 8,
-    locations: 128,
-    edges: 384,
-    literals: 2_432,
-    clocks: 256,
-    variables: 64,
-    nodes: 1_024,
-    updates: 6_144,
-    resets: 4_096,
+    automata: most(AUTOMATON),
+    locations: most(LOCATION),
+    edges: most(EDGE),
+    literals: most(LITERAL),
+    clocks: most(CLOCK),
+    variables: most(TWIN_VARIABLE),
+    nodes: most(TWIN_NODE),
+    updates: most(UPDATE),
+    resets: most(RESET),
 };
+
+impl Counts {
+    fn of(&mut self, kind: u8) -> &mut usize {
+        match kind {
+            AUTOMATON => &mut self.automata,
+            LOCATION => &mut self.locations,
+            EDGE => &mut self.edges,
+            LITERAL => &mut self.literals,
+            CLOCK => &mut self.clocks,
+            TWIN_VARIABLE => &mut self.variables,
+            TWIN_NODE => &mut self.nodes,
+            UPDATE => &mut self.updates,
+            RESET => &mut self.resets,
+            _ => unreachable!("a kind of a table"),
+        }
+    }
+}
+
+/// A small table but for one kind, of which it has the most there may be, or so many more: then it is refused for that alone.
+pub fn filled(random: &mut Random, kind: u8, beyond: usize) -> Vec<u8> {
+    let mut counts = small_counts(random);
+    *counts.of(kind) = most(kind) + beyond;
+    counts.locations = counts.locations.max(counts.automata);
+    counts.clocks = counts.clocks.max(1);
+    hand_made(random, &counts)
+}
 
 fn small_counts(random: &mut Random) -> Counts {
     let automata = 1 + random.below(3);
@@ -286,9 +318,12 @@ fn some_literal(random: &mut Random, counts: &Counts, edge: u16, truths: &[u16])
     }
 }
 
+/// Two in five updates have a guard, which is often that of the update before.
 fn some_updates(random: &mut Random, counts: &Counts, nodes: &[Node]) -> Vec<Record> {
     let numbers = nodes_giving(nodes, Sort::Number);
+    let truths = nodes_giving(nodes, Sort::Truth);
     let assignable = counts.variables > 0 && !numbers.is_empty();
+    let mut guard = None;
     let mut records = Vec::new();
     for _ in 0..counts.updates {
         let deed = if assignable && random.chance(1, 2) {
@@ -297,7 +332,13 @@ fn some_updates(random: &mut Random, counts: &Counts, nodes: &[Node]) -> Vec<Rec
         } else {
             Deed::Raise { event: random.pick(&[0, 1, 2, 31]) }
         };
-        records.push(update(random.index(counts.edges), deed));
+        guard = match random.below(8) {
+            0 | 1 if !truths.is_empty() => Some(random.pick(&truths)),
+            2..=4 => guard,
+            _ => None,
+        };
+        let plain = update(random.index(counts.edges), deed);
+        records.push(guard.map_or(plain, |guard| done_if(plain, guard)));
     }
     records
 }

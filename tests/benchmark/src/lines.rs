@@ -4,7 +4,7 @@ use crate::guards;
 use crate::inputs::{self, Input};
 use crate::proved::Proved;
 use crate::work::{side, Side};
-use comparison::monuvaleck::{self, Stepped};
+use comparison::monuvaleck::{self, Stepped, LONGEST_TWIN};
 use std::fmt::Debug;
 use std::hash::Hash;
 use std::hint::black_box;
@@ -136,9 +136,6 @@ fn played<M: Proved<Run: SameRun> + 'static>(
     }
 }
 
-/// No twin is longer: the buffer of one who does not know the length.
-const LONGEST: usize = 232_576;
-
 fn translated(input: &'static Input, work: &'static str, room: usize) -> Line {
     let (set, table) = (&input.set, &input.table);
     let (mut machine, (kept, _)) = (Set::default(), fresh::<Set>(set));
@@ -256,7 +253,8 @@ fn lines_of(input: &'static Input) -> Vec<Line> {
     let mut lines = Vec::from(machine_lines::<Set>(input, &input.set, &CHARTS));
     lines.extend(machine_lines::<Table>(input, &input.table, &AUTOMATA));
     lines.extend([
-        translated(input, "sets translated", LONGEST),
+        // the buffer of one who does not know the length
+        translated(input, "sets translated", LONGEST_TWIN),
         translated(input, "sets translated, no room to spare", input.table.len()),
         led_back(input),
     ]);

@@ -4,7 +4,9 @@
 use crate::met::Met;
 use crate::monuvaleck::{Stepped, IDLE, TIME};
 use crate::sides::{Places, Side};
+use simulator::deeds::Scene;
 use simulator::generate::calls::{call_list, mask, Call};
+use simulator::generate::deed_outcomes::{outcomes, OUTCOMES};
 use simulator::{Answer, Random};
 
 /// A file, and what the simulator reads in it, once for many calls, or the number of its refusal.
@@ -105,6 +107,16 @@ fn took_before_fault<S: Side>(file: &S, run: &S::Run, events: u32) -> bool {
     }
 }
 
+/// What became of the guarded actions or updates of a turn, if it was a chart's or an automaton's.
+pub fn note_guarded<S: Side>(met: &mut Met, file: &S, before: &S::Run, call: Call, answer: i32) {
+    let (Call::Turn(events), 0..=IDLE | -17..=-15) = (call, answer) else { return };
+    let mut run = S::with_events(before, events);
+    let deeds = file.deeds_in_turn(&run);
+    let Places { variables: values, events, .. } = S::places(&mut run);
+    let mut scene = Scene { nodes: file.nodes(), variables: file.variables(), values, events };
+    outcomes(&mut scene, &deeds).into_iter().for_each(|outcome| met.add(outcome));
+}
+
 /// Lists of calls on runs of every kind; `also` notes more of each call.
 pub fn call_lists<S: Side>(seed: u64, also: impl Fn(&mut Met, &S, &S::Run, Call, i32)) -> Met {
     let mut random = Random::new(seed);
@@ -129,6 +141,7 @@ pub fn call_lists<S: Side>(seed: u64, also: impl Fn(&mut Met, &S, &S::Run, Call,
                 let mut before = run;
                 let answer = file.call(&mut run, call);
                 note(&mut met, call, answer);
+                note_guarded(&mut met, read, &before, call, answer);
                 also(&mut met, read, &before, call, answer);
                 let within = *S::places(&mut before).position > 1;
                 let last = *S::places(&mut run).cycles == 1_000_000;
@@ -153,6 +166,7 @@ pub fn call_lists<S: Side>(seed: u64, also: impl Fn(&mut Met, &S, &S::Run, Call,
     met.at_least(500, &["turn: 13", "turn: 14", "cycle: 13", "cycle: 14"]);
     met.at_least(100, &["turn: the last", "cycle: the last", "cycle: a fault after a step"]);
     met.at_least(100, &["turn: 15", "turn: 16", "turn: 17", "cycle: 15", "cycle: 16", "cycle: 17"]);
+    met.at_least(300, &OUTCOMES);
     met
 }
 

@@ -5,6 +5,8 @@ use simulator::{AutomataRun, ChartsRun};
 /// What a turn answers where a chart idles, and where time passes.
 pub const IDLE: i32 = 65_534;
 pub const TIME: i32 = 65_535;
+/// The most bytes of a twin.
+pub const LONGEST_TWIN: usize = 265_344;
 
 mod exported {
     use simulator::{AutomataRun, ChartsRun};

@@ -1,4 +1,4 @@
-//! The reader of chart files: accepted, and refused by 1 to 9, on valid, damaged and doubly damaged files and on any bytes.
+//! The reader of chart files: accepted, and refused by 1 to 9 and 25, on valid, damaged and doubly damaged files and on any bytes.
 
 use comparison::monuvaleck::charts_check;
 use simulator::chart_sets::zero_watch;
@@ -6,7 +6,10 @@ use simulator::charts;
 use simulator::generate::{set_damage, sets};
 use simulator::Random;
 
-fn compare(bytes: &[u8], met: &mut [usize; 10]) {
+/// How many files there were of each number, 0 for those accepted.
+type Met = [usize; 26];
+
+fn compare(bytes: &[u8], met: &mut Met) {
     let right = charts::check(bytes);
     assert_eq!(charts_check(bytes), -(right as i32), "{bytes:?}");
     let lowest = charts::applying(bytes).iter().position(|applies| *applies).unwrap_or(0);
@@ -17,7 +20,7 @@ fn compare(bytes: &[u8], met: &mut [usize; 10]) {
 #[test]
 fn damaged_once_in_each_way() {
     let mut random = Random::new(11);
-    let mut met = [0; 10];
+    let mut met = [0; 26];
     let mut damaged = vec![0; set_damage::DAMAGES.len()];
     for round in 0..14_000 {
         let set = sets::any_valid_set(&mut random);
@@ -29,7 +32,7 @@ fn damaged_once_in_each_way() {
         }
     }
     println!("files by number: {met:?}");
-    assert!(met.iter().all(|n| *n > 100), "{met:?}");
+    assert!(met[0] > 100 && set_damage::NUMBERS.iter().all(|number| met[*number as usize] > 100), "{met:?}");
     assert!(damaged.iter().all(|n| *n > 0), "{damaged:?}");
 }
 
@@ -37,7 +40,7 @@ fn damaged_once_in_each_way() {
 #[test]
 fn damaged_twice() {
     let mut random = Random::new(12);
-    let mut met = [0; 10];
+    let mut met = [0; 26];
     for (low, high) in set_damage::number_pairs() {
         let mut made = 0;
         for _ in 0..4_000 {
@@ -63,7 +66,7 @@ fn damaged_twice() {
 #[test]
 fn any_bytes() {
     let mut random = Random::new(13);
-    let mut met = [0; 10];
+    let mut met = [0; 26];
     for _ in 0..20_000 {
         let mut bytes = zero_watch();
         let at = random.below(bytes.len());

@@ -110,6 +110,20 @@ fn truncated_and_oversized() {
     met.at_least(100, &["counts"]);
 }
 
+/// The most of each kind, and one more, which alone breaks the table.
+#[test]
+fn the_most_of_each_kind() {
+    let mut random = Random::new(35);
+    let mut met = Met::default();
+    for _ in 0..10 {
+        for (kind, _) in AUTOMATA_LIMITS {
+            compare(&tables::filled(&mut random, kind, 0), &mut met);
+            compare(&tables::filled(&mut random, kind, 1), &mut met);
+        }
+    }
+    assert_eq!((met.count("accepted"), met.count("counts")), (90, 90), "{met:?}");
+}
+
 /// Single bytes changed in a small twin, and bytes of no form at all.
 #[test]
 fn any_bytes() {

@@ -3,13 +3,14 @@
 
 use comparison::met::Met;
 use comparison::monuvaleck::path_back;
+use comparison::sides::damaged;
 use simulator::chart_sets::{relay, smallest};
 use simulator::generate::buffers::{lengths, words, FILL_WORD};
 use simulator::generate::calls::{events_of_set, mask};
 use simulator::generate::paths::{broken, walk, whole_run, BREAKS};
-use simulator::generate::set_damage;
+use simulator::generate::set_damage::NUMBERS;
 use simulator::generate::sets::{any_valid_set, valid_set, Size};
-use simulator::translation::twin;
+use simulator::translation::{idle_edges, twin};
 use simulator::{interface, Answer, AutomataTable, ChartSet, Machine, Random};
 
 const TIME: u16 = 65_535;
@@ -67,6 +68,11 @@ fn paths_that_keep_the_rules() {
             0 => path_of_run(&mut random, &set, steps),
             _ => walk(&mut random, &set, steps),
         };
+        for edges in idle_edges(&set).iter().filter(|edges| edges.len() > 1) {
+            let steps = |edge: u16| path.iter().filter(|step| **step == edge).count();
+            *met.0.entry("due edges".to_string()).or_default() += steps(edges.start);
+            *met.0.entry("not-due edges".to_string()).or_default() += steps(edges.start + 1);
+        }
         let rows = compare(&bytes, &path, 3 * path.len());
         let exact = 3 * usize::try_from(rows).expect("a path that keeps the rules");
         // Also one word short, which is a row short, and one or two words of a further row.
@@ -88,7 +94,7 @@ fn paths_that_keep_the_rules() {
         2_000,
         &["21", "no rows", "rows that just fit", "rows with words beyond", "a partial row beyond"],
     );
-    met.at_least(1_000, &["short by one word"]);
+    met.at_least(1_000, &["short by one word", "due edges", "not-due edges"]);
 }
 
 #[test]
@@ -156,10 +162,7 @@ fn refused_sets() {
     let mut met = Met::default();
     for round in 0..2_700 {
         let set = any_valid_set(&mut random);
-        let number = 1 + round % 9;
-        let ways: Vec<_> = set_damage::DAMAGES.iter().filter(|way| way.number == number).collect();
-        let way = random.pick(&ways);
-        let Some(bad) = set_damage::damage(&mut random, &set, way) else {
+        let Some(bad) = damaged(&mut random, &set, round) else {
             continue;
         };
         let read = ChartSet::read(&set).expect("an accepted set");
@@ -168,11 +171,11 @@ fn refused_sets() {
             path.push(u16::MAX - 1);
         }
         let answer = compare(&bad.bytes, &path, random.pick(&[0, 2, 60]));
-        assert_eq!(answer, -i32::try_from(number).expect("small"));
-        met.add(format!("file: {number}"));
+        assert_eq!(answer, -i32::try_from(bad.number).expect("small"));
+        met.add(format!("file: {}", bad.number));
     }
     println!("refused sets: {:#?}", met.0);
-    for number in 1..=9 {
+    for number in NUMBERS {
         met.at_least(100, &[&format!("file: {number}")]);
     }
 }

@@ -3,12 +3,13 @@
 use comparison::halves::half;
 use comparison::met::Met;
 use comparison::monuvaleck::{automata_check, charts_translate};
+use comparison::sides::damaged;
 use simulator::chart_sets;
 use simulator::generate::buffers::{bytes, lengths, FILL};
-use simulator::generate::longest_twins::{longest, LENGTH};
-use simulator::generate::set_damage;
+use simulator::generate::longest_twins::{longest, most_resets, LENGTH};
+use simulator::generate::set_damage::NUMBERS;
 use simulator::generate::sets::{any_valid_set, valid_set, Size};
-use simulator::records::{whole_records, CHART_LIMITS};
+use simulator::records::*;
 use simulator::translation::twin;
 use simulator::{interface, ChartSet, Random};
 
@@ -57,6 +58,15 @@ fn sets_byte_for_byte() {
         let set = valid_set(&mut random, if round % 2 == 0 { Size::Tiny } else { Size::Middling });
         translate(&mut random, &set, &mut met);
         whole_records(&set).iter().filter_map(half).for_each(|half| met.add(half));
+        for action in whole_records(&set).iter().filter(|record| record[0] == ACTION) {
+            let of = if action[4] == ASSIGN { "an assignment" } else { "a raise" };
+            met.add(
+                deed_guard(action).map_or(format!("{of} without guard"), |_| format!("{of} with a guard")),
+            );
+            if action[1] == WAITING {
+                met.add("a waiting action");
+            }
+        }
     }
     let rings = [2, 15, 16, 17, 18, 127, 128].map(chart_sets::ring);
     for set in chart_sets::all().into_iter().map(|(_, set)| set).chain(rings) {
@@ -65,23 +75,44 @@ fn sets_byte_for_byte() {
     println!("sets translated: {:#?}", met.0);
     met.at_least(20_000, &["sets", "exact", "a byte short", "longer", "an empty buffer"]);
     met.at_least(10_000, &["a half above an even tick", "a half above an odd tick"]);
+    met.at_least(10_000, &["an assignment with a guard", "an assignment without guard"]);
+    met.at_least(10_000, &["a raise with a guard", "a raise without guard", "a waiting action"]);
 }
 
-/// Every exact half in the range of milliseconds, and the times beside it: refused by 9, or the clock's ticks.
+/// Every exact half in the range of milliseconds, and the times beside it, of a trigger and of waiting actions: refused by 9,
+/// or the clock's ticks.
 #[test]
 fn times_about_every_half() {
     let mut met = Met::default();
     for milliseconds in (0..36_000).flat_map(|tick| (49..=51).map(move |past| 100 * tick + past)) {
-        let set = chart_sets::one_after(milliseconds);
-        met.add(match compare(&set, 1_000) {
-            0.. => whole_records(&set).iter().find_map(half).unwrap_or("beside a half"),
-            -9 => "9",
-            other => panic!("{milliseconds} ms: {other}"),
-        });
+        for set in [chart_sets::one_after(milliseconds), chart_sets::two_waiting(milliseconds, milliseconds)]
+        {
+            met.add(match compare(&set, 1_000) {
+                0.. => whole_records(&set).iter().find_map(half).unwrap_or("beside a half"),
+                -9 => "9",
+                other => panic!("{milliseconds} ms: {other}"),
+            });
+        }
     }
     println!("times about every half: {:#?}", met.0);
-    met.at_least(17_999, &["a half above an even tick", "a half above an odd tick"]);
-    assert_eq!(met.count("9"), 2);
+    met.at_least(2 * 17_999, &["a half above an even tick", "a half above an odd tick"]);
+    assert_eq!(met.count("9"), 4);
+}
+
+fn count(file: &[u8], kind: u8) -> usize {
+    whole_records(file).iter().filter(|record| record[0] == kind).count()
+}
+
+/// Sets whose twins have as many edges and resets as a table may have.
+#[test]
+fn most_edges_and_resets() {
+    let mut random = Random::new(64);
+    for _ in 0..50 {
+        let set = most_resets(&mut random);
+        translate(&mut random, &set, &mut Met::default());
+        let twin = twin(&ChartSet::read(&set).expect("an accepted set"));
+        assert_eq!((count(&twin, EDGE), count(&twin, RESET)), (most(EDGE), most(RESET)));
+    }
 }
 
 /// Sets with the most of each kind, and those with the longest twins.
@@ -94,9 +125,8 @@ fn largest_sets() {
             0 => valid_set(&mut random, Size::Largest),
             _ => longest(&mut random),
         };
-        let records = whole_records(&set);
         for (kind, most) in CHART_LIMITS {
-            assert_eq!(records.iter().filter(|record| record[0] == kind).count(), most, "kind {kind}");
+            assert_eq!(count(&set, kind), most, "kind {kind}");
         }
         translate(&mut random, &set, &mut met);
         let length = twin(&ChartSet::read(&set).expect("an accepted set")).len();
@@ -113,23 +143,20 @@ fn refused_sets() {
     let mut met = Met::default();
     for round in 0..4_500 {
         let set = any_valid_set(&mut random);
-        let number = 1 + round % 9;
-        let ways: Vec<_> = set_damage::DAMAGES.iter().filter(|way| way.number == number).collect();
-        let way = random.pick(&ways);
-        let Some(bad) = set_damage::damage(&mut random, &set, way) else {
+        let Some(bad) = damaged(&mut random, &set, round) else {
             continue;
         };
         for lent in [0, 16, 4_000] {
-            assert_eq!(compare(&bad.bytes, lent), -i32::try_from(number).expect("small"));
+            assert_eq!(compare(&bad.bytes, lent), -i32::try_from(bad.number).expect("small"));
         }
-        met.add(format!("file: {number}"));
+        met.add(format!("file: {}", bad.number));
     }
     for _ in 0..10_000 {
         let noise: Vec<u8> = (0..random.below(100)).map(|_| random.pick(&[0, 0, 1, 2, 3, 4, 5, 6])).collect();
         compare(&noise, 200);
     }
     println!("refused sets: {:#?}", met.0);
-    for number in 1..=9 {
+    for number in NUMBERS {
         met.at_least(200, &[&format!("file: {number}")]);
     }
 }

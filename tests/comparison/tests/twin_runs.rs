@@ -2,8 +2,10 @@
 
 use comparison::calls;
 use comparison::met::Met;
-use simulator::chart_sets::zero_watch;
+use comparison::monuvaleck::TIME;
+use simulator::chart_sets::{two_waiting, zero_watch};
 use simulator::generate::calls::Call;
+use simulator::generate::longest_twins::most_resets;
 use simulator::generate::sets::{valid_set, Size};
 use simulator::generate::table_states::edges_read_alone;
 use simulator::generate::tables;
@@ -38,9 +40,22 @@ fn note_fault(met: &mut Met, table: &AutomataTable, run: &AutomataRun, call: Cal
     }
 }
 
+/// Of a turn that took an idle edge: whether that has updates, as those of waiting actions are.
+fn note_idle(met: &mut Met, table: &AutomataTable, call: Call, answer: i32) {
+    let (Call::Turn(_), 0..TIME) = (call, answer) else { return };
+    let edge = &table.edges[answer as usize];
+    if edge.idle {
+        met.add(if edge.updates.is_empty() { "idle" } else { "idle, with updates" });
+    }
+}
+
 #[test]
 fn call_lists() {
-    let met = calls::call_lists(51, note_fault);
+    let met = calls::call_lists(51, |met, table, before, call, answer| {
+        note_fault(met, table, before, call, answer);
+        note_idle(met, table, call, answer);
+    });
+    met.at_least(300, &["idle", "idle, with updates"]);
     met.at_least(
         2_000,
         &["turn: 13", "turn: 14", "turn: 15", "turn: 16", "turn: 17", "turn: 18", "turn: 19"],
@@ -85,11 +100,14 @@ fn many_cycles_at_once() {
 fn the_longest_run_and_the_largest_tables() {
     let twin = |set: &[u8]| simulator::translation::twin(&ChartSet::read(set).expect("an accepted set"));
     calls::the_longest_run::<AutomataTable>(twin(&zero_watch()), AutomataRun::ZERO, 56);
+    calls::the_longest_run::<AutomataTable>(twin(&two_waiting(250, 250)), AutomataRun::ZERO, 58);
     let mut random = Random::new(57);
     for _ in 0..6 {
         let set = valid_set(&mut random, Size::Largest);
         calls::a_largest_file::<AutomataTable>(&mut random, twin(&set), AutomataRun::ZERO, 2_000);
         let table = tables::hand_made(&mut random, &tables::LARGEST);
         calls::a_largest_file::<AutomataTable>(&mut random, table, AutomataRun::ZERO, 30);
+        let set = most_resets(&mut random);
+        calls::a_largest_file::<AutomataTable>(&mut random, twin(&set), AutomataRun::ZERO, 2_000);
     }
 }

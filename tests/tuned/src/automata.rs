@@ -6,7 +6,7 @@ use crate::nodes::Nodes;
 use crate::runs::{do_deeds, homes_possible, AutomataRun, Deed, Shared, Variables, CLOCKS, PARTS};
 use crate::Refusal;
 
-const MOST: [usize; 9] = [8, 128, 384, 2_432, 256, 64, 1_024, 6_144, 4_096];
+const MOST: [usize; 9] = [8, 128, 512, 2_944, CLOCKS, 64, 1_024, 7_168, 4_352];
 
 #[derive(Clone, Copy, Default)]
 struct Edge {
@@ -36,12 +36,13 @@ impl Clocks {
         let none = [0; CLOCKS];
         let mut clocks = Clocks { ticks: none, past_top: none, count: section.len() / 16 };
         let mut wrong = false;
-        for (clock, record) in records(section).enumerate() {
-            let (timing, ticks, clock) = (record.byte(1), record.u16(2), clock & 255);
+        let places = clocks.ticks.iter_mut().zip(&mut clocks.past_top);
+        for ((top, past_top), record) in places.zip(records(section)) {
+            let (timing, ticks) = (record.byte(1), record.u16(2));
             wrong |=
                 record.strays(span(0, 3)) || !(2..=3).contains(&timing) || ticks.wrapping_sub(1) >= 36_000;
-            clocks.ticks[clock] = ticks;
-            clocks.past_top[clock] = if timing == 2 { ticks } else { 1 };
+            *top = ticks;
+            *past_top = if timing == 2 { ticks } else { 1 };
         }
         (clocks, wrong)
     }
@@ -56,9 +57,9 @@ pub struct Table {
     /// By location.
     leaving: Owned<Edge, 130>,
     /// By edge.
-    literals: Owned<Literal, 386>,
-    updates: Owned<Deed, 386>,
-    resets: Owned<u16, 386>,
+    literals: Owned<Literal, 514>,
+    updates: Owned<Deed, 514>,
+    resets: Owned<u16, 514>,
     clocks: Clocks,
     variables: Variables,
     nodes: Nodes,
@@ -151,13 +152,16 @@ impl Table {
     fn updates_wrong(&self, section: &[u8], edges: usize) -> bool {
         let mut wrong = false;
         for record in records(section) {
-            let (x, node) = (record.byte(4), record.u16(6));
+            let (x, node, guard) = (record.byte(4), record.u16(6), record.guard());
             let (named, known) = match record.byte(1) {
                 1 => (span(6, 7), usize::from(x) < self.variables.count && self.nodes.is_number(node)),
                 2 => (0, x < 32),
                 _ => (0, false),
             };
-            wrong |= !known || record.strays(span(0, 4) | named) || edge_of(&record) >= edges;
+            wrong |= !known
+                || record.strays(span(0, 4) | span(8, 9) | named)
+                || edge_of(&record) >= edges
+                || guard != NONE && !self.nodes.is_truth(guard);
         }
         wrong
     }
@@ -221,7 +225,7 @@ impl Table {
             must: record.byte(1) == 1,
         });
         self.updates.fill(count, records(updates), edge_of, |_, record| {
-            Deed::of(record.byte(1), record.byte(4), record.u16(6))
+            Deed::of(record.byte(1), record.byte(4), record.u16(6), record.guard())
         });
         self.resets.fill(count, records(resets), edge_of, |_, record| record.u16(4));
     }
@@ -235,7 +239,7 @@ impl Table {
                 0 => true,
                 1 => run.shared.events & literal.mask != 0,
                 _ => {
-                    let clock = usize::from(literal.clock) & (CLOCKS - 1);
+                    let clock = usize::from(literal.clock);
                     run.clocks[clock] == self.clocks.ticks[clock]
                 }
             };
@@ -309,7 +313,7 @@ impl Machine for Table {
         let number = usize::from(edge.number);
         do_deeds(&self.nodes, &self.variables, self.updates.of(number), &mut run.shared)?;
         for clock in self.resets.of(number) {
-            run.clocks[usize::from(*clock) & (CLOCKS - 1)] = 0;
+            run.clocks[usize::from(*clock)] = 0;
         }
         run.locations[automaton] = edge.target;
         run.shared.position += 1;

@@ -1,4 +1,4 @@
-//! Chart sets: refusals 1 to 9, the decoded set, a chart's turn.
+//! Chart sets: refusals 1 to 9 and 25, the decoded set, a chart's turn.
 
 use crate::files::{records, sections, span, Found, Owned, Record, NONE};
 use crate::machine::{Answer, Machine};
@@ -12,6 +12,9 @@ pub const ALWAYS: u8 = 0;
 pub const EVENT: u8 = 1;
 pub const AFTER: u8 = 2;
 pub const EVERY: u8 = 3;
+
+/// The place of an action that is done while its state idles.
+const WAITING: u8 = 4;
 
 #[derive(Clone, Copy, Default)]
 pub struct Transition {
@@ -42,8 +45,18 @@ pub struct Set {
     first_of_row: [u16; 129],
     pub variables: Variables,
     pub nodes: Nodes,
-    /// By key: entry of each state, exit of each state, then each transition's.
-    deeds: Owned<Deed, 514>,
+    /// By key: entry of each state, exit of each state, each transition's, then waiting of each state.
+    deeds: Owned<Deed, 642>,
+    /// Of each state the ticks of its waiting actions; 0 where it has none.
+    pub waiting: [u32; 128],
+    /// No state from here on has any.
+    pub waiting_end: usize,
+}
+
+/// What the times of waiting actions are refused by, if nothing comes before: 9 and 25.
+struct Waiting {
+    zero: bool,
+    differ: bool,
 }
 
 impl Default for Set {
@@ -59,8 +72,35 @@ impl Default for Set {
             variables: Variables::read(&[]).0,
             nodes: Nodes::default(),
             deeds: Owned::default(),
+            waiting: [0; 128],
+            waiting_end: 0,
         }
     }
+}
+
+/// Whether so many milliseconds are no time of a set.
+#[inline(always)]
+fn no_time(milliseconds: u32) -> bool {
+    milliseconds.wrapping_sub(1) >= 3_600_000
+}
+
+/// 49 more takes an exact half down, 50 more takes it up: to the even tick.
+#[inline(always)]
+fn ticks(milliseconds: u32) -> u32 {
+    let odd = milliseconds / 100 & 1;
+    milliseconds.wrapping_add(49 + odd) / 100
+}
+
+/// At the positive multiples of ticks, which are not 0.
+#[inline(always)]
+fn due(age: u32, ticks: u32) -> bool {
+    age >= ticks && age.is_multiple_of(ticks)
+}
+
+/// Of a state with waiting actions of so many ticks: due and not due; of one without, its one.
+#[inline(always)]
+pub fn idle_edges(waiting: u32) -> usize {
+    1 + usize::from(waiting != 0)
 }
 
 #[inline(always)]
@@ -76,8 +116,11 @@ fn transition_named(trigger: u8) -> u128 {
 }
 
 #[inline(always)]
-fn action_named(deed: u8) -> u128 {
-    span(0, 5) | if deed == 2 { 0 } else { span(6, 7) }
+fn action_named(place: u8, deed: u8) -> u128 {
+    span(0, 5)
+        | span(8, 9)
+        | if deed == 2 { 0 } else { span(6, 7) }
+        | if matches!(place, 1..=3) { 0 } else { span(12, 15) }
 }
 
 impl Set {
@@ -116,16 +159,13 @@ impl Set {
                 || match trigger {
                     ALWAYS => false,
                     EVENT => event >= 32,
-                    AFTER | EVERY => milliseconds.wrapping_sub(1) >= 3_600_000,
+                    AFTER | EVERY => no_time(milliseconds),
                     _ => true,
                 };
             found.dangling |= usize::from(source) >= self.states
                 || usize::from(target) >= self.states
                 || guard != NONE && usize::from(guard) >= nodes;
-            // 49 more takes an exact half down, 50 more takes it up: to the even tick.
-            let odd = milliseconds / 100 & 1;
-            let (ticks, mask) =
-                (milliseconds.wrapping_add(49 + odd) / 100, 1u32.wrapping_shl(u32::from(event)));
+            let (ticks, mask) = (ticks(milliseconds), 1u32.wrapping_shl(u32::from(event)));
             let number = number as u16;
             let read = Transition { ticks, mask, source, target, guard, number, trigger, event, priority };
             self.transitions.push(read);
@@ -133,18 +173,34 @@ impl Set {
         found
     }
 
-    fn read_actions(&self, section: &[u8]) -> Found {
+    fn read_actions(&mut self, section: &[u8]) -> (Found, Waiting) {
         let mut found = Found::default();
+        let mut waiting = Waiting { zero: false, differ: false };
+        self.waiting[..self.states].fill(0);
+        self.waiting_end = 0;
         for record in records(section) {
             let (place, deed, x) = (record.byte(1), record.byte(4), record.byte(5));
-            found.stray |= record.strays(action_named(deed));
-            found.broken |= place.wrapping_sub(1) >= 3 || deed.wrapping_sub(1) >= 2 || deed == 2 && x >= 32;
+            found.stray |= record.strays(action_named(place, deed));
+            found.broken |= place.wrapping_sub(1) >= 4 || deed.wrapping_sub(1) >= 2 || deed == 2 && x >= 32;
             let owners = if place == 3 { self.transitions.len() } else { self.states };
-            let named =
-                || usize::from(x) < self.variables.count && usize::from(record.u16(6)) < self.nodes.len();
-            found.dangling |= usize::from(record.u16(2)) >= owners || deed == 1 && !named();
+            let is_node = |node: u16| usize::from(node) < self.nodes.len();
+            found.dangling |= usize::from(record.u16(2)) >= owners
+                || deed == 1 && !(usize::from(x) < self.variables.count && is_node(record.u16(6)))
+                || record.guard() != NONE && !is_node(record.guard());
+            if place == WAITING {
+                let milliseconds = record.u32(12);
+                found.broken |= no_time(milliseconds);
+                waiting.zero |= ticks(milliseconds) == 0;
+                let state = usize::from(record.u16(2)) & 127;
+                let kept = &mut self.waiting[state];
+                waiting.differ |= *kept != 0 && *kept != milliseconds;
+                *kept = milliseconds;
+                self.waiting_end = self.waiting_end.max(state + 1);
+            }
         }
-        found
+        // The milliseconds have been compared; all that is asked of them from now on is their ticks.
+        self.waiting[..self.waiting_end].iter_mut().for_each(|time| *time = ticks(*time));
+        (found, waiting)
     }
 
     /// The rows by priority; false where two leave a state with one priority.
@@ -178,21 +234,15 @@ impl Set {
 
     /// The deeds by key; false where an owner has a ninth.
     fn order_deeds(&mut self, actions: &[u8]) -> bool {
-        let (states, keys) = (self.states, 2 * self.states + self.transitions.len());
-        let key = |record: &Record| {
-            usize::from(record.u16(2))
-                + match record.byte(1) {
-                    1 => 0,
-                    2 => states,
-                    _ => 2 * states,
-                }
-        };
-        self.deeds.fill(keys, records(actions), key, |_, record| {
-            Deed::of(record.byte(4), record.byte(5), record.u16(6))
+        let (states, waiting) = (self.states, 2 * self.states + self.transitions.len());
+        let by_place = [0, 0, states, 2 * states, waiting, 0, 0, 0];
+        let key = |record: &Record| usize::from(record.u16(2)) + by_place[usize::from(record.byte(1)) & 7];
+        self.deeds.fill(waiting + states, records(actions), key, |_, record| {
+            Deed::of(record.byte(4), record.byte(5), record.u16(6), record.guard())
         });
         let count = |key: usize| self.deeds.of(key).len();
-        (0..states).all(|state| count(state) + count(states + state) <= 8)
-            && (2 * states..keys).all(|key| count(key) <= 8)
+        (0..states).all(|state| count(state) + count(states + state) + count(waiting + state) <= 8)
+            && (2 * states..waiting).all(|key| count(key) <= 8)
     }
 
     #[inline(always)]
@@ -209,6 +259,11 @@ impl Set {
             self.deeds.of(2 * self.states + usize::from(transition.number)),
             self.deeds.of(usize::from(transition.target)),
         ]
+    }
+
+    #[inline(always)]
+    pub fn waiting_deeds(&self, state: usize) -> &[Deed] {
+        self.deeds.of(2 * self.states + self.transitions.len() + state)
     }
 
     fn structured(&self) -> bool {
@@ -239,11 +294,20 @@ impl Set {
             }
             self.nodes.add_use(transition.guard);
         }
-        for record in records(actions).filter(|record| record.byte(4) == 1) {
-            if !self.nodes.is_number(record.u16(6)) {
-                return false;
+        for record in records(actions) {
+            let (guard, node) = (record.guard(), record.u16(6));
+            if guard != NONE {
+                if !self.nodes.is_truth(guard) {
+                    return false;
+                }
+                self.nodes.add_use(guard);
             }
-            self.nodes.add_use(record.u16(6));
+            if record.byte(4) == 1 {
+                if !self.nodes.is_number(node) {
+                    return false;
+                }
+                self.nodes.add_use(node);
+            }
         }
         self.nodes.uses.iter().all(|uses| *uses == 1)
     }
@@ -254,7 +318,7 @@ impl Set {
             ALWAYS => true,
             EVENT => run.events & transition.mask != 0,
             AFTER => age >= transition.ticks,
-            _ => age >= transition.ticks && age.is_multiple_of(transition.ticks),
+            _ => due(age, transition.ticks),
         };
         Ok(triggered && (transition.guard == NONE || self.nodes.truth(&run.variables, transition.guard)?))
     }
@@ -263,7 +327,7 @@ impl Set {
 impl Machine for Set {
     type Run = ChartsRun;
 
-    /// Refused with the lowest number from 1 to 9 that applies.
+    /// Refused with the lowest number that applies, of 1 to 9 and 25.
     fn read_into(&mut self, bytes: &[u8]) -> Result<(), Refusal> {
         let [charts, states, transitions, variables, nodes, actions] = sections(bytes, 1, &MOST)?;
         self.charts = charts.len() / 16;
@@ -275,7 +339,8 @@ impl Machine for Set {
         found |= self.read_states(states);
         found |= self.read_transitions(transitions, nodes.len() / 16);
         found |= self.nodes.read_into(nodes, self.variables.count);
-        found |= self.read_actions(actions);
+        let (of_actions, waiting) = self.read_actions(actions);
+        found |= of_actions;
         if found.stray {
             Err(4)
         } else if found.broken {
@@ -286,8 +351,10 @@ impl Machine for Set {
             Err(7)
         } else if !self.nodes.ordered || !self.nodes_used_once(actions) {
             Err(8)
-        } else if self.transitions.iter().any(|t| t.trigger >= AFTER && t.ticks == 0) {
+        } else if waiting.zero || self.transitions.iter().any(|t| t.trigger >= AFTER && t.ticks == 0) {
             Err(9)
+        } else if waiting.differ {
+            Err(25)
         } else {
             Ok(())
         }
@@ -326,6 +393,11 @@ impl Machine for Set {
                 run.shared.position += 1;
                 return Ok(Answer::Taken(transition.number));
             }
+        }
+        let state = usize::from(run.states[chart]);
+        let ticks = self.waiting[state & 127];
+        if ticks != 0 && due(run.ages[chart], ticks) {
+            do_deeds(&self.nodes, &self.variables, self.waiting_deeds(state), &mut run.shared)?;
         }
         run.shared.position += 1;
         Ok(Answer::Idle)

@@ -45,6 +45,11 @@ impl Record {
     pub fn i32(self, at: usize) -> i32 {
         self.u32(at) as i32
     }
+    /// The guard of an action or update, which has its node plus one, or 0, which becomes `NONE`.
+    #[inline(always)]
+    pub fn guard(self) -> u16 {
+        self.u16(8).wrapping_sub(1)
+    }
     /// Whether a byte outside the named ones is not zero.
     #[inline(always)]
     pub fn strays(self, named: u128) -> bool {

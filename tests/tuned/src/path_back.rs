@@ -1,6 +1,6 @@
 //! A path of the twin led back: a first pass finds that it fits and how many rows it gives, a second writes them.
 
-use crate::charts::Set;
+use crate::charts::{idle_edges, Set};
 use crate::files::NONE;
 use crate::machine::MOST_CYCLES;
 use crate::runs::PARTS;
@@ -10,12 +10,15 @@ use crate::Refusal;
 fn count(set: &Set, path: &[u16]) -> Result<usize, Refusal> {
     // Of each edge both ends, idle edges behind the transitions'. A location's number is its chart's alone, so that an edge
     // which leaves where the chart in turn stands is that chart's.
-    let mut ends = [(NONE, NONE); 384];
+    let mut ends = [(NONE, NONE); 512];
     for (end, transition) in ends.iter_mut().zip(&set.transitions) {
         *end = (transition.source, transition.target);
     }
-    for (state, end) in ends[set.transitions.len()..].iter_mut().take(set.states).enumerate() {
-        *end = (state as u16, state as u16);
+    let mut idle = ends[set.transitions.len()..].iter_mut();
+    for (state, waiting) in set.waiting[..set.states].iter().enumerate() {
+        for end in idle.by_ref().take(idle_edges(*waiting)) {
+            *end = (state as u16, state as u16);
+        }
     }
     let mut standing = set.initial;
     let (mut turn, mut cycles, mut rows) = (0, 0, 0);

@@ -1,11 +1,11 @@
 //! The lent runs, variables' bounds, and deeds.
 
-use crate::files::{records, span};
+use crate::files::{records, span, NONE};
 use crate::nodes::{Nodes, Values, PLACES};
 use crate::Refusal;
 
 pub const PARTS: usize = 8;
-pub const CLOCKS: usize = 256;
+pub const CLOCKS: usize = 384;
 
 /// The last places of both runs.
 #[repr(C)]
@@ -40,7 +40,7 @@ pub struct AutomataRun {
 }
 
 // The layout is that of the C interface.
-const _: () = assert!(size_of::<ChartsRun>() == 188 && size_of::<AutomataRun>() == 668);
+const _: () = assert!(size_of::<ChartsRun>() == 188 && size_of::<AutomataRun>() == 924);
 
 pub trait Run: Copy {
     fn shared(&self) -> &Shared;
@@ -117,34 +117,38 @@ pub fn homes_possible(homes: &[u8; 128], parts: usize, at: &[u16; PARTS]) -> boo
     fine
 }
 
-/// An assignment, or the mask of a raised event.
+/// An assignment or a raise, and its guard. Six bytes, as a table may have thousands.
 #[derive(Clone, Copy, Default)]
 pub struct Deed {
-    pub mask: u32,
+    pub guard: u16,
     pub node: u16,
-    pub variable: u8,
+    /// The variable, or the event.
+    pub thing: u8,
     pub assigns: bool,
 }
 
 impl Deed {
     #[inline(always)]
-    pub fn of(code: u8, x: u8, node: u16) -> Deed {
-        Deed { mask: 1u32.wrapping_shl(u32::from(x)), node, variable: x, assigns: code == 1 }
+    pub fn of(code: u8, thing: u8, node: u16, guard: u16) -> Deed {
+        Deed { guard, node, thing, assigns: code == 1 }
     }
 }
 
 #[inline(always)]
 pub fn do_deeds(nodes: &Nodes, bounds: &Variables, deeds: &[Deed], run: &mut Shared) -> Result<(), Refusal> {
     for deed in deeds {
+        if deed.guard != NONE && !nodes.truth(&run.variables, deed.guard)? {
+            continue;
+        }
         if deed.assigns {
             let number = nodes.number(&run.variables, deed.node)?;
-            let place = usize::from(deed.variable) & (PLACES - 1);
+            let place = usize::from(deed.thing) & (PLACES - 1);
             if number < i32::from(bounds.lowest[place]) || i32::from(bounds.highest[place]) < number {
                 return Err(17);
             }
             run.variables[place] = number as i16;
         } else {
-            run.events |= deed.mask;
+            run.events |= 1u32.wrapping_shl(u32::from(deed.thing));
         }
     }
     Ok(())

@@ -1,7 +1,8 @@
 //! The twin of a chart set, written into a lent buffer.
 
-use crate::charts::{Set, Transition, AFTER, ALWAYS, EVENT};
-use crate::files::{records, Record};
+use crate::charts::{idle_edges, Set, Transition, AFTER, ALWAYS, EVENT, EVERY};
+use crate::files::{records, Record, NONE};
+use crate::runs::{Deed, CLOCKS};
 use crate::Refusal;
 
 struct Writer<'a> {
@@ -17,33 +18,42 @@ impl Writer<'_> {
     }
 }
 
-/// Of each transition its clock, of each state the clocks of those that leave it.
+/// Of each transition its clock, of each state the clocks of those that leave it and then its own, if it has waiting actions.
 struct Clocks {
     of: [u16; 256],
     count: usize,
-    by_state: [u16; 256],
+    by_state: [u16; CLOCKS],
     first: [u16; 130],
 }
 
 impl Clocks {
     fn of(set: &Set) -> Clocks {
-        let mut clocks = Clocks { of: [0; 256], count: 0, by_state: [0; 256], first: [0; 130] };
+        let mut clocks = Clocks { of: [0; 256], count: 0, by_state: [0; CLOCKS], first: [0; 130] };
         for transition in set.transitions.iter().filter(|transition| transition.trigger >= AFTER) {
             clocks.first[usize::from(transition.source) + 2] += 1;
         }
-        for state in 0..set.states {
-            clocks.first[state + 2] += clocks.first[state + 1];
+        for (state, waiting) in set.waiting[..set.states].iter().enumerate() {
+            clocks.first[state + 2] += clocks.first[state + 1] + u16::from(*waiting != 0);
         }
         for (number, transition) in set.transitions.iter().enumerate() {
             clocks.of[number & 255] = clocks.count as u16;
             if transition.trigger >= AFTER {
-                let place = &mut clocks.first[usize::from(transition.source) + 1];
-                clocks.by_state[usize::from(*place) & 255] = clocks.count as u16;
-                *place += 1;
-                clocks.count += 1;
+                clocks.add(usize::from(transition.source));
             }
         }
+        for (state, _) in waiting_states(set) {
+            clocks.add(state);
+        }
         clocks
+    }
+
+    /// The next clock, of a state.
+    #[inline(always)]
+    fn add(&mut self, state: usize) {
+        let place = &mut self.first[state + 1];
+        self.by_state[usize::from(*place)] = self.count as u16;
+        *place += 1;
+        self.count += 1;
     }
 
     #[inline(always)]
@@ -51,6 +61,12 @@ impl Clocks {
         let state = usize::from(state);
         &self.by_state[usize::from(self.first[state])..usize::from(self.first[state + 1])]
     }
+}
+
+/// The states with waiting actions, and the ticks of these.
+#[inline(always)]
+fn waiting_states(set: &Set) -> impl Iterator<Item = (usize, u32)> + '_ {
+    set.waiting[..set.waiting_end].iter().copied().enumerate().filter(|(_, ticks)| *ticks != 0)
 }
 
 /// How many records the twin has.
@@ -62,6 +78,9 @@ fn length(set: &Set, clocks: &Clocks) -> usize {
         set.deeds_of(t).iter().map(|deeds| deeds.len()).sum::<usize>() + clocks.leaving(t.target).len()
     };
     let effects: usize = set.transitions.iter().map(effects).sum();
+    // A further idle edge with its must-nots, a literal more for each of the two, and the updates.
+    let waits = |(state, _)| 1 + row(state) + 2 + set.waiting_deeds(state).len();
+    let waits: usize = waiting_states(set).map(waits).sum();
     set.charts
         + 2 * set.states
         + set.transitions.len()
@@ -70,6 +89,7 @@ fn length(set: &Set, clocks: &Clocks) -> usize {
         + set.variables.count
         + set.nodes.len()
         + effects
+        + waits
 }
 
 #[inline(always)]
@@ -110,9 +130,11 @@ fn put_places(set: &Set, writer: &mut Writer) {
         writer.put(Record::of(35).with_byte(1, home(t.source)).with_u16(2, t.source).with_u16(4, t.target));
     }
     for state in 0..set.states as u16 {
-        writer.put(
-            Record::of(35).with_byte(1, home(state)).with_u16(2, state).with_u16(4, state).with_byte(6, 1),
-        );
+        let idle =
+            Record::of(35).with_byte(1, home(state)).with_u16(2, state).with_u16(4, state).with_byte(6, 1);
+        for _ in 0..idle_edges(set.waiting[usize::from(state)]) {
+            writer.put(idle);
+        }
     }
 }
 
@@ -124,13 +146,25 @@ fn put_literals(set: &Set, clocks: &Clocks, writer: &mut Writer) {
         }
         writer.put(literal(clocks, 1, t.number, t));
     }
-    for state in 0..set.states as u16 {
-        for other in set.row(state) {
-            writer.put(literal(clocks, 2, set.transitions.len() as u16 + state, other));
+    let mut edge = set.transitions.len() as u16;
+    for (state, waiting) in (0u16..).zip(&set.waiting[..set.states]) {
+        // Due, then not due.
+        for sign in (1..).take(idle_edges(*waiting)) {
+            for other in set.row(state) {
+                writer.put(literal(clocks, 2, edge, other));
+            }
+            if let (true, Some(own)) = (*waiting != 0, clocks.leaving(state).last()) {
+                let record = Record::of(36).with_byte(1, sign).with_u16(2, edge).with_byte(4, 2);
+                writer.put(record.with_u16(6, *own).with_u16(8, NONE));
+            }
+            edge += 1;
         }
     }
     for t in set.transitions.iter().filter(|t| t.trigger >= AFTER) {
         writer.put(Record::of(37).with_byte(1, t.trigger).with_u16(2, t.ticks as u16));
+    }
+    for (_, ticks) in waiting_states(set) {
+        writer.put(Record::of(37).with_byte(1, EVERY).with_u16(2, ticks as u16));
     }
 }
 
@@ -147,16 +181,29 @@ fn put_values(set: &Set, bytes: &[u8], writer: &mut Writer) {
     }
 }
 
+#[inline(always)]
+fn update(edge: u16, deed: &Deed) -> Record {
+    let guard = deed.guard.wrapping_add(1);
+    let record = Record::of(40).with_u16(2, edge).with_byte(4, deed.thing).with_u16(8, guard);
+    if deed.assigns {
+        record.with_byte(1, 1).with_u16(6, deed.node)
+    } else {
+        record.with_byte(1, 2)
+    }
+}
+
 /// Updates and resets.
 fn put_effects(set: &Set, clocks: &Clocks, writer: &mut Writer) {
     for t in &set.transitions {
         for deed in set.deeds_of(t).into_iter().flatten() {
-            let record = Record::of(40).with_u16(2, t.number).with_byte(4, deed.variable);
-            writer.put(if deed.assigns {
-                record.with_byte(1, 1).with_u16(6, deed.node)
-            } else {
-                record.with_byte(1, 2)
-            });
+            writer.put(update(t.number, deed));
+        }
+    }
+    // Each state before has its idle edge, and each waiting one before a further one.
+    for (before, (state, _)) in waiting_states(set).enumerate() {
+        let due = (set.transitions.len() + state + before) as u16;
+        for deed in set.waiting_deeds(state) {
+            writer.put(update(due, deed));
         }
     }
     for t in &set.transitions {

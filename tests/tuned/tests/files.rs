@@ -2,6 +2,7 @@
 
 use simulator::generate::sets::any_valid_set;
 use simulator::generate::{set_damage, table_damage, tables};
+use simulator::records::AUTOMATA_LIMITS;
 use simulator::{automata, chart_sets, charts, Random};
 use tuned::automata::Table;
 use tuned::charts::Set;
@@ -13,12 +14,12 @@ const ROUNDS: usize = 100;
 struct Reader<Kept> {
     kept: Kept,
     right: fn(&[u8]) -> u32,
-    met: [usize; 12],
+    met: [usize; 26],
 }
 
 impl<Kept: Machine> Reader<Kept> {
     fn new(right: fn(&[u8]) -> u32) -> Self {
-        Reader { kept: Kept::default(), right, met: [0; 12] }
+        Reader { kept: Kept::default(), right, met: [0; 26] }
     }
 
     fn check(&mut self, bytes: &[u8]) {
@@ -54,7 +55,7 @@ fn chart_files() {
         }
         reader.check_with_bytes_changed(&mut random, set);
     }
-    assert!(reader.met[..10].iter().all(|times| *times > 20), "{:?}", reader.met);
+    assert!((0..10).chain([25]).all(|number| reader.met[number] > 20), "{:?}", reader.met);
 }
 
 #[test]
@@ -70,6 +71,10 @@ fn automata_files() {
             }
         }
         reader.check_with_bytes_changed(&mut random, table);
+    }
+    for (kind, _) in AUTOMATA_LIMITS {
+        reader.check(&tables::filled(&mut random, kind, 0));
+        reader.check(&tables::filled(&mut random, kind, 1));
     }
     assert!(reader.met[0] >= ROUNDS && reader.met[11] >= ROUNDS, "{:?}", reader.met);
 }
