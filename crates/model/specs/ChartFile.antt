@@ -1,4 +1,4 @@
--- The refusals of a chart file, 1 to 9. Assumes nothing: these are definitions.
+-- The refusals of a chart file, 1 to 9 and 25. Assumes nothing: these are definitions.
 use mathlib.Core.Option.{Option, some, none}
 use mathlib.Core.Bool.{Bool, true, false, not, _&&_, _||_}
 use mathlib.Core.List.{List, [], _∷_, _++_, map}
