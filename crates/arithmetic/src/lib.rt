@@ -69,18 +69,27 @@ fn remainder(a: i64, b: i64) -> i64
     if b == 0 { ZERO_DIVISOR } else { a % b }
 }
 
-// By the operator's code, of 3 to 7.
+// By the operator's code, of 3 to 7. Tests take fewer instructions than the table of jumps that a `match` is compiled to.
 pub fn compute(code: u8, a: i64, b: i64) -> i64
     requires { ⌜ BothNarrow a b ⌝ }
     ensures { λ r. ⌜ StandsFor r (compute (arithmeticOf code) a b) ⌝ }
 {
-    match code {
-        3 => add(a, b),
-        4 => subtract(a, b),
-        5 => multiply(a, b),
-        6 => divide(a, b),
-        _ => remainder(a, b),
+    if code < 5 {
+        if code == 3 {
+            return add(a, b);
+        }
+        if code == 4 {
+            return subtract(a, b);
+        }
+    } else {
+        if code == 5 {
+            return multiply(a, b);
+        }
+        if code == 6 {
+            return divide(a, b);
+        }
     }
+    remainder(a, b)
 }
 
 // By the operator's code, of 16 to 18.

@@ -4,6 +4,7 @@ pub mod Depth
 pub mod Codes
 pub mod Fields
 pub mod Arms
+pub mod WholeRecords
 pub mod Uses
 pub mod Verdicts
 pub mod ExampleNodes

@@ -6,5 +6,6 @@ pub mod Sorts
 pub mod Answers
 pub mod OperandValues
 pub mod Coded
+pub mod WholeRecords
 pub mod Verdicts
 pub mod Uses

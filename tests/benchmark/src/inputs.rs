@@ -1,14 +1,13 @@
 //! What the work is done on: chart sets with the events of a run from their start, in which no cycle is refused or faults.
 
-use simulator::assemble::{chart, constant, guarded, operation, state, transition, variable_value};
+use crate::shapes;
+use simulator::assemble::{chart, guarded, state, transition};
 use simulator::chart_sets::{zero_watch, SetParts};
 use simulator::expressions::Node;
 use simulator::generate::calls::{events_of_set, mask};
-use simulator::operators::{AND, AT_MOST, DIFFERENCE, NOT, PRODUCT, QUOTIENT, REMAINDER, SUM};
 use simulator::records::NODE;
 use simulator::variables::Variable;
 use simulator::{translation, ChartSet, Random};
-use std::collections::VecDeque;
 use tuned::automata::Table;
 use tuned::machine::Machine;
 
@@ -68,9 +67,8 @@ fn stored(name: &'static str, (set, seed): (&[u8], u64), cycles: usize, calls: u
     Input::new(name, set.to_vec(), masks, calls)
 }
 
-/// One chart that tries in each cycle a guard of 1,024 nodes, all worked out, which does not hold.
-pub fn guard(part: usize) -> &'static Input {
-    let nodes = guard_nodes();
+/// One chart that tries in each cycle a guard, its last node.
+fn trying(name: &'static str, nodes: Vec<Node>, part: usize) -> &'static Input {
     let guard = u16::try_from(nodes.len() - 1).expect("at most 1,024");
     let set = SetParts {
         charts: vec![chart(0)],
@@ -80,51 +78,17 @@ pub fn guard(part: usize) -> &'static Input {
         nodes,
         ..SetParts::default()
     };
-    Input::new("guard", set.bytes(), vec![0; 5_000 / part], 300 / part)
+    Input::new(name, set.bytes(), vec![0; 5_000 / part], 300 / part)
 }
 
-#[derive(Default)]
-struct Growing(Vec<Node>);
-
-impl Growing {
-    fn push(&mut self, node: Node) -> u16 {
-        self.0.push(node);
-        u16::try_from(self.0.len() - 1).expect("at most 1,024")
-    }
-
-    /// That a chain of 30 operations is at most 100, which its last, a remainder, sees to.
-    fn comparison(&mut self, place: u16) -> u16 {
-        let mut number = self.push(variable_value(place));
-        for round in 0..6 {
-            let operations = [
-                (SUM, variable_value(place + 8 * round)),
-                (PRODUCT, constant(3)),
-                (DIFFERENCE, variable_value(round)),
-                (QUOTIENT, constant(2)),
-                (REMAINDER, constant(100)),
-            ];
-            for (operator, leaf) in operations {
-                let leaf = self.push(leaf);
-                number = self.push(operation(operator, &[number, leaf]));
-            }
-        }
-        let most = self.push(constant(100));
-        self.push(operation(AT_MOST, &[number, most]))
-    }
+/// A guard of 1,024 nodes, all worked out, which does not hold.
+pub fn guard(part: usize) -> &'static Input {
+    trying("guard", shapes::guard_nodes(), part)
 }
 
-/// Not the conjunction of 16 comparisons, all of which hold.
-fn guard_nodes() -> Vec<Node> {
-    let mut growing = Growing::default();
-    let mut truths: VecDeque<u16> = (0..16).map(|place| growing.comparison(place)).collect();
-    let mut first = truths.pop_front().expect("one of 16");
-    while let Some(second) = truths.pop_front() {
-        truths.push_back(growing.push(operation(AND, &[first, second])));
-        first = truths.pop_front().expect("at least the last");
-    }
-    growing.push(operation(NOT, &[first]));
-    assert_eq!(growing.0.len(), 1_024);
-    growing.0
+/// Guards that nest in one place.
+pub fn nested_guards(part: usize) -> [&'static Input; 8] {
+    shapes::all().map(|(name, nodes)| trying(name, nodes, part))
 }
 
 /// The node records of a set.

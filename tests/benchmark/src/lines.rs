@@ -191,12 +191,13 @@ fn led_back(input: &'static Input) -> Line {
 }
 
 /// The guard by itself. The proved side reads node records, the tuned one decoded nodes: neither checks them.
-fn worked_out(input: &'static Input) -> Line {
+/// What the guard comes to tells that its nodes were worked out.
+fn worked_out(input: &'static Input, truth: bool) -> Line {
     let bytes = inputs::nodes_of(&input.set);
     let (machine, run) = fresh::<Set>(&input.set);
     let (nodes, values) = (machine.nodes, run.shared.variables);
     let node = nodes.len() as u16 - 1;
-    assert_eq!(nodes.truth(&values, node), Ok(false), "some nodes are not worked out");
+    assert_eq!(nodes.truth(&values, node), Ok(truth), "some nodes are not worked out");
     Line {
         input: input.name,
         work: "guards worked out",
@@ -274,7 +275,8 @@ pub fn all(text: &str, part: usize) -> Vec<Line> {
     let mut lines: Vec<Line> = inputs::all(part).into_iter().flat_map(lines_of).collect();
     let guard = inputs::guard(part);
     lines.push(played::<Set>(guard, CHARTS.played, &guard.set));
-    lines.push(worked_out(guard));
+    lines.push(worked_out(guard, false));
+    lines.extend(inputs::nested_guards(part).map(|input| worked_out(input, input.name != "nots")));
     lines.extend(guards::lines(part));
     lines.retain(|line| format!("{}, {}", line.input, line.work).contains(text));
     lines

@@ -10,6 +10,7 @@ mod guards;
 mod inputs;
 mod lines;
 mod proved;
+mod shapes;
 mod table;
 mod work;
 

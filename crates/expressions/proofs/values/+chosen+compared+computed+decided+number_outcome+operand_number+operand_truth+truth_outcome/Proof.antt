@@ -48,11 +48,13 @@ use Rattle.expressions.proofs.values.truth_outcome.Kinds as truth-outco
 use Rattle.expressions.proofs.values.+chosen+compared+computed+decided+number_outcome+operand_number+operand_truth+truth_outcome.Lts-truth_outcome as truth-outcome-lts
 use Rattle.arithmetic.proofs.compare.Reads as compare-reads
 use Rattle.arithmetic.proofs.compute.Reads as compute-reads
+use Rattle.expressions.proofs.values.condition.Reads as condition-reads
 use Rattle.expressions.proofs.nodes.fields_at.Reads as fields-at-reads
 use Rattle.records.proofs.i32_at.Reads as i32-at-reads
 use Rattle.records.proofs.i32_within.Reads as i32-within-reads
 use Rattle.expressions.proofs.values.negated.Reads as negated-reads
 use Rattle.expressions.proofs.values.number_fault.Reads as number-fault-reads
+use Rattle.expressions.proofs.values.operation.Reads as operation-reads
 use Rattle.expressions.proofs.values.picked.Reads as picked-reads
 use Rattle.expressions.proofs.values.truth_fault.Reads as truth-fault-reads
 use Rattle.expressions.proofs.values.truth_value.Reads as truth-value-reads
@@ -152,10 +154,10 @@ abbrev number-outcome-calls : ℕ → number-outcome-lts.Claims
 number-outcome-calls t = (fields-at-reads.Asked, fields-at-reads.Learnt, chosen-below t, chosen.Post, computed-below t, computed.Post, variable-reads.Asked, variable-reads.Learnt, i32-at-reads.Asked, i32-at-reads.Learnt, wide-reads.Asked, wide-reads.Learnt)
 
 abbrev operand-number-calls : ℕ → operand-number-lts.Claims
-operand-number-calls t = (u16-within-reads.Asked, u16-within-reads.Learnt, variable-reads.Asked, variable-reads.Learnt, i32-within-reads.Asked, i32-within-reads.Learnt, wide-reads.Asked, wide-reads.Learnt, number-outcome-below t, number-outcome.Post)
+operand-number-calls t = (u16-within-reads.Asked, u16-within-reads.Learnt, variable-reads.Asked, variable-reads.Learnt, i32-within-reads.Asked, i32-within-reads.Learnt, wide-reads.Asked, wide-reads.Learnt, operation-reads.Asked, operation-reads.Learnt, number-outcome-below t, number-outcome.Post)
 
 abbrev operand-truth-calls : ℕ → operand-truth-lts.Claims
-operand-truth-calls t = (truth-outcome-below t, truth-outcome.Post)
+operand-truth-calls t = (condition-reads.Asked, condition-reads.Learnt, truth-outcome-below t, truth-outcome.Post)
 
 abbrev truth-outcome-calls : ℕ → truth-outcome-lts.Claims
 truth-outcome-calls t = (fields-at-reads.Asked, fields-at-reads.Learnt, compared-below t, compared.Post, operand-truth-below t, operand-truth.Post, negated-reads.Asked, negated-reads.Learnt, decided-below t, decided.Post)
@@ -424,26 +426,48 @@ module _ (t : ℕ) where
       (stands-at (toZ-ofZ {w = w64} (record { sfits = c .wide .ok }) ∙ c .wide .ensures ∙ toZ-ofZ {w = w32} (record { sfits = z .ok }))
       (stands-same (of-number (z .result) (z .ok)) (ap val (z .ensures) ∙ constant-leaf (now (k .nodes)) (now (k .vars)) (k .a) (c .before .before .if4 .taken))))
 
-  operand-number-number-outcome-requires : operand-number-lts.Need-number-outcome-requires (operand-number-calls t) (operand-number-at t) operand-number.Post
-  operand-number-number-outcome-requires c κs = (omega (arith, c .before .before .before .pre .0), tt)
+  operand-number-operation-requires : operand-number-lts.Need-operation-requires (operand-number-calls t) (operand-number-at t) operand-number.Post
+  operand-number-operation-requires c κs = (record { node = c .before .before .before .before .before .before .args .a; begins = refl; whole = c .before .before .before .if2 .taken }, (refl, (c .if4 .left, c .before .if3 .left)))
 
   operand-number-returns-4 : operand-number-lts.Need-returns-4 (operand-number-calls t) (operand-number-at t) operand-number.Post
   operand-number-returns-4 c =
+      let k = c .before .before .before .before .before .before .before .args in
+      rw (lt-ltb (k .a) (k .n) (c .before .before .before .before .before .if1 .left)) (held (c .operation .ok) (c .operation .ensures (k .a) refl))
+
+  operand-number-number-outcome-requires : operand-number-lts.Need-number-outcome-requires (operand-number-calls t) (operand-number-at t) operand-number.Post
+  operand-number-number-outcome-requires c κs = (omega (arith, c .before .before .before .pre .0), tt)
+
+  operand-number-returns-5 : operand-number-lts.Need-returns-5 (operand-number-calls t) (operand-number-at t) operand-number.Post
+  operand-number-returns-5 c =
       let k = c .before .before .before .before .args in
       rw (lt-ltb (k .a) (k .n) (c .before .before .if1 .left)) (held (c .number-outcome .ok) (c .number-outcome .ensures))
 
-  operand-truth-truth-outcome-requires : operand-truth-lts.Need-truth-outcome-requires (operand-truth-calls t) (operand-truth-at t) operand-truth.Post
-  operand-truth-truth-outcome-requires c κs = (omega (arith, c .before .before .pre .0), tt)
-
   operand-truth-returns : operand-truth-lts.Need-returns (operand-truth-calls t) (operand-truth-at t) operand-truth.Post
   operand-truth-returns c =
-      let k = c .before .before .before .args in
-      rw (lt-ltb (k .a) (k .n) (c .before .if1 .taken)) (c .truth-outcome .ensures)
+      let k = c .before .before .args in
+      rw (le-ltb (k .a) (k .n) (c .if1 .taken)) (of-truth false refl)
+
+  operand-truth-mul-at : operand-truth-lts.Need-mul-at (operand-truth-calls t) (operand-truth-at t) operand-truth.Post
+  operand-truth-mul-at c = search needs
+
+  operand-truth-add-if2 : operand-truth-lts.Need-add-if2 (operand-truth-calls t) (operand-truth-at t) operand-truth.Post
+  operand-truth-add-if2 c = search needs
+
+  operand-truth-condition-requires : operand-truth-lts.Need-condition-requires (operand-truth-calls t) (operand-truth-at t) operand-truth.Post
+  operand-truth-condition-requires c κs = record { node = c .before .before .before .args .a; begins = refl; whole = c .if2 .taken }
 
   operand-truth-returns-2 : operand-truth-lts.Need-returns-2 (operand-truth-calls t) (operand-truth-at t) operand-truth.Post
   operand-truth-returns-2 c =
-      let k = c .before .before .args in
-      rw (le-ltb (k .a) (k .n) (c .if1 .left)) (of-truth false refl)
+      let k = c .before .before .before .before .args in
+      rw (lt-ltb (k .a) (k .n) (c .before .before .if1 .left)) (c .condition .ensures (k .a) refl)
+
+  operand-truth-truth-outcome-requires : operand-truth-lts.Need-truth-outcome-requires (operand-truth-calls t) (operand-truth-at t) operand-truth.Post
+  operand-truth-truth-outcome-requires c κs = (omega (arith, c .before .before .before .pre .0), tt)
+
+  operand-truth-returns-3 : operand-truth-lts.Need-returns-3 (operand-truth-calls t) (operand-truth-at t) operand-truth.Post
+  operand-truth-returns-3 c =
+      let k = c .before .before .before .before .args in
+      rw (lt-ltb (k .a) (k .n) (c .before .before .if1 .left)) (c .truth-outcome .ensures)
 
   truth-outcome-fields-at-requires : truth-outcome-lts.Need-fields-at-requires (truth-outcome-calls t) (truth-outcome-at t) truth-outcome.Post
   truth-outcome-fields-at-requires c κs = tt
@@ -580,12 +604,18 @@ pub +chosen+compared+computed+decided+number-outcome+operand-number+operand-trut
     (operand-number-i32-within-requires t)
     (operand-number-wide-requires t)
     (operand-number-returns-3 t)
+    (operand-number-operation-requires t)
+    (operand-number-returns-4 t)
     (operand-number-number-outcome-requires t)
-    (operand-number-returns-4 t))
+    (operand-number-returns-5 t))
     (λ t. operand-truth-lts.spec (operand-truth-calls t) (operand-truth-at t) operand-truth.Post
-    (operand-truth-truth-outcome-requires t)
     (operand-truth-returns t)
-    (operand-truth-returns-2 t))
+    (operand-truth-mul-at t)
+    (operand-truth-add-if2 t)
+    (operand-truth-condition-requires t)
+    (operand-truth-returns-2 t)
+    (operand-truth-truth-outcome-requires t)
+    (operand-truth-returns-3 t))
     (λ t. truth-outcome-lts.spec (truth-outcome-calls t) (truth-outcome-at t) truth-outcome.Post
     (truth-outcome-fields-at-requires t)
     (truth-outcome-returns t)
