@@ -3,6 +3,7 @@
  * page by page; so a page is added. */
 #define _GNU_SOURCE
 #include "monuvaleck.h"
+#include "nested.h"
 #include "records.h"
 #include "samples.h"
 
@@ -14,7 +15,7 @@
 #include <ucontext.h>
 #include <unistd.h>
 
-enum { STACK = 1 << 20, LIMIT = 256 * 1024, PAINT = 0x5A, FINEST = 16, MOST_NODES = 1024, MANY_STEPS = 2 * MONUVALECK_MOST_CYCLES };
+enum { STACK = 1 << 20, LIMIT = 256 * 1024, PAINT = 0x5A, FINEST = 16, MANY_STEPS = 2 * MONUVALECK_MOST_CYCLES };
 enum { CHECK_C, START_C, TURN_C, CYCLE_C, PLAY_C, TRANSLATE, BACK, CHECK_A, START_A, TURN_A, CYCLE_A, PLAY_A, READ, WRITE, NOTHING, CALLS };
 
 static const char *const names[CALLS] = {"charts_check", "charts_start", "charts_turn", "charts_cycle", "charts_play", "charts_translate", "path_back",
@@ -213,153 +214,6 @@ static void measure_lines(void)
 
 /* ---- sets whose one expression has 1,024 nodes */
 
-static file work;
-static unsigned nodes;
-
-static unsigned constant(int32_t value)
-{
-    add_constant(&work, NODE, value);
-    return nodes++;
-}
-
-static unsigned node(unsigned operator_code, unsigned a, unsigned b, unsigned c)
-{
-    add_node(&work, NODE, operator_code, a, b, c);
-    return nodes++;
-}
-
-/* A chart whose second transition, from state 1 to itself, will get the guard, or whose first the action, or whose state 1 the waiting action. */
-static void begin(void)
-{
-    work.len = 0;
-    nodes = 0;
-    add_chart(&work, 0);
-    add_state(&work, 0);
-    add_state(&work, 0);
-    add_transition(&work, 1, 0, 1, NO_TRIGGER, 0, NONE);
-    add_transition(&work, 1, 1, 1, NO_TRIGGER, 0, NONE);
-    add_variable(&work, VARIABLE, -32768, 32767, 0);
-}
-
-static unsigned holds(void)
-{
-    unsigned a = constant(0);
-    return node(EQUAL, a, constant(0), 0);
-}
-
-/* Numbers of so many nodes at most, nested in one place: the left or right of a sum, the two numbers of a choice, its truth. */
-static unsigned nested_sums(unsigned most, bool left)
-{
-    unsigned root = constant(1);
-    while (nodes + 2 <= most) {
-        unsigned leaf = constant(1);
-        root = left ? node(SUM, root, leaf, 0) : node(SUM, leaf, root, 0);
-    }
-    return root;
-}
-
-static unsigned nested_choices(unsigned most, bool first)
-{
-    unsigned root = constant(1);
-    while (nodes + 6 <= most) {
-        unsigned truth = holds();
-        if (!first) {
-            truth = node(NOT, truth, 0, 0);
-        }
-        unsigned leaf = constant(1);
-        root = first ? node(CHOICE, truth, root, leaf) : node(CHOICE, truth, leaf, root);
-    }
-    return root;
-}
-
-static unsigned nested_in_truth(unsigned most)
-{
-    unsigned root = constant(1);
-    while (nodes + 5 <= most) {
-        unsigned truth = node(EQUAL, root, constant(1), 0), leaf = constant(1);
-        root = node(CHOICE, truth, leaf, constant(1));
-    }
-    return root;
-}
-
-/* Truths: negations, the deepest of all; the left or right of conjunctions. */
-static unsigned nested_nots(unsigned most)
-{
-    unsigned root = holds();
-    while (nodes + 1 <= most) {
-        root = node(NOT, root, 0, 0);
-    }
-    return root;
-}
-
-static unsigned nested_ands(unsigned most, bool left)
-{
-    unsigned root = holds();
-    while (nodes + 4 <= most) {
-        unsigned leaf = holds();
-        root = left ? node(AND, root, leaf, 0) : node(AND, leaf, root, 0);
-    }
-    return root;
-}
-
-enum { SUM_LEFT, SUM_RIGHT, CHOICE_FIRST, CHOICE_SECOND, IN_TRUTH, NUMBERS, NOTS = NUMBERS, AND_LEFT, AND_RIGHT, SHAPES };
-
-static unsigned nested(unsigned shape, unsigned most)
-{
-    switch (shape) {
-    case SUM_LEFT: return nested_sums(most, true);
-    case SUM_RIGHT: return nested_sums(most, false);
-    case CHOICE_FIRST: return nested_choices(most, true);
-    case CHOICE_SECOND: return nested_choices(most, false);
-    case IN_TRUTH: return nested_in_truth(most);
-    case NOTS: return nested_nots(most);
-    case AND_LEFT: return nested_ands(most, true);
-    default: return nested_ands(most, false);
-    }
-}
-
-/* A truth; a number is compared with 0. */
-static unsigned nested_truth(unsigned shape)
-{
-    unsigned root = nested(shape, shape < NUMBERS ? MOST_NODES - 2 : MOST_NODES);
-    return shape < NUMBERS ? node(AT_MOST, constant(0), root, 0) : root;
-}
-
-/* A number; a truth picks between two. */
-static unsigned nested_number(unsigned shape)
-{
-    unsigned root = nested(shape, shape < NUMBERS ? MOST_NODES : MOST_NODES - 3);
-    if (shape >= NUMBERS) {
-        unsigned a = constant(1);
-        root = node(CHOICE, root, a, constant(2));
-    }
-    return root;
-}
-
-/* Where the expression stands: the guard of the second transition, record 4; the number that an action assigns; the guard of an action; both of a waiting action. */
-enum { IN_GUARD, ASSIGNED, IN_ACTIONS_GUARD, ASSIGNED_WAITING, IN_WAITING_GUARD, USES };
-
-static void make_nested(unsigned shape, unsigned use)
-{
-    bool assigned = use == ASSIGNED || use == ASSIGNED_WAITING;
-    begin();
-    unsigned root = assigned ? nested_number(shape) : nested_truth(shape), deed = assigned ? ASSIGN : RAISE;
-    if (use == IN_GUARD) {
-        set_two(work.bytes, RECORD * 4 + 12, root);
-        return;
-    } else if (use < ASSIGNED_WAITING) {
-        add_action(&work, ON_TRANSITION, 0, deed, 0, assigned ? root : 0);
-    } else {
-        /* the chart idles in cycles without event 31, which are due from age 1 on */
-        work.bytes[RECORD * 4 + 6] = ON_EVENT;
-        work.bytes[RECORD * 4 + 7] = 31;
-        add_waiting(&work, 1, 100, deed, 0, assigned ? root : 0);
-    }
-    if (!assigned) {
-        guard_last(&work, root);
-    }
-}
-
 static uint16_t steps[MANY_STEPS];
 
 /* Through a whole run of the chart of these sets: edge 0, then the idle edge of state 1. */
@@ -374,9 +228,9 @@ static void make_steps(void)
 /* The guard's nodes, the last of the file, as a list. */
 static void measure_list(void)
 {
-    given.bytes = work.bytes + first_of(work.bytes, work.len, NODE);
-    given.len = RECORD * nodes;
-    if (measure(WRITE) < (int32_t)nodes) {
+    given.bytes = nested.bytes + first_of(nested.bytes, nested.len, NODE);
+    given.len = RECORD * nested_nodes;
+    if (measure(WRITE) < (int32_t)nested_nodes) {
         printf("FAILED: a nested list: answer %d\n", (int)given.answer);
         exit(1);
     }
@@ -386,14 +240,9 @@ static void measure_nested(void)
 {
     for (unsigned shape = 0; shape < SHAPES; shape++) {
         for (unsigned use = 0; use < USES; use++) {
-            make_nested(shape, use);
-            int32_t check = charts_check(work.bytes, work.len);
-            if (check != 0 || nodes > MOST_NODES || nodes + 5 < MOST_NODES) {
-                printf("FAILED: a nested expression: check %d, %u nodes\n", (int)check, nodes);
-                exit(1);
-            }
+            make_nested(shape, use, 1);
             bool first = shape == 0 && use == 0;
-            measure_set(work.bytes, work.len, steps, first ? MANY_STEPS : 2);
+            measure_set(nested.bytes, nested.len, steps, first ? MANY_STEPS : 2);
             if (use == IN_GUARD) {
                 measure_list();
             }
