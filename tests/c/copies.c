@@ -15,7 +15,8 @@
 #include <ucontext.h>
 
 enum { STACK = 1 << 20, RED_ZONE = 128, TRAP_FLAG = 0x100, VARIABLES = 64, MOST_PLACES = 256, BLOCK = 16, LEAST_WORK = 5000 };
-enum { TURN_C, CYCLE_C, PLAY_C, TURN_A, CYCLE_A, PLAY_A, CALLS };
+enum { TURN_C, CYCLE_C, PLAY_C, TURN_A, CYCLE_A, PLAY_A, CALLS, COPIER };
+enum { NESTED_COPIES = 5 };
 
 static const char *const names[CALLS] = {"charts_turn", "charts_cycle", "charts_play", "automata_turn", "automata_cycle", "automata_play"};
 static const char *const shapes[SHAPES] = {"sums to the left", "sums to the right", "choices in the first number", "choices in the second number", "choices in the truth", "negations",
@@ -86,6 +87,15 @@ static void stopped(int number, siginfo_t *about, void *context)
     look();
 }
 
+/* What a guard must not do: a copy at each node. */
+static __attribute__((noinline)) int32_t copies_at_each(unsigned nodes)
+{
+    int16_t own[VARIABLES];
+    memcpy(own, given.charts.variables, sizeof own);
+    __asm__ volatile("" ::"r"(own) : "memory");
+    return nodes > 1 ? copies_at_each(nodes - 1) + (own[0] != 0) : 0;
+}
+
 static int32_t called(void)
 {
     static const uint32_t none[1];
@@ -95,6 +105,7 @@ static int32_t called(void)
     case PLAY_C: return charts_play(given.bytes, given.len, &given.charts, none, 1);
     case TURN_A: return automata_turn(given.bytes, given.len, &given.automata, 0);
     case CYCLE_A: return automata_cycle(given.bytes, given.len, &given.automata, 0);
+    case COPIER: return copies_at_each(NESTED_COPIES);
     default: return automata_play(given.bytes, given.len, &given.automata, none, 1);
     }
 }
@@ -136,7 +147,7 @@ static unsigned counted(unsigned call)
     makecontext(&there, run_there, 0);
     swapcontext(&here, &there);
     if (given.answer < 0) {
-        printf("FAILED: %s: answer %d\n", names[call], (int)given.answer);
+        printf("FAILED: call %u: answer %d\n", call, (int)given.answer);
         exit(1);
     }
     return copies;
@@ -196,10 +207,20 @@ static int compare(unsigned call, unsigned most)
     return failures;
 }
 
+static int seen(void)
+{
+    make_nested(0, IN_GUARD, VARIABLES);
+    ready(TURN_C);
+    unsigned found = counted(COPIER);
+    bool fine = found == NESTED_COPIES;
+    printf("%s: %u copies, one at each of %d nodes, are seen\n", fine ? "ok" : "FAILED", found, NESTED_COPIES);
+    return !fine;
+}
+
 int main(void)
 {
-    int failures = 0;
     prepare();
+    int failures = seen();
     for (unsigned call = 0; call < CALLS; call++) {
         failures += compare(call, call == TURN_C ? SHAPES : 1);
     }

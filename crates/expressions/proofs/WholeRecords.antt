@@ -18,9 +18,18 @@ use Rattle.expressions.specs.Nodes.{nodeAt}
 use Rattle.expressions.specs.Values.{number, truth}
 use Rattle.expressions.specs.OperandValues.{operandNumber, operandTruth, computeOperands, compareOperands, decide}
 use Rattle.expressions.specs.Coded.{HasFields}
+use Rattle.expressions.specs.WholeRecords.{RecordAt}
 use Rattle.expressions.specs.declared.nodes.Fields.{Fields}
 use Rattle.expressions.proofs.Decided.{undecided, stays}
 use Rattle.expressions.proofs.Arms.{no-number-arm, choice-arm, arithmetic-arm, no-truth-arm, comparison-arm, negation-arm, decided-arm}
+
+-- ---- records below one
+
+pub lower-record : {s : List ℕ} {at : ℕ} → RecordAt s at → (a : ℕ) → 16 * a < at → RecordAt s (16 * a)
+lower-record {s} {at} r a l =
+    let b : at ≡ 16 * r .node = r .begins in
+    let w : at + 16 ≤ length s = r .whole in
+    record { node = a; begins = refl; whole = omega (arith, b, w, l) }
 
 -- ---- the arms of node n, whose record begins at a place
 
@@ -31,14 +40,14 @@ module _ (s : List ℕ) (vars : List ℤ) (at n : ℕ) (e : at ≡ 16 * n) where
   has : HasFields s n fields
   has = record { code = ap (λ k. byte s (k + 1)) e; a = ap (λ k. two s (k + 2)) e; b = ap (λ k. two s (k + 4)) e; c = ap (λ k. two s (k + 6)) e }
 
-  pub no-number-from : (1 ≤ byte s (at + 1) → byte s (at + 1) ≤ 8 → ⊥) → val (pos 0) ≡ number (nodeAt s) vars n
-  no-number-from = no-number-arm s vars n fields has
+  pub no-number-from : (code : ℕ) → code ≡ byte s (at + 1) → (1 ≤ code → code ≤ 8 → ⊥) → val (pos 0) ≡ number (nodeAt s) vars n
+  no-number-from code k f = no-number-arm s vars n fields has (subst (λ x. 1 ≤ x → x ≤ 8 → ⊥) k f)
 
-  pub choice-from : byte s (at + 1) ≡ 8 → choose (operandTruth (nodeAt s) vars n (two s (at + 2))) (operandNumber (nodeAt s) vars n (two s (at + 4))) (operandNumber (nodeAt s) vars n (two s (at + 6))) ≡ number (nodeAt s) vars n
-  choice-from = choice-arm s vars n fields has
+  pub choice-from : (code : ℕ) → code ≡ byte s (at + 1) → code ≡ 8 → choose (operandTruth (nodeAt s) vars n (two s (at + 2))) (operandNumber (nodeAt s) vars n (two s (at + 4))) (operandNumber (nodeAt s) vars n (two s (at + 6))) ≡ number (nodeAt s) vars n
+  choice-from code k c = choice-arm s vars n fields has (sym k ∙ c)
 
-  pub arithmetic-from : 2 < byte s (at + 1) → byte s (at + 1) < 8 → computeOperands (nodeAt s) vars (arithmeticOf (byte s (at + 1))) n (two s (at + 2)) (two s (at + 4)) ≡ number (nodeAt s) vars n
-  arithmetic-from = arithmetic-arm s vars n fields has
+  pub arithmetic-from : (code : ℕ) → code ≡ byte s (at + 1) → 2 < code → code < 8 → computeOperands (nodeAt s) vars (arithmeticOf (byte s (at + 1))) n (two s (at + 2)) (two s (at + 4)) ≡ number (nodeAt s) vars n
+  arithmetic-from code k l m = arithmetic-arm s vars n fields has (subst (λ x. 2 < x) k l) (subst (λ x. x < 8) k m)
 
   pub no-truth-from : (16 ≤ byte s (at + 1) → byte s (at + 1) ≤ 21 → ⊥) → val false ≡ truth (nodeAt s) vars n
   no-truth-from = no-truth-arm s vars n fields has
@@ -109,6 +118,12 @@ LeftToOperand s vars start node flip a = (n : ℕ) → start ≡ 16 * n → trut
 module _ {s : List ℕ} {vars : List ℤ} {start at : ℕ} {flip : Bool} {code : ℕ} (l : LeftTo s vars start at flip code) where
   abbrev B : ℕ → Out Bool
   B = operandTruth (nodeAt s) vars (l .node)
+
+  pub left-record : RecordAt s at
+  left-record =
+      let b : at ≤ start = l .below in
+      let w : start + 16 ≤ length s = l .whole in
+      record { node = l .node; begins = l .begins; whole = omega (arith, b, w) }
 
   between : 19 ≤ code → code ≤ 21 → (code ≡ 19 → ⊥) → (19 < byte s (at + 1)) × (byte s (at + 1) < 22)
   between f g h =

@@ -1,17 +1,16 @@
 -- The proof of the cycle of calls of `values::operation` and `values::condition`. Each member's measure comes from where its record begins: an operand's
 -- record begins below it, and a member that works out operands of a record stands between it and them. Assumes nothing.
 use mathlib.Core.Logic.{⊎-elim}
-use mathlib.Core.Path.{_≡_, refl, sym, ap, _∙_, subst}
-use mathlib.Core.Bool.{Bool, true, false, cond, not, _&&_}
-use mathlib.Core.List.{List}
-use Prim.Native.Nat.{ℕ, _+_, _*_, _-_, _≤_, _<_}
+use mathlib.Core.Path.{_≡_, refl, sym, ap, _∙_}
+use mathlib.Core.Bool.{Bool, false}
+use Prim.Native.Nat.{ℕ, _+_, _*_, _≤_, _<_}
 use native.Mathlib.Omega.{arith}
 use borrow.Author.Needs.{needs}
 use borrow.Author.Tests.{ltb-true, ltb-false, lt-ltb, le-ltb, ne-eqb}
 use borrow.Fn.Kinds.{In}
 use borrow.Fn.PlainCycle.{Measures, is, falls, and}
 use denote.Ref.{now}
-use lib.Dec.{eqb, leb}
+use lib.Dec.{eqb}
 use lib.IntN.{ℤ, pos}
 use lib.ListN.{getD, length}
 use mir.Facts.{toZ-ofZ}
@@ -22,12 +21,10 @@ use Rattle.arithmetic.specs.Arithmetic.{compute, compare}
 use Rattle.arithmetic.specs.Operators.{arithmeticOf, comparisonOf}
 use Rattle.arithmetic.proofs.Outcomes.{stands-same, stands-at, held, handed, of-number, of-zero, number-small, number-in, fault-stands, first-fault, second-fault, both-in, truth-same, truth-in, truth-fault-in, of-truth}
 use Rattle.expressions.specs.Nodes.{nodeAt}
-use Rattle.expressions.specs.Values.{number, truth}
-use Rattle.expressions.specs.OperandValues.{operandNumber, operandTruth, decide}
-use Rattle.expressions.specs.WholeRecords.{RecordAt}
-use Rattle.expressions.proofs.Decided.{undecided, stays}
+use Rattle.expressions.specs.Values.{truth}
+use Rattle.expressions.specs.OperandValues.{operandNumber, operandTruth}
 use Rattle.expressions.proofs.Arms.{constant-leaf, variable-leaf}
-use Rattle.expressions.proofs.WholeRecords.{no-number-from, choice-from, arithmetic-from, no-truth-from, comparison-from, negation-from, decided-from, turnIf, connective, no-connective, LeftTo, LeftToOperand, left-by-not, left-to-second, first-decides, left-to-none, left-to-lower, left-to-no-truth, left-to-comparison}
+use Rattle.expressions.proofs.WholeRecords.{lower-record, left-record, no-number-from, choice-from, arithmetic-from, turnIf, connective, no-connective, LeftTo, LeftToOperand, left-by-not, left-to-second, first-decides, left-to-none, left-to-lower, left-to-no-truth, left-to-comparison}
 use Rattle.expressions.proofs.values.comparison_at.Reads as comparison-at
 use Rattle.expressions.proofs.values.comparison_at.Kinds as comparison-at-kinds
 use Rattle.expressions.proofs.values.+comparison_at+condition+number_below+operation+truth_below.Lts-comparison_at as comparison-at-lts
@@ -119,6 +116,7 @@ operation-calls t = (u16-within-reads.Asked, u16-within-reads.Learnt, number-bel
 abbrev truth-below-calls : ℕ → truth-below-lts.Claims
 truth-below-calls t = (condition-below t, condition.Post)
 
+-- the loop of `condition` goes down from record to record
 abbrev Inv : condition-lts.InvT-loop
 Inv nodes vars start at₀ flip₀ code₀ at flip code = LeftTo nodes vars start at flip code
 
@@ -127,10 +125,10 @@ abbrev μ : condition-lts.MeasureT-loop
 
 module _ (t : ℕ) where
   comparison-at-add-u16-within : comparison-at-lts.Need-add-u16-within (comparison-at-calls t) (comparison-at-at t) comparison-at.Post
-  comparison-at-add-u16-within c = let w : c .before .args .at + 16 ≤ length (now (c .before .args .nodes)) = c .before .pre .1 .whole in search (needs, w)
+  comparison-at-add-u16-within c = search (needs, c .before .pre .1 .whole)
 
   comparison-at-u16-within-requires : comparison-at-lts.Need-u16-within-requires (comparison-at-calls t) (comparison-at-at t) comparison-at.Post
-  comparison-at-u16-within-requires c κs = let w : c .before .args .at + 16 ≤ length (now (c .before .args .nodes)) = c .before .pre .1 .whole in omega (arith, w)
+  comparison-at-u16-within-requires c κs = omega (arith, c .before .pre .1 .whole)
 
   comparison-at-number-below-requires : comparison-at-lts.Need-number-below-requires (comparison-at-calls t) (comparison-at-at t) comparison-at.Post
   comparison-at-number-below-requires c κs = (omega (arith, c .before .before .pre .0), c .before .before .pre .1)
@@ -148,10 +146,10 @@ module _ (t : ℕ) where
       λ n e. truth-same (c .truth-fault .ensures) (first-fault (handed (first .ok) (first .ensures n e) (ap (N n) (a .ensures))) (c .before .if1 .taken) (λ u. (N n (two s (k .at + 4)) >>= λ w. val (compare (comparisonOf (byte s (k .at + 1))) u w))))
 
   comparison-at-add-u16-within-2 : comparison-at-lts.Need-add-u16-within-2 (comparison-at-calls t) (comparison-at-at t) comparison-at.Post
-  comparison-at-add-u16-within-2 c = let w : c .before .before .before .before .args .at + 16 ≤ length (now (c .before .before .before .before .args .nodes)) = c .before .before .before .before .pre .1 .whole in search (needs, w)
+  comparison-at-add-u16-within-2 c = search (needs, c .before .before .before .before .pre .1 .whole)
 
   comparison-at-u16-within-requires-2 : comparison-at-lts.Need-u16-within-requires-2 (comparison-at-calls t) (comparison-at-at t) comparison-at.Post
-  comparison-at-u16-within-requires-2 c κs = let w : c .before .before .before .before .args .at + 16 ≤ length (now (c .before .before .before .before .args .nodes)) = c .before .before .before .before .pre .1 .whole in omega (arith, w)
+  comparison-at-u16-within-requires-2 c κs = omega (arith, c .before .before .before .before .pre .1 .whole)
 
   comparison-at-number-below-requires-2 : comparison-at-lts.Need-number-below-requires-2 (comparison-at-calls t) (comparison-at-at t) comparison-at.Post
   comparison-at-number-below-requires-2 c κs = (omega (arith, c .before .before .before .before .before .pre .0), c .before .before .before .before .before .pre .1)
@@ -172,10 +170,10 @@ module _ (t : ℕ) where
       (second-fault (handed (second .ok) (second .ensures n e) (ap (N n) (b .ensures))) (number-in (handed (first .ok) (first .ensures n e) (ap (N n) (a .ensures))) (c .before .before .before .before .if1 .left)) (c .before .if2 .taken) (λ u w. val (compare (comparisonOf (byte s (k .at + 1))) u w)))
 
   comparison-at-add-compare : comparison-at-lts.Need-add-compare (comparison-at-calls t) (comparison-at-at t) comparison-at.Post
-  comparison-at-add-compare c = let w : c .before .before .before .before .before .before .before .args .at + 16 ≤ length (now (c .before .before .before .before .before .before .before .args .nodes)) = c .before .before .before .before .before .before .before .pre .1 .whole in search (needs, w)
+  comparison-at-add-compare c = search (needs, c .before .before .before .before .before .before .before .pre .1 .whole)
 
   comparison-at-shared-slice-read-compare : comparison-at-lts.Need-shared-slice-read-compare (comparison-at-calls t) (comparison-at-at t) comparison-at.Post
-  comparison-at-shared-slice-read-compare c = let w : c .before .before .before .before .before .before .before .before .args .at + 16 ≤ length (now (c .before .before .before .before .before .before .before .before .args .nodes)) = c .before .before .before .before .before .before .before .before .pre .1 .whole in omega (arith, w)
+  comparison-at-shared-slice-read-compare c = omega (arith, c .before .before .before .before .before .before .before .before .pre .1 .whole)
 
   comparison-at-compare-requires : comparison-at-lts.Need-compare-requires (comparison-at-calls t) (comparison-at-at t) comparison-at.Post
   comparison-at-compare-requires c κs = tt
@@ -197,10 +195,10 @@ module _ (t : ℕ) where
       ∙ both-in (λ u w. val (compare (comparisonOf (byte s (k .at + 1))) u w)) (number-in (handed (first .ok) (first .ensures n e) (ap (N n) (a .ensures))) (c .before .before .before .before .before .before .if1 .left)) (number-in (handed (second .ok) (second .ensures n e) (ap (N n) (b .ensures))) (c .before .before .before .if2 .left)))
 
   condition-add-code : condition-lts.Need-add-code (condition-calls t) (condition-at t) condition.Post Inv μ
-  condition-add-code c = let w : c .before .args .start + 16 ≤ length (now (c .before .args .nodes)) = c .before .pre .1 .whole in search (needs, w)
+  condition-add-code c = search (needs, c .before .pre .1 .whole)
 
   condition-shared-slice-read-code : condition-lts.Need-shared-slice-read-code (condition-calls t) (condition-at t) condition.Post Inv μ
-  condition-shared-slice-read-code c = let w : c .before .before .args .start + 16 ≤ length (now (c .before .before .args .nodes)) = c .before .before .pre .1 .whole in omega (arith, w)
+  condition-shared-slice-read-code c = omega (arith, c .before .before .pre .1 .whole)
 
   condition-loop-holds : condition-lts.Need-loop-holds (condition-calls t) (condition-at t) condition.Post Inv μ
   condition-loop-holds c =
@@ -213,39 +211,19 @@ module _ (t : ℕ) where
   condition-is-connective-requires c κs = tt
 
   condition-add-u16-within : condition-lts.Need-add-u16-within (condition-calls t) (condition-at t) condition.Post Inv μ
-  condition-add-u16-within c =
-      let i = c .before .before .loop .inv in
-      let b : c .before .before .loop .at ≤ c .before .before .before .before .before .args .start = i .below in
-      let w : c .before .before .before .before .before .args .start + 16 ≤ length (now (c .before .before .before .before .before .args .nodes)) = i .whole in
-      search (needs, b, w)
+  condition-add-u16-within c = search (needs, c .before .before .loop .inv .below, c .before .before .loop .inv .whole)
 
   condition-u16-within-requires : condition-lts.Need-u16-within-requires (condition-calls t) (condition-at t) condition.Post Inv μ
-  condition-u16-within-requires c κs =
-      let i = c .before .before .loop .inv in
-      let b : c .before .before .loop .at ≤ c .before .before .before .before .before .args .start = i .below in
-      let w : c .before .before .before .before .before .args .start + 16 ≤ length (now (c .before .before .before .before .before .args .nodes)) = i .whole in
-      omega (arith, b, w)
+  condition-u16-within-requires c κs = omega (arith, c .before .before .loop .inv .below, c .before .before .loop .inv .whole)
 
   condition-truth-below-requires : condition-lts.Need-truth-below-requires (condition-calls t) (condition-at t) condition.Post Inv μ
-  condition-truth-below-requires c κs =
-      let i = c .before .before .before .before .loop .inv in
-      let b : c .before .before .before .before .loop .at ≤ c .before .before .before .before .before .before .before .args .start = i .below in
-      let w : c .before .before .before .before .before .before .before .args .start + 16 ≤ length (now (c .before .before .before .before .before .before .before .args .nodes)) = i .whole in
-      (omega (arith, c .before .before .before .before .before .before .before .pre .0, b), record { node = i .node; begins = i .begins; whole = omega (arith, b, w) })
+  condition-truth-below-requires c κs = (omega (arith, c .before .before .before .before .before .before .before .pre .0, c .before .before .before .before .loop .inv .below), left-record (c .before .before .before .before .loop .inv))
 
   condition-add-truth-value : condition-lts.Need-add-truth-value (condition-calls t) (condition-at t) condition.Post Inv μ
-  condition-add-truth-value c =
-      let i = c .before .before .before .before .before .loop .inv in
-      let b : c .before .before .before .before .before .loop .at ≤ c .before .before .before .before .before .before .before .before .args .start = i .below in
-      let w : c .before .before .before .before .before .before .before .before .args .start + 16 ≤ length (now (c .before .before .before .before .before .before .before .before .args .nodes)) = i .whole in
-      search (needs, b, w)
+  condition-add-truth-value c = search (needs, c .before .before .before .before .before .loop .inv .below, c .before .before .before .before .before .loop .inv .whole)
 
   condition-shared-slice-read-truth-value : condition-lts.Need-shared-slice-read-truth-value (condition-calls t) (condition-at t) condition.Post Inv μ
-  condition-shared-slice-read-truth-value c =
-      let i = c .before .before .before .before .before .before .loop .inv in
-      let b : c .before .before .before .before .before .before .loop .at ≤ c .before .before .before .before .before .before .before .before .before .args .start = i .below in
-      let w : c .before .before .before .before .before .before .before .before .before .args .start + 16 ≤ length (now (c .before .before .before .before .before .before .before .before .before .args .nodes)) = i .whole in
-      omega (arith, b, w)
+  condition-shared-slice-read-truth-value c = omega (arith, c .before .before .before .before .before .before .loop .inv .below, c .before .before .before .before .before .before .loop .inv .whole)
 
   condition-truth-value-requires : condition-lts.Need-truth-value-requires (condition-calls t) (condition-at t) condition.Post Inv μ
   condition-truth-value-requires c κs = tt
@@ -263,18 +241,10 @@ module _ (t : ℕ) where
       λ n e. rw (c .turned .ensures) (first-decides i f (c .before .before .before .before .before .if2 .left) first (λ q. c .before .if3 .taken (q ∙ sym (c .before .before .truth-value .ensures))) n e)
 
   condition-add-u16-within-2 : condition-lts.Need-add-u16-within-2 (condition-calls t) (condition-at t) condition.Post Inv μ
-  condition-add-u16-within-2 c =
-      let i = c .before .before .before .before .before .before .before .before .loop .inv in
-      let b : c .before .before .before .before .before .before .before .before .loop .at ≤ c .before .before .before .before .before .before .before .before .before .before .before .args .start = i .below in
-      let w : c .before .before .before .before .before .before .before .before .before .before .before .args .start + 16 ≤ length (now (c .before .before .before .before .before .before .before .before .before .before .before .args .nodes)) = i .whole in
-      search (needs, b, w)
+  condition-add-u16-within-2 c = search (needs, c .before .before .before .before .before .before .before .before .loop .inv .below, c .before .before .before .before .before .before .before .before .loop .inv .whole)
 
   condition-u16-within-requires-2 : condition-lts.Need-u16-within-requires-2 (condition-calls t) (condition-at t) condition.Post Inv μ
-  condition-u16-within-requires-2 c κs =
-      let i = c .before .before .before .before .before .before .before .before .loop .inv in
-      let b : c .before .before .before .before .before .before .before .before .loop .at ≤ c .before .before .before .before .before .before .before .before .before .before .before .args .start = i .below in
-      let w : c .before .before .before .before .before .before .before .before .before .before .before .args .start + 16 ≤ length (now (c .before .before .before .before .before .before .before .before .before .before .before .args .nodes)) = i .whole in
-      omega (arith, b, w)
+  condition-u16-within-requires-2 c κs = omega (arith, c .before .before .before .before .before .before .before .before .loop .inv .below, c .before .before .before .before .before .before .before .before .loop .inv .whole)
 
   condition-mul-to : condition-lts.Need-mul-to (condition-calls t) (condition-at t) condition.Post Inv μ
   condition-mul-to c = search needs
@@ -282,50 +252,33 @@ module _ (t : ℕ) where
   condition-truth-value-requires-2 : condition-lts.Need-truth-value-requires-2 (condition-calls t) (condition-at t) condition.Post Inv μ
   condition-truth-value-requires-2 c κs = tt
 
-  condition-returns-2 : condition-lts.Need-returns-2 (condition-calls t) (condition-at t) condition.Post Inv μ
-  condition-returns-2 c =
-      let k = c .before .before .before .before .before .before .before .before .before .before .args in
-      let i = c .before .before .before .before .before .before .before .loop .inv in
-      let s = now (k .nodes) in
-      let l = c .before .before .before .before .before .before .before .loop in
-      let a = c .before .before .before .before .u16-within .ensures in
-      let f = connective (l .code) (sym (c .before .before .before .before .before .before .is-connective .ensures) ∙ c .before .before .before .before .before .if1 .taken) in
-      let left : LeftToOperand s (now (k .vars)) (k .start) (i .node) (c .before .before .before .if2 .flip) (c .before .before .before .if2 .left) =
+  -- what is left to the operand that the two sides of the test come to
+  condition-left : (c : condition-lts.Joined2 (condition-calls t) (condition-at t) condition.Post Inv μ) → LeftToOperand (now (c .before .before .before .before .before .before .before .args .nodes)) (now (c .before .before .before .before .before .before .before .args .vars)) (c .before .before .before .before .before .before .before .args .start) (c .before .before .before .before .loop .inv .node) (c .if2 .flip) (c .if2 .left)
+  condition-left c =
+      let k = c .before .before .before .before .before .before .before .args in
+      let l = c .before .before .before .before .loop in
+      let B : ℕ → Out Bool = operandTruth (nodeAt (now (k .nodes))) (now (k .vars)) (l .inv .node) in
+      let a = c .before .u16-within .ensures in
+      let f = connective (l .code) (sym (c .before .before .before .is-connective .ensures) ∙ c .before .before .if1 .taken) in
       ⊎-elim
-      (λ w. (λ n e. left-by-not i (w .0 .taken) n e ∙ (λ x. turnIf (sym (w .1) x) (operandTruth (nodeAt s) (now (k .vars)) (i .node) ((sym a ∙ sym (w .2)) x)))))
-      (λ w. (λ n e. left-to-second i f (w .0 .left) (truth-same (w .1 .ensures (i .node) (i .begins)) (ap (operandTruth (nodeAt s) (now (k .vars)) (i .node)) a)) (w .4 .left ∙ w .3 .ensures) n e ∙ (λ x. turnIf (sym (w .6) x) (operandTruth (nodeAt s) (now (k .vars)) (i .node) ((sym (w .5 .ensures) ∙ sym (w .7)) x)))))
-      (c .before .before .before .if2 .came)
-      in
-      λ n e. left-to-none i (c .before .before .before .if2 .flip) (c .before .before .before .if2 .left) left (c .before .if4 .taken) (c .truth-value2 .ensures) n e
+      (λ w. (λ n e. left-by-not (l .inv) (w .0 .taken) n e ∙ (λ x. turnIf (sym (w .1) x) (B ((sym a ∙ sym (w .2)) x)))))
+      (λ w. (λ n e. left-to-second (l .inv) f (w .0 .left) (truth-same (w .1 .ensures (l .inv .node) (l .inv .begins)) (ap B a)) (w .4 .left ∙ w .3 .ensures) n e ∙ (λ x. turnIf (sym (w .6) x) (B ((sym (w .5 .ensures) ∙ sym (w .7)) x)))))
+      (c .if2 .came)
+
+  condition-returns-2 : condition-lts.Need-returns-2 (condition-calls t) (condition-at t) condition.Post Inv μ
+  condition-returns-2 c = left-to-none (c .before .before .before .before .before .before .before .loop .inv) (c .before .before .before .if2 .flip) (c .before .before .before .if2 .left) (condition-left (c .before .before .before)) (c .before .if4 .taken) (c .truth-value2 .ensures)
 
   condition-add-code-2 : condition-lts.Need-add-code-2 (condition-calls t) (condition-at t) condition.Post Inv μ
   condition-add-code-2 c = search needs
 
   condition-shared-slice-read-code-2 : condition-lts.Need-shared-slice-read-code-2 (condition-calls t) (condition-at t) condition.Post Inv μ
-  condition-shared-slice-read-code-2 c =
-      let i = c .before .before .before .before .before .before .before .loop .inv in
-      let b : c .before .before .before .before .before .before .before .loop .at ≤ c .before .before .before .before .before .before .before .before .before .before .args .start = i .below in
-      let w : c .before .before .before .before .before .before .before .before .before .before .args .start + 16 ≤ length (now (c .before .before .before .before .before .before .before .before .before .before .args .nodes)) = i .whole in
-      let g : 16 * c .before .before .before .if2 .left < c .before .before .before .before .before .before .before .loop .at = c .before .if4 .left in omega (arith, b, w, g)
+  condition-shared-slice-read-code-2 c = omega (arith, lower-record (left-record (c .before .before .before .before .before .before .before .loop .inv)) (c .before .before .before .if2 .left) (c .before .if4 .left) .whole)
 
   condition-loop-less : condition-lts.Need-loop-less (condition-calls t) (condition-at t) condition.Post Inv μ
-  condition-loop-less c = let g : 16 * c .before .before .before .if2 .left < c .before .before .before .before .before .before .before .loop .at = c .before .if4 .left in g
+  condition-loop-less c = c .before .if4 .left
 
   condition-loop-again : condition-lts.Need-loop-again (condition-calls t) (condition-at t) condition.Post Inv μ
-  condition-loop-again c =
-      let k = c .before .before .before .before .before .before .before .before .before .before .args in
-      let i = c .before .before .before .before .before .before .before .loop .inv in
-      let s = now (k .nodes) in
-      let l = c .before .before .before .before .before .before .before .loop in
-      let a = c .before .before .before .before .u16-within .ensures in
-      let f = connective (l .code) (sym (c .before .before .before .before .before .before .is-connective .ensures) ∙ c .before .before .before .before .before .if1 .taken) in
-      let left : LeftToOperand s (now (k .vars)) (k .start) (i .node) (c .before .before .before .if2 .flip) (c .before .before .before .if2 .left) =
-      ⊎-elim
-      (λ w. (λ n e. left-by-not i (w .0 .taken) n e ∙ (λ x. turnIf (sym (w .1) x) (operandTruth (nodeAt s) (now (k .vars)) (i .node) ((sym a ∙ sym (w .2)) x)))))
-      (λ w. (λ n e. left-to-second i f (w .0 .left) (truth-same (w .1 .ensures (i .node) (i .begins)) (ap (operandTruth (nodeAt s) (now (k .vars)) (i .node)) a)) (w .4 .left ∙ w .3 .ensures) n e ∙ (λ x. turnIf (sym (w .6) x) (operandTruth (nodeAt s) (now (k .vars)) (i .node) ((sym (w .5 .ensures) ∙ sym (w .7)) x)))))
-      (c .before .before .before .if2 .came)
-      in
-      left-to-lower i (c .before .before .before .if2 .flip) (c .before .before .before .if2 .left) left (c .before .if4 .left)
+  condition-loop-again c = left-to-lower (c .before .before .before .before .before .before .before .loop .inv) (c .before .before .before .if2 .flip) (c .before .before .before .if2 .left) (condition-left (c .before .before .before)) (c .before .if4 .left)
 
   condition-truth-value-requires-3 : condition-lts.Need-truth-value-requires-3 (condition-calls t) (condition-at t) condition.Post Inv μ
   condition-truth-value-requires-3 c κs = tt
@@ -341,11 +294,7 @@ module _ (t : ℕ) where
       λ n e. left-to-no-truth i none (c .truth-value3 .ensures) n e
 
   condition-comparison-at-requires : condition-lts.Need-comparison-at-requires (condition-calls t) (condition-at t) condition.Post Inv μ
-  condition-comparison-at-requires c κs =
-      let i = c .before .before .before .before .loop .inv in
-      let b : c .before .before .before .before .loop .at ≤ c .before .before .before .before .before .before .before .args .start = i .below in
-      let w : c .before .before .before .before .before .before .before .args .start + 16 ≤ length (now (c .before .before .before .before .before .before .before .args .nodes)) = i .whole in
-      (omega (arith, c .before .before .before .before .before .before .before .pre .0, b), record { node = i .node; begins = i .begins; whole = omega (arith, b, w) })
+  condition-comparison-at-requires c κs = (omega (arith, c .before .before .before .before .before .before .before .pre .0, c .before .before .before .before .loop .inv .below), left-record (c .before .before .before .before .loop .inv))
 
   condition-turned-requires-2 : condition-lts.Need-turned-requires-2 (condition-calls t) (condition-at t) condition.Post Inv μ
   condition-turned-requires-2 c κs = tt
@@ -371,23 +320,13 @@ module _ (t : ℕ) where
   number-below-add-code c = search needs
 
   number-below-shared-slice-read-code : number-below-lts.Need-shared-slice-read-code (number-below-calls t) (number-below-at t) number-below.Post
-  number-below-shared-slice-read-code c =
-      let r = c .before .before .before .pre .1 in
-      let b : c .before .before .before .args .at ≡ 16 * r .node = r .begins in
-      let w : c .before .before .before .args .at + 16 ≤ length (now (c .before .before .before .args .nodes)) = r .whole in
-      let l : 16 * c .before .before .before .args .a < c .before .before .before .args .at = c .before .if1 .left in
-      omega (arith, b, w, l)
+  number-below-shared-slice-read-code c = omega (arith, lower-record (c .before .before .before .pre .1) (c .before .before .before .args .a) (c .before .if1 .left) .whole)
 
   number-below-add-u16-within : number-below-lts.Need-add-u16-within (number-below-calls t) (number-below-at t) number-below.Post
   number-below-add-u16-within c = search needs
 
   number-below-u16-within-requires : number-below-lts.Need-u16-within-requires (number-below-calls t) (number-below-at t) number-below.Post
-  number-below-u16-within-requires c κs =
-      let r = c .before .before .before .before .before .pre .1 in
-      let b : c .before .before .before .before .before .args .at ≡ 16 * r .node = r .begins in
-      let w : c .before .before .before .before .before .args .at + 16 ≤ length (now (c .before .before .before .before .before .args .nodes)) = r .whole in
-      let l : 16 * c .before .before .before .before .before .args .a < c .before .before .before .before .before .args .at = c .before .before .before .if1 .left in
-      omega (arith, b, w, l)
+  number-below-u16-within-requires c κs = omega (arith, lower-record (c .before .before .before .before .before .pre .1) (c .before .before .before .before .before .args .a) (c .before .before .before .if1 .left) .whole)
 
   number-below-variable-requires : number-below-lts.Need-variable-requires (number-below-calls t) (number-below-at t) number-below.Post
   number-below-variable-requires c κs = tt
@@ -404,12 +343,7 @@ module _ (t : ℕ) where
   number-below-add-i32-within c = search needs
 
   number-below-i32-within-requires : number-below-lts.Need-i32-within-requires (number-below-calls t) (number-below-at t) number-below.Post
-  number-below-i32-within-requires c κs =
-      let r = c .before .before .before .before .before .pre .1 in
-      let b : c .before .before .before .before .before .args .at ≡ 16 * r .node = r .begins in
-      let w : c .before .before .before .before .before .args .at + 16 ≤ length (now (c .before .before .before .before .before .args .nodes)) = r .whole in
-      let l : 16 * c .before .before .before .before .before .args .a < c .before .before .before .before .before .args .at = c .before .before .before .if1 .left in
-      omega (arith, b, w, l)
+  number-below-i32-within-requires c κs = omega (arith, lower-record (c .before .before .before .before .before .pre .1) (c .before .before .before .before .before .args .a) (c .before .before .before .if1 .left) .whole)
 
   number-below-wide-requires : number-below-lts.Need-wide-requires (number-below-calls t) (number-below-at t) number-below.Post
   number-below-wide-requires c κs = tt
@@ -424,12 +358,7 @@ module _ (t : ℕ) where
       (stands-same (of-number (z .result) (z .ok)) (ap val (z .ensures) ∙ constant-leaf (now (k .nodes)) (now (k .vars)) (k .a) (c .before .before .if3 .taken))))
 
   number-below-operation-requires : number-below-lts.Need-operation-requires (number-below-calls t) (number-below-at t) number-below.Post
-  number-below-operation-requires c κs =
-      let r = c .before .before .before .before .before .pre .1 in
-      let b : c .before .before .before .before .before .args .at ≡ 16 * r .node = r .begins in
-      let w : c .before .before .before .before .before .args .at + 16 ≤ length (now (c .before .before .before .before .before .args .nodes)) = r .whole in
-      let l : 16 * c .before .before .before .before .before .args .a < c .before .before .before .before .before .args .at = c .before .before .before .if1 .left in
-      (omega (arith, c .before .before .before .before .before .pre .0, l), (record { node = c .before .before .before .before .before .args .a; begins = refl; whole = omega (arith, b, w, l) }, (refl, (c .if3 .left, c .before .if2 .left))))
+  number-below-operation-requires c κs = (omega (arith, c .before .before .before .before .before .pre .0, c .before .before .before .if1 .left), (lower-record (c .before .before .before .before .before .pre .1) (c .before .before .before .before .before .args .a) (c .before .before .before .if1 .left), (refl, (c .if3 .left, c .before .if2 .left))))
 
   number-below-returns-4 : number-below-lts.Need-returns-4 (number-below-calls t) (number-below-at t) number-below.Post
   number-below-returns-4 c =
@@ -438,10 +367,10 @@ module _ (t : ℕ) where
       λ n e. rw (lt-ltb (k .a) n (omega (arith, l, e))) (held (c .operation .ok) (c .operation .ensures (k .a) refl))
 
   operation-add-u16-within : operation-lts.Need-add-u16-within (operation-calls t) (operation-at t) operation.Post
-  operation-add-u16-within c = let w : c .before .before .before .args .at + 16 ≤ length (now (c .before .before .before .args .nodes)) = c .before .before .before .pre .1 .0 .whole in search (needs, w)
+  operation-add-u16-within c = search (needs, c .before .before .before .pre .1 .0 .whole)
 
   operation-u16-within-requires : operation-lts.Need-u16-within-requires (operation-calls t) (operation-at t) operation.Post
-  operation-u16-within-requires c κs = let w : c .before .before .before .args .at + 16 ≤ length (now (c .before .before .before .args .nodes)) = c .before .before .before .pre .1 .0 .whole in omega (arith, w)
+  operation-u16-within-requires c κs = omega (arith, c .before .before .before .pre .1 .0 .whole)
 
   operation-number-below-requires : operation-lts.Need-number-below-requires (operation-calls t) (operation-at t) operation.Post
   operation-number-below-requires c κs = (omega (arith, c .before .before .before .before .pre .0), c .before .before .before .before .pre .1 .0)
@@ -451,19 +380,15 @@ module _ (t : ℕ) where
       let k = c .before .before .before .before .before .before .args in
       let s = now (k .nodes) in
       let N : ℕ → ℕ → Out ℤ = operandNumber (nodeAt s) (now (k .vars)) in
-      let p = c .before .before .before .before .before .before .pre .1 in
-      let low : 2 < k .code = c .before .before .before .before .if1 .taken in
-      let high : k .code < 8 = ltb-true (k .code) 8 (c .before .before .before .if2 .taken) in
-      let own : (n : ℕ) → k .at ≡ 16 * n → (N n (two s (k .at + 2)) >>= λ u. (N n (two s (k .at + 4)) >>= λ w. compute (arithmeticOf (byte s (k .at + 1))) u w)) ≡ number (nodeAt s) (now (k .vars)) n = λ n e. arithmetic-from s (now (k .vars)) (k .at) n e (subst (λ x. 2 < x) (p .1 .0) low) (subst (λ x. x < 8) (p .1 .0) high) in
       let first = c .before .number-below in
       let a = c .before .before .u16-within in
-      λ n e. (let x = handed (first .ok) (first .ensures n e) (ap (N n) (a .ensures)) in stands-same (fault-stands x (c .if3 .taken)) (first-fault x (c .if3 .taken) (λ u. (N n (two s (k .at + 4)) >>= λ w. compute (arithmeticOf (byte s (k .at + 1))) u w)) ∙ own n e))
+      λ n e. (let x = handed (first .ok) (first .ensures n e) (ap (N n) (a .ensures)) in stands-same (fault-stands x (c .if3 .taken)) (first-fault x (c .if3 .taken) (λ u. (N n (two s (k .at + 4)) >>= λ w. compute (arithmeticOf (byte s (k .at + 1))) u w)) ∙ arithmetic-from s (now (k .vars)) (k .at) n e (k .code) (c .before .before .before .before .before .before .pre .1 .1 .0) (c .before .before .before .before .if1 .taken) (ltb-true (k .code) 8 (c .before .before .before .if2 .taken))))
 
   operation-add-u16-within-2 : operation-lts.Need-add-u16-within-2 (operation-calls t) (operation-at t) operation.Post
-  operation-add-u16-within-2 c = let w : c .before .before .before .before .before .before .args .at + 16 ≤ length (now (c .before .before .before .before .before .before .args .nodes)) = c .before .before .before .before .before .before .pre .1 .0 .whole in search (needs, w)
+  operation-add-u16-within-2 c = search (needs, c .before .before .before .before .before .before .pre .1 .0 .whole)
 
   operation-u16-within-requires-2 : operation-lts.Need-u16-within-requires-2 (operation-calls t) (operation-at t) operation.Post
-  operation-u16-within-requires-2 c κs = let w : c .before .before .before .before .before .before .args .at + 16 ≤ length (now (c .before .before .before .before .before .before .args .nodes)) = c .before .before .before .before .before .before .pre .1 .0 .whole in omega (arith, w)
+  operation-u16-within-requires-2 c κs = omega (arith, c .before .before .before .before .before .before .pre .1 .0 .whole)
 
   operation-number-below-requires-2 : operation-lts.Need-number-below-requires-2 (operation-calls t) (operation-at t) operation.Post
   operation-number-below-requires-2 c κs = (omega (arith, c .before .before .before .before .before .before .before .pre .0), c .before .before .before .before .before .before .before .pre .1 .0)
@@ -473,21 +398,17 @@ module _ (t : ℕ) where
       let k = c .before .before .before .before .before .before .before .before .before .args in
       let s = now (k .nodes) in
       let N : ℕ → ℕ → Out ℤ = operandNumber (nodeAt s) (now (k .vars)) in
-      let p = c .before .before .before .before .before .before .before .before .before .pre .1 in
-      let low : 2 < k .code = c .before .before .before .before .before .before .before .if1 .taken in
-      let high : k .code < 8 = ltb-true (k .code) 8 (c .before .before .before .before .before .before .if2 .taken) in
-      let own : (n : ℕ) → k .at ≡ 16 * n → (N n (two s (k .at + 2)) >>= λ u. (N n (two s (k .at + 4)) >>= λ w. compute (arithmeticOf (byte s (k .at + 1))) u w)) ≡ number (nodeAt s) (now (k .vars)) n = λ n e. arithmetic-from s (now (k .vars)) (k .at) n e (subst (λ x. 2 < x) (p .1 .0) low) (subst (λ x. x < 8) (p .1 .0) high) in
       let first = c .before .before .before .before .number-below in
       let a = c .before .before .before .before .before .u16-within in
       let second = c .before .number-below2 in
       let b = c .before .before .u16-within2 in
-      λ n e. (let y = handed (second .ok) (second .ensures n e) (ap (N n) (b .ensures)) in stands-same (fault-stands y (c .if4 .taken)) (second-fault y (number-in (handed (first .ok) (first .ensures n e) (ap (N n) (a .ensures))) (c .before .before .before .if3 .left)) (c .if4 .taken) (compute (arithmeticOf (byte s (k .at + 1)))) ∙ own n e))
+      λ n e. (let y = handed (second .ok) (second .ensures n e) (ap (N n) (b .ensures)) in stands-same (fault-stands y (c .if4 .taken)) (second-fault y (number-in (handed (first .ok) (first .ensures n e) (ap (N n) (a .ensures))) (c .before .before .before .if3 .left)) (c .if4 .taken) (compute (arithmeticOf (byte s (k .at + 1)))) ∙ arithmetic-from s (now (k .vars)) (k .at) n e (k .code) (c .before .before .before .before .before .before .before .before .before .pre .1 .1 .0) (c .before .before .before .before .before .before .before .if1 .taken) (ltb-true (k .code) 8 (c .before .before .before .before .before .before .if2 .taken))))
 
   operation-add-compute : operation-lts.Need-add-compute (operation-calls t) (operation-at t) operation.Post
-  operation-add-compute c = let w : c .before .before .before .before .before .before .before .before .before .args .at + 16 ≤ length (now (c .before .before .before .before .before .before .before .before .before .args .nodes)) = c .before .before .before .before .before .before .before .before .before .pre .1 .0 .whole in search (needs, w)
+  operation-add-compute c = search (needs, c .before .before .before .before .before .before .before .before .before .pre .1 .0 .whole)
 
   operation-shared-slice-read-compute : operation-lts.Need-shared-slice-read-compute (operation-calls t) (operation-at t) operation.Post
-  operation-shared-slice-read-compute c = let w : c .before .before .before .before .before .before .before .before .before .before .args .at + 16 ≤ length (now (c .before .before .before .before .before .before .before .before .before .before .args .nodes)) = c .before .before .before .before .before .before .before .before .before .before .pre .1 .0 .whole in omega (arith, w)
+  operation-shared-slice-read-compute c = omega (arith, c .before .before .before .before .before .before .before .before .before .before .pre .1 .0 .whole)
 
   operation-compute-requires : operation-lts.Need-compute-requires (operation-calls t) (operation-at t) operation.Post
   operation-compute-requires c κs =
@@ -501,22 +422,18 @@ module _ (t : ℕ) where
       let k = c .before .before .before .before .before .before .before .before .before .before .before .args in
       let s = now (k .nodes) in
       let N : ℕ → ℕ → Out ℤ = operandNumber (nodeAt s) (now (k .vars)) in
-      let p = c .before .before .before .before .before .before .before .before .before .before .before .pre .1 in
-      let low : 2 < k .code = c .before .before .before .before .before .before .before .before .before .if1 .taken in
-      let high : k .code < 8 = ltb-true (k .code) 8 (c .before .before .before .before .before .before .before .before .if2 .taken) in
-      let own : (n : ℕ) → k .at ≡ 16 * n → (N n (two s (k .at + 2)) >>= λ u. (N n (two s (k .at + 4)) >>= λ w. compute (arithmeticOf (byte s (k .at + 1))) u w)) ≡ number (nodeAt s) (now (k .vars)) n = λ n e. arithmetic-from s (now (k .vars)) (k .at) n e (subst (λ x. 2 < x) (p .1 .0) low) (subst (λ x. x < 8) (p .1 .0) high) in
       let first = c .before .before .before .before .before .before .number-below in
       let a = c .before .before .before .before .before .before .before .u16-within in
       let second = c .before .before .before .number-below2 in
       let b = c .before .before .before .before .u16-within2 in
       λ n e. handed (c .compute .ok) (c .compute .ensures)
-      (both-in (compute (arithmeticOf (byte s (k .at + 1)))) (number-in (handed (first .ok) (first .ensures n e) (ap (N n) (a .ensures))) (c .before .before .before .before .before .if3 .left)) (number-in (handed (second .ok) (second .ensures n e) (ap (N n) (b .ensures))) (c .before .before .if4 .left)) ∙ own n e)
+      (both-in (compute (arithmeticOf (byte s (k .at + 1)))) (number-in (handed (first .ok) (first .ensures n e) (ap (N n) (a .ensures))) (c .before .before .before .before .before .if3 .left)) (number-in (handed (second .ok) (second .ensures n e) (ap (N n) (b .ensures))) (c .before .before .if4 .left)) ∙ arithmetic-from s (now (k .vars)) (k .at) n e (k .code) (c .before .before .before .before .before .before .before .before .before .before .before .pre .1 .1 .0) (c .before .before .before .before .before .before .before .before .before .if1 .taken) (ltb-true (k .code) 8 (c .before .before .before .before .before .before .before .before .if2 .taken)))
 
   operation-add-u16-within-3 : operation-lts.Need-add-u16-within-3 (operation-calls t) (operation-at t) operation.Post
-  operation-add-u16-within-3 c = let w : c .before .before .before .args .at + 16 ≤ length (now (c .before .before .before .args .nodes)) = c .before .before .before .pre .1 .0 .whole in search (needs, w)
+  operation-add-u16-within-3 c = search (needs, c .before .before .before .pre .1 .0 .whole)
 
   operation-u16-within-requires-3 : operation-lts.Need-u16-within-requires-3 (operation-calls t) (operation-at t) operation.Post
-  operation-u16-within-requires-3 c κs = let w : c .before .before .before .args .at + 16 ≤ length (now (c .before .before .before .args .nodes)) = c .before .before .before .pre .1 .0 .whole in omega (arith, w)
+  operation-u16-within-requires-3 c κs = omega (arith, c .before .before .before .pre .1 .0 .whole)
 
   operation-truth-below-requires : operation-lts.Need-truth-below-requires (operation-calls t) (operation-at t) operation.Post
   operation-truth-below-requires c κs = (omega (arith, c .before .before .before .before .pre .0), c .before .before .before .before .pre .1 .0)
@@ -529,18 +446,16 @@ module _ (t : ℕ) where
       let k = c .before .before .before .before .before .before .before .args in
       let s = now (k .nodes) in
       let N : ℕ → ℕ → Out ℤ = operandNumber (nodeAt s) (now (k .vars)) in
-      let p = c .before .before .before .before .before .before .before .pre .1 in
-      let own : (n : ℕ) → k .at ≡ 16 * n → choose (operandTruth (nodeAt s) (now (k .vars)) n (two s (k .at + 2))) (N n (two s (k .at + 4))) (N n (two s (k .at + 6))) ≡ number (nodeAt s) (now (k .vars)) n = λ n e. choice-from s (now (k .vars)) (k .at) n e (sym (p .1 .0) ∙ c .before .before .before .before .if5 .taken) in
       let first = c .before .before .truth-below in
       let a = c .before .before .before .u16-within3 in
       λ n e. handed (c .number-fault .ok) (c .number-fault .ensures)
-      (ap (λ u. choose u (N n (two s (k .at + 4))) (N n (two s (k .at + 6)))) (truth-fault-in (first .ensures n e) (c .before .if6 .taken) ∙ ap (operandTruth (nodeAt s) (now (k .vars)) n) (a .ensures)) ∙ own n e)
+      (ap (λ u. choose u (N n (two s (k .at + 4))) (N n (two s (k .at + 6)))) (truth-fault-in (first .ensures n e) (c .before .if6 .taken) ∙ ap (operandTruth (nodeAt s) (now (k .vars)) n) (a .ensures)) ∙ choice-from s (now (k .vars)) (k .at) n e (k .code) (c .before .before .before .before .before .before .before .pre .1 .1 .0) (c .before .before .before .before .if5 .taken))
 
   operation-add-u16-within-4 : operation-lts.Need-add-u16-within-4 (operation-calls t) (operation-at t) operation.Post
-  operation-add-u16-within-4 c = let w : c .before .before .before .before .before .before .before .args .at + 16 ≤ length (now (c .before .before .before .before .before .before .before .args .nodes)) = c .before .before .before .before .before .before .before .pre .1 .0 .whole in search (needs, w)
+  operation-add-u16-within-4 c = search (needs, c .before .before .before .before .before .before .before .pre .1 .0 .whole)
 
   operation-u16-within-requires-4 : operation-lts.Need-u16-within-requires-4 (operation-calls t) (operation-at t) operation.Post
-  operation-u16-within-requires-4 c κs = let w : c .before .before .before .before .before .before .before .args .at + 16 ≤ length (now (c .before .before .before .before .before .before .before .args .nodes)) = c .before .before .before .before .before .before .before .pre .1 .0 .whole in omega (arith, w)
+  operation-u16-within-requires-4 c κs = omega (arith, c .before .before .before .before .before .before .before .pre .1 .0 .whole)
 
   operation-number-below-requires-3 : operation-lts.Need-number-below-requires-3 (operation-calls t) (operation-at t) operation.Post
   operation-number-below-requires-3 c κs = (omega (arith, c .before .before .before .before .before .before .before .before .pre .0), c .before .before .before .before .before .before .before .before .pre .1 .0)
@@ -550,19 +465,17 @@ module _ (t : ℕ) where
       let k = c .before .before .before .before .before .before .before .before .before .args in
       let s = now (k .nodes) in
       let N : ℕ → ℕ → Out ℤ = operandNumber (nodeAt s) (now (k .vars)) in
-      let p = c .before .before .before .before .before .before .before .before .before .pre .1 in
-      let own : (n : ℕ) → k .at ≡ 16 * n → choose (operandTruth (nodeAt s) (now (k .vars)) n (two s (k .at + 2))) (N n (two s (k .at + 4))) (N n (two s (k .at + 6))) ≡ number (nodeAt s) (now (k .vars)) n = λ n e. choice-from s (now (k .vars)) (k .at) n e (sym (p .1 .0) ∙ c .before .before .before .before .before .before .if5 .taken) in
       let first = c .before .before .before .before .truth-below in
       let a = c .before .before .before .before .before .u16-within3 in
       let one : first .result ≡ 1 = c .before .before .if7 .taken in
       λ n e. handed (c .number-below3 .ok) (c .number-below3 .ensures n e)
-      (ap (N n) (c .before .u16-within4 .ensures) ∙ ap (λ u. choose u (N n (two s (k .at + 4))) (N n (two s (k .at + 6)))) (ap (λ x. val (eqb x 1)) (sym one) ∙ truth-in (first .ensures n e) (c .before .before .before .if6 .left) ∙ ap (operandTruth (nodeAt s) (now (k .vars)) n) (a .ensures)) ∙ own n e)
+      (ap (N n) (c .before .u16-within4 .ensures) ∙ ap (λ u. choose u (N n (two s (k .at + 4))) (N n (two s (k .at + 6)))) (ap (λ x. val (eqb x 1)) (sym one) ∙ truth-in (first .ensures n e) (c .before .before .before .if6 .left) ∙ ap (operandTruth (nodeAt s) (now (k .vars)) n) (a .ensures)) ∙ choice-from s (now (k .vars)) (k .at) n e (k .code) (c .before .before .before .before .before .before .before .before .before .pre .1 .1 .0) (c .before .before .before .before .before .before .if5 .taken))
 
   operation-add-u16-within-5 : operation-lts.Need-add-u16-within-5 (operation-calls t) (operation-at t) operation.Post
-  operation-add-u16-within-5 c = let w : c .before .before .before .before .before .before .before .args .at + 16 ≤ length (now (c .before .before .before .before .before .before .before .args .nodes)) = c .before .before .before .before .before .before .before .pre .1 .0 .whole in search (needs, w)
+  operation-add-u16-within-5 c = search (needs, c .before .before .before .before .before .before .before .pre .1 .0 .whole)
 
   operation-u16-within-requires-5 : operation-lts.Need-u16-within-requires-5 (operation-calls t) (operation-at t) operation.Post
-  operation-u16-within-requires-5 c κs = let w : c .before .before .before .before .before .before .before .args .at + 16 ≤ length (now (c .before .before .before .before .before .before .before .args .nodes)) = c .before .before .before .before .before .before .before .pre .1 .0 .whole in omega (arith, w)
+  operation-u16-within-requires-5 c κs = omega (arith, c .before .before .before .before .before .before .before .pre .1 .0 .whole)
 
   operation-number-below-requires-4 : operation-lts.Need-number-below-requires-4 (operation-calls t) (operation-at t) operation.Post
   operation-number-below-requires-4 c κs = (omega (arith, c .before .before .before .before .before .before .before .before .pre .0), c .before .before .before .before .before .before .before .before .pre .1 .0)
@@ -572,38 +485,29 @@ module _ (t : ℕ) where
       let k = c .before .before .before .before .before .before .before .before .before .args in
       let s = now (k .nodes) in
       let N : ℕ → ℕ → Out ℤ = operandNumber (nodeAt s) (now (k .vars)) in
-      let p = c .before .before .before .before .before .before .before .before .before .pre .1 in
-      let own : (n : ℕ) → k .at ≡ 16 * n → choose (operandTruth (nodeAt s) (now (k .vars)) n (two s (k .at + 2))) (N n (two s (k .at + 4))) (N n (two s (k .at + 6))) ≡ number (nodeAt s) (now (k .vars)) n = λ n e. choice-from s (now (k .vars)) (k .at) n e (sym (p .1 .0) ∙ c .before .before .before .before .before .before .if5 .taken) in
       let first = c .before .before .before .before .truth-below in
       let a = c .before .before .before .before .before .u16-within3 in
       let other : first .result ≡ 1 → ⊥ = c .before .before .if7 .left in
       λ n e. handed (c .number-below4 .ok) (c .number-below4 .ensures n e)
-      (ap (N n) (c .before .u16-within5 .ensures) ∙ ap (λ u. choose u (N n (two s (k .at + 4))) (N n (two s (k .at + 6)))) (ap val (sym (ne-eqb (first .result) 1 other)) ∙ truth-in (first .ensures n e) (c .before .before .before .if6 .left) ∙ ap (operandTruth (nodeAt s) (now (k .vars)) n) (a .ensures)) ∙ own n e)
+      (ap (N n) (c .before .u16-within5 .ensures) ∙ ap (λ u. choose u (N n (two s (k .at + 4))) (N n (two s (k .at + 6)))) (ap val (sym (ne-eqb (first .result) 1 other)) ∙ truth-in (first .ensures n e) (c .before .before .before .if6 .left) ∙ ap (operandTruth (nodeAt s) (now (k .vars)) n) (a .ensures)) ∙ choice-from s (now (k .vars)) (k .at) n e (k .code) (c .before .before .before .before .before .before .before .before .before .pre .1 .1 .0) (c .before .before .before .before .before .before .if5 .taken))
 
   operation-returns-7 : operation-lts.Need-returns-7 (operation-calls t) (operation-at t) operation.Post
   operation-returns-7 c =
       let k = c .before .before .before .args in
-      let s = now (k .nodes) in
-      let N : ℕ → ℕ → Out ℤ = operandNumber (nodeAt s) (now (k .vars)) in
-      let p = c .before .before .before .pre .1 in
-      let one : k .code ≡ 1 → ⊥ = p .1 .1 .0 in
-      let two : k .code ≡ 2 → ⊥ = p .1 .1 .1 in
+      let p = c .before .before .before .pre .1 .1 in
+      let one : k .code ≡ 1 → ⊥ = p .1 .0 in
+      let two : k .code ≡ 2 → ⊥ = p .1 .1 in
       let eight : k .code ≡ 8 → ⊥ = c .if5 .left in
       let none : 1 ≤ k .code → k .code ≤ 8 → ⊥ =
       λ low high. ⊎-elim (λ w. (let h : 8 ≤ k .code = ltb-false (k .code) 8 (w .1 .left) in omega (arith, h, high, eight))) (λ w. (let l : k .code ≤ 2 = w .left in omega (arith, l, low, one, two))) (c .before .if1 .came)
       in
-      λ n e. stands-same of-zero (no-number-from s (now (k .vars)) (k .at) n e (subst (λ x. 1 ≤ x → x ≤ 8 → ⊥) (p .1 .0) none))
+      λ n e. stands-same of-zero (no-number-from (now (k .nodes)) (now (k .vars)) (k .at) n e (k .code) (p .0) none)
 
   truth-below-mul-to : truth-below-lts.Need-mul-to (truth-below-calls t) (truth-below-at t) truth-below.Post
   truth-below-mul-to c = search needs
 
   truth-below-condition-requires : truth-below-lts.Need-condition-requires (truth-below-calls t) (truth-below-at t) truth-below.Post
-  truth-below-condition-requires c κs =
-      let r = c .before .before .pre .1 in
-      let b : c .before .before .args .at ≡ 16 * r .node = r .begins in
-      let w : c .before .before .args .at + 16 ≤ length (now (c .before .before .args .nodes)) = r .whole in
-      let l : 16 * c .before .before .args .a < c .before .before .args .at = c .if1 .taken in
-      (omega (arith, c .before .before .pre .0, l), record { node = c .before .before .args .a; begins = refl; whole = omega (arith, b, w, l) })
+  truth-below-condition-requires c κs = (omega (arith, c .before .before .pre .0, c .if1 .taken), lower-record (c .before .before .pre .1) (c .before .before .args .a) (c .if1 .taken))
 
   truth-below-returns : truth-below-lts.Need-returns (truth-below-calls t) (truth-below-at t) truth-below.Post
   truth-below-returns c =
