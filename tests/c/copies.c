@@ -1,7 +1,7 @@
 /* How often a call copies the 64 variables: copies [all]. A turn of charts with each shape of a guard, and with all, the other calls with one. The processor stops after each instruction
- * of a call, which runs on a stack of its own; a copy is counted when a place of that stack comes to hold the 64 values of the lent run. What is given back to the lent run is not counted.
- * The same call where the guard's transition has not its event, and so the guard is not worked out, tells how often whole runs are copied; working it out must add none. For x86-64, as the
- * library is. */
+ * of a call, which runs on a stack of its own; a copy is counted when a place of that stack comes to hold the 64 values of the lent run. What is given back to the lent run is not counted,
+ * and neither is a copy onto a place that still holds the same values. The same call where the guard's transition has not its event, and so the guard is not worked out, tells how often
+ * whole runs are copied; working it out must add none. For x86-64, as the library is. */
 #define _GNU_SOURCE
 #include "monuvaleck.h"
 #include "nested.h"
