@@ -23,7 +23,7 @@ stands_at e s = record { code = e ∙ s.code; reached = s.reached }
 
 -- what a call hands back, in 64 bits
 pub held : {z : ℤ} {o : Out ℤ} → mag z < 2 ^ 63 → StandsFor z o → StandsFor (to_z w64 (of_z w64 z)) o
-held f s = stands_at (to_z-of_z (record { sfits = f })) s
+held f s = stands_at (to_z-of_z {w = w64} (record { sfits = f })) s
 
 pub handed : {z : ℤ} {o p : Out ℤ} → mag z < 2 ^ 63 → StandsFor z o → o ≡ p → StandsFor (to_z w64 (of_z w64 z)) p
 handed f s e = stands_same (held f s) e

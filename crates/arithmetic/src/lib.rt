@@ -1,5 +1,7 @@
 // Sums, products and comparisons of 32-bit numbers, worked out in 64 bits. An outcome is one number, so that a register holds it: a number of 32 bits is
 // itself, and a fault is above them.
+#![tactic(auto)]
+
 ghost use Rattle.std.specs.Prelude.{◌≡◌};
 ghost use Rattle.arithmetic.specs.Operators.{sum, difference, product, quotient, remainder, arithmetic_of, comparison_of};
 ghost use Rattle.arithmetic.specs.Arithmetic.{in_range, compute, compare};

@@ -6,7 +6,7 @@ ghost use Rattle.expressions.specs.Coded.{HasFields};
 
 use records::{byte_at, i32_at, u16_at, u16_within};
 
-#[derive(Drop)]
+#[derive(Clone, Copy)]
 pub enum Operator {
     Sum,
     Difference,
@@ -15,7 +15,7 @@ pub enum Operator {
     Remainder,
 }
 
-#[derive(Drop)]
+#[derive(Clone, Copy)]
 pub enum Relation {
     Equal,
     Less,
@@ -23,7 +23,7 @@ pub enum Relation {
 }
 
 // An operator with the numbers of its operands, or with its constant, or with the number of its variable.
-#[derive(Drop)]
+#[derive(Clone, Copy)]
 pub enum Node {
     Constant(i32),
     Variable(u16),
@@ -60,7 +60,7 @@ fn decode(code: u8, a: u16, b: u16, c: u16, z: i32) -> Node
 }
 
 // The operator's code and the operands of a record.
-#[derive(Drop)]
+#[derive(Clone, Copy)]
 pub struct Fields {
     pub code: u8,
     pub a: u16,

@@ -1,18 +1,18 @@
 // What a node comes to: a value, or the reason why there is none.
 // Why there is no value.
-#[derive(Drop)]
+#[derive(Clone, Copy)]
 pub enum Reason {
     Range,
     Divisor,
 }
 
-#[derive(Drop)]
+#[derive(Clone, Copy)]
 pub enum Number {
     Value(i32),
     Fault(Reason),
 }
 
-#[derive(Drop)]
+#[derive(Clone, Copy)]
 pub enum Truth {
     Value(bool),
     Fault(Reason),

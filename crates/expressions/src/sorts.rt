@@ -11,14 +11,14 @@ ghost use Rattle.expressions.specs.Coded.{coded_node};
 use super::nodes::{Fields, fields_at};
 use records::byte_at;
 
-#[derive(Drop)]
+#[derive(Clone, Copy)]
 pub enum Sort {
     Number,
     Truth,
 }
 
 // The operands of a node, left to right, with the sort that each must have: of a choice a truth and two numbers.
-#[derive(Drop)]
+#[derive(Clone, Copy)]
 pub enum Operands {
     Leaf,
     One(Sort, u16),

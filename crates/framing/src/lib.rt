@@ -1,10 +1,12 @@
 // The framing of files of 16-byte records: refusals 1 to 3.
+#![tactic(auto)]
+
 ghost use Rattle.std.specs.Prelude.{◌≡◌, map, ◌+◌, ◌-◌, ◌*◌, ◌/◌, ◌≤◌, ◌<◌, ◌^◌, length, take, replicate};
 ghost use Rattle.prelude.specs.Lists.{upto};
 ghost use Rattle.framing.specs.Frame.{IsFrame, IsRun, IsTally, exceeds, sum_to};
 
 // What refusals 1 to 3 come to.
-#[derive(Drop)]
+#[derive(Clone, Copy)]
 pub enum Framing {
     Framed,
     OddLength,
@@ -13,7 +15,7 @@ pub enum Framing {
 }
 
 // Of the nine kinds from a format's first on: how many records, and the number of the first record. All 0 where refused.
-#[derive(Drop)]
+#[derive(Clone, Copy)]
 pub struct Frame {
     pub answer: Framing,
     pub counts: [usize; 9],
@@ -21,7 +23,7 @@ pub struct Frame {
 }
 
 // What one pass over the kinds finds. The counts are the file's where it is not unordered.
-#[derive(Drop)]
+#[derive(Clone, Copy)]
 struct Tally {
     unordered: bool,
     counts: [usize; 9],

@@ -1,4 +1,6 @@
 // Fields of byte slices, the refusal table and the sizes that document 01 fixes.
+#![tactic(auto)]
+
 ghost use Rattle.std.specs.Prelude.{◌≡◌, ◌+◌, ◌-◌, ◌*◌, ◌/◌, ◌<◌, ◌^◌, length, set};
 ghost use Rattle.std.proofs.lemmas.List.Edits.{sets};
 ghost use Rattle.records.specs.Bytes.{byte, two, four, signed, two±, four±, bytes2, bytes4, unsigned, bytes2±, bytes4±};
