@@ -1,4 +1,6 @@
 // What turns, cycles and long runs answer, of charts and of automata alike, and the numbers of the answers.
+#![tactic(auto)]
+
 ghost use Rattle.std.specs.Prelude.{◌≡◌, ℕ, ◌<◌, ◌^◌, pos, neg_ℤ};
 ghost use Rattle.records.specs.Refusal.{refusal_number, val};
 ghost use Rattle.records.specs.RefusalOf.{refusal_of};
@@ -8,7 +10,7 @@ ghost use Rattle.answers.specs.Answers.{reason_of, refused_code, answer_of, endi
 use records::refusals::{Refusal, refusal_number};
 
 // Why a turn faults: a number out of 32 bits, a zero divisor, a number out of its variable's bounds; of automata also no edge open, two or more open.
-#[derive(Drop)]
+#[derive(Clone, Copy)]
 pub enum Reason {
     Range,
     Divisor,
@@ -18,7 +20,7 @@ pub enum Reason {
 }
 
 // A turn's: the transition or edge taken, that the chart idled, that time passed, why it faulted, or why it was refused. Automata never idle.
-#[derive(Drop)]
+#[derive(Clone, Copy)]
 pub enum Answer {
     Taken(u16),
     Idle,
@@ -28,7 +30,7 @@ pub enum Answer {
 }
 
 // That of a call that is done or not.
-#[derive(Drop)]
+#[derive(Clone, Copy)]
 pub enum Ending {
     Done,
     Fault(Reason),
@@ -36,7 +38,7 @@ pub enum Ending {
 }
 
 // How many cycles were done, or why not even the first was.
-#[derive(Drop)]
+#[derive(Clone, Copy)]
 pub enum Cycles {
     Done(u32),
     Fault(Reason),

@@ -1,1 +1,2 @@
 // The examples have no code: rows of the model, worked out, stand in proofs/.
+#![tactic(auto)]

@@ -1,16 +1,15 @@
--- What the laws of functions on a lent run have in common: the run's type and the shape's, the answer's, and the struct of answer and run that a function over values returns, whichever they are. Assumes nothing.
+-- A run, a shape and an answer that are lent, as declared types: their rows, machine values and laws, whichever they are. Assumes nothing.
 use mathlib.Core.Path.{◌≡◌, refl, sym, subst}
-use mathlib.Core.List.{List, [], ◌∷◌}
-use mir.Syntax.{Sym, Ty}
+use mir.Syntax.{Ty}
 use mir.Val.{Val}
 use base.Fml.{ftrue}
-use denote.Laws.{Is}
 use denote.Exit.{Exit, Last, left, yes}
-use denote.RattleType.{RattleType, Denots}
+use denote.Param.Drops.{struct-Drops, enum-Drops}
+use denote.RattleType.{RattleType}
 use denote.Struct.Struct.{Plains, Struct-Lawful, layout as struct-layout}
 use denote.Struct.Declared.{Declared, fields, shape, row, field}
 use denote.Struct.Laws as LL
-use denote.Enum.Enum.{Sum, Few, Plainss, Enum-Lawful, layout as enum-layout}
+use denote.Enum.Enum.{Few, Plainss, Enum-Lawful, layout as enum-layout}
 use denote.Enum.Declared as ED
 use denote.Enum.Laws as EL
 
@@ -26,15 +25,6 @@ pub record Enumeration : Type 2 where
   pub laws : EL.Laws type
   pub few : Few (ED.shape type)
   pub plain : Plainss (ED.variants type)
-
--- a declared struct of an answer and a run
-pub record Answering (E : Enumeration) (R : Structure) : Type 2 where
-  pub name : Sym
-  pub D : Type 0
-  pub answer : D → E.type.D
-  pub run : D → R.type.D
-  pub to_one : (x y : D)
-      → ◌≡◌ {A = Sum (ED.variants E.type) × (Denots (fields R.type) × Unit {0})} (E.type.to (answer x), (R.type.to (run x), tt)) (E.type.to (answer y), (R.type.to (run y), tt)) → x ≡ y
 
 module _ (S : Structure) where
   abbrev pub struct_row : RattleType
@@ -53,6 +43,7 @@ module _ (S : Structure) where
     low = LL.val S.type S.laws;
     low-is = LL.tells S.type S.laws;
     lawful = λ 𝓛. Struct-Lawful 𝓛 (shape S.type) (LL.lawfuls 𝓛 S.type.parts S.laws);
+    drops = λ 𝓛. struct-Drops 𝓛 (shape S.type) (LL.dropss 𝓛 S.type.parts S.laws);
   }
 
   -- at exit nothing is bound or said of a parameter of it
@@ -79,21 +70,5 @@ module _ (E : Enumeration) where
     low = EL.val E.type E.laws;
     low-is = EL.tells E.type E.laws;
     lawful = λ 𝓛. Enum-Lawful 𝓛 (ED.shape E.type) E.few (EL.lawfulss 𝓛 E.type.parts E.laws);
+    drops = λ 𝓛. enum-Drops 𝓛 (ED.shape E.type) (EL.dropsss 𝓛 E.type.parts E.laws);
   }
-
-module _ (E : Enumeration) (R : Structure) (M : Answering E R) where
-  abbrev pub called : Declared
-  called = record { name = M.name; args = []; parts = ED.field E.type ∷ field R.type ∷ []; D = M.D; to = λ d. (E.type.to (M.answer d), (R.type.to (M.run d), tt)); to_one = M.to_one }
-
-  abbrev pub called-mir : Ty
-  called-mir = struct-layout (shape called)
-
-  abbrev pub called-laws : LL.Laws called
-  called-laws = (enum-field-laws E, (struct-field-laws R, tt))
-
-  -- what whoever holds one knows of its two fields
-  pub answer-is : (m : M.D) (vs : List Val) → Is (row called) m vs → Is (enum_row E) (M.answer m) (enum-val E (M.answer m) ∷ [])
-  answer-is m vs is = (LL.owed called called-laws m vs is).0
-
-  pub run_is : (m : M.D) (vs : List Val) → Is (row called) m vs → Is (struct_row R) (M.run m) (struct_val R (M.run m) ∷ [])
-  run_is m vs is = (LL.owed called called-laws m vs is).1.0

@@ -1,4 +1,4 @@
--- The answers of turns, of cycles and of many cycles, as the laws of functions on a lent run take them. Assumes nothing.
+-- The answers of turns, of cycles and of many cycles, as declared types with their laws. Assumes nothing.
 use Rattle.lent_runs.proofs.Lent.{Enumeration}
 use Rattle.answers.specs.contracts.Answer as A
 use Rattle.answers.proofs.Answer.TheLaws as A'

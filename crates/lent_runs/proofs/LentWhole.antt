@@ -7,7 +7,7 @@
 use Prim.Native.Nat.{ℕ}
 use mathlib.Core.List.{List, [], ◌∷◌}
 use seplogic.Ra.Ura.{Ura}
-use seplogic.Ra.TreeShare.{full_share}
+use base.Fraction.{full_share}
 use base.Stored.{Gv}
 use base.Fml.{Lft, GName, Share, flft, fobs, fauth, fbor, fobor}
 use types.Logic.{Logic}

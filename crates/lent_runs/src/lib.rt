@@ -1,1 +1,2 @@
 // Laws alone, of functions on a run that is lent to them: no code.
+#![tactic(auto)]

@@ -143,7 +143,7 @@ pub fn shared_possible(
 }
 
 // What is checked before a turn, or a cycle: the run, where events are given, and that a cycle is left to do.
-#[derive(Drop)]
+#[derive(Clone, Copy)]
 pub enum Before {
     Passed,
     Refused(Refusal),

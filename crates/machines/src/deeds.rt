@@ -16,7 +16,7 @@ use expressions::outcomes::{Number, Truth};
 use records::sizes::Variables;
 
 // The events afterwards, or why there are none.
-#[derive(Drop)]
+#[derive(Clone, Copy)]
 pub enum Done {
     Events(u32),
     Fault(Reason),

@@ -16,7 +16,7 @@ use records::i16_at;
 use records::sizes::{VARIABLES, Variables};
 
 // The number of the first variable's record, and the counts; the nodes' records follow the variables'.
-#[derive(Drop)]
+#[derive(Clone, Copy)]
 pub struct Values {
     pub first: usize,
     pub variables: u16,

@@ -1,1 +1,2 @@
 // The model has no code: its definitions stand in specs/.
+#![tactic(auto)]

@@ -1,4 +1,6 @@
 // Time: the ticks of milliseconds, when timing triggers hold, how far clocks grow. What the code knows of these stands here alone.
+#![tactic(auto)]
+
 ghost use Rattle.std.specs.Prelude.{◌≡◌, ◌≤◌, ◌<◌};
 ghost use Rattle.model.specs.Charts.{ticks, after_holds, every_holds};
 ghost use Rattle.model.specs.AutomataTable.{Timing};
