@@ -21,12 +21,12 @@ use Rattle.chart_records.proofs.Places.{ranged, thing-passes}
 abbrev codes_of : ℕ → List ℕ → Bool
 codes_of k r = case_of k ((3, transition_in_code r) ∷ (4, variable_in_code r) ∷ (5, node_in_code r) ∷ (6, action_in_code r) ∷ []) true
 
-module _ (s : List ℕ) (sh : Shape) (is : IsShape s sh) (in_code : all in_code (records s) ≡ true) where
+module _ (s : List ℕ) (sh : Shape) (is : IsShape s sh) (coded : all in_code (records s) ≡ true) where
   -- thing i of kind k passes the test of its kind
   thing-in-code : (k at i : ℕ) → first_of k s ≡ at → i < how_many k s → codes_of k (record_at s (at + i)) ≡ true
   thing-in-code k at i d h =
       let r = record_at s (at + i) in
-      let t : (in_code r ≡ true) × (kind r ≡ k) = thing-passes 1 chart_limits s is.framed in_code in_code k at i d h in
+      let t : (in_code r ≡ true) × (kind r ≡ k) = thing-passes 1 chart_limits s is.framed in_code coded k at i d h in
       sym (ap (λ n. codes_of n r) t.1) ∙ t.0
 
   pub priority-in-code : (t : ℕ) → t < sh.transitions → (1 ≤ (transition_at s sh t).priority) × ((transition_at s sh t).priority ≤ 16)

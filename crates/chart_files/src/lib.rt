@@ -1,4 +1,6 @@
 // The reader of chart files: the framing, the checks on what the records say, and the refusal of a file.
+#![tactic(auto)]
+
 ghost use Rattle.std.specs.Prelude.{◌≡◌};
 ghost use Rattle.prelude.specs.Lists.{all};
 ghost use Rattle.records.specs.Bytes.{records};
@@ -25,7 +27,7 @@ use timing::all_ticking;
 use waiting::waits_alike;
 
 // A file that passes is known by its shape.
-#[derive(Drop)]
+#[derive(Clone, Copy)]
 pub enum Checked {
     Accepted(Shape),
     Refused(Refusal),
@@ -57,7 +59,7 @@ pub fn shape_of(s: &[u8]) -> Checked
 }
 
 // What all records pass by themselves: refusal 4, and 5.
-#[derive(Drop)]
+#[derive(Clone, Copy)]
 struct Tested {
     clean: bool,
     coded: bool,
@@ -65,7 +67,7 @@ struct Tested {
 
 // One pass for both. None is left early, so that a stray byte is refused before an earlier record's code.
 fn test_records(s: &[u8]) -> Tested
-    ensures* { λ r. ⌜ (r.clean ≡ all (λ r. unused_are_zero (unused r) r) (records s.now)) × (r.coded ≡ all in_code (records s.now)) ⌝ }
+    ensures { (result.clean ≡ all (λ r. unused_are_zero (unused r) r) (records s.now)) × (result.coded ≡ all in_code (records s.now)) }
 {
     let mut clean = true;
     let mut coded = true;

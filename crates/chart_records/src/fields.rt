@@ -9,7 +9,7 @@ ghost use Rattle.chart_records.specs.Parts.{trigger_for, guard_for, deed_for};
 use super::Shape;
 use records::{byte_at, u16_at, u32_at};
 
-#[derive(Drop)]
+#[derive(Clone, Copy)]
 pub enum Trigger {
     Always,
     Event(u8),
@@ -17,14 +17,14 @@ pub enum Trigger {
     Every(u32),
 }
 
-#[derive(Drop)]
+#[derive(Clone, Copy)]
 pub enum Guard {
     Free,
     Node(u16),
 }
 
 // A variable and the node assigned to it, or an event.
-#[derive(Drop)]
+#[derive(Clone, Copy)]
 pub enum Deed {
     Assign(u8, u16),
     Raise(u8),

@@ -1,8 +1,10 @@
 // The records of a framed chart file, and the fields of each.
+#![tactic(auto)]
+
 pub mod fields;
 
 // How many records a framed chart file has of each kind, from kind 1 on.
-#[derive(Drop)]
+#[derive(Clone, Copy)]
 pub struct Shape {
     pub charts: u16,
     pub states: u16,

@@ -1,4 +1,6 @@
 // Runs of chart sets: the fresh run, what is checked before a turn, and time.
+#![tactic(auto)]
+
 ghost use Rattle.std.specs.Prelude.{◌≡◌, ℕ, ◌≤◌, ◌<◌, leb, length, get_or};
 ghost use Rattle.model.specs.Limits.{most_charts};
 ghost use Rattle.prelude.specs.Lists.{all, upto, map_from};
@@ -18,7 +20,7 @@ use records::sizes::{Ages, CHARTS, Places, Variables};
 
 // A run: of each chart its present state and that state's age, the variables, the events present, the position in the cycle, the cycles done.
 #[repr(C)]
-#[derive(Drop)]
+#[derive(Clone, Copy)]
 pub struct Run {
     pub states: Places,
     pub ages: Ages,

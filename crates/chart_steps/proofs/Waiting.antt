@@ -1,14 +1,14 @@
 -- Waiting actions by their keys: when they are due, and what they do. Assumes nothing.
-use mathlib.Core.Path.{◌≡◌, refl, sym, ap, ◌∙◌, subst}
-use mathlib.Core.Logic.{inl, inr}
+use mathlib.Core.Path.{◌≡◌, refl, sym, ap, ◌∙◌}
+use mathlib.Core.Logic.{inr}
 use mathlib.Core.Bool.{Bool, true, false, not, cond, ◌&&◌, ◌||◌}
 use mathlib.Core.List.{List, [], ◌∷◌, map}
 use Prim.Native.Nat.{ℕ, ◌+◌, ◌-◌, ◌≤◌, ◌<◌}
 use native.Mathlib.Nat.{sub-zero}
 use native.Mathlib.Omega.{arith}
-use borrow.Author.Tests.{eq-eqb, ne_eqb, eqb-true, eqb-false, ltb-true}
+use borrow.Author.Tests.{eq-eqb, ne_eqb, eqb-true, ltb-true}
 use lib.Dec.{ltb, eqb}
-use lib.ListN.{get_or, take}
+use lib.ListN.{take}
 use Rattle.prelude.specs.Lists.{keep, all, any, from, upto, case_of}
 use Rattle.prelude.specs.Owned.{of}
 use Rattle.prelude.proofs.Maps.{keep-map, map-map, keep-keep, all_map, all_keep}
@@ -18,15 +18,15 @@ use Rattle.records.specs.Refusal.{Out, val, fault, ◌>>=◌}
 use Rattle.model.specs.Limits.{most_states}
 use Rattle.model.specs.Runs.{World, actions}
 use Rattle.model.specs.ChartSet.{read_charts, waits}
-use Rattle.model.specs.Charts.{ticks, every_holds, due, waited}
+use Rattle.model.specs.Charts.{ticks, every_holds, due}
 use Rattle.chart_records.specs.declared.Shape.{Shape}
 use Rattle.chart_records.specs.Places.{place_at, action_at, wait_at}
 use Rattle.chart_records.specs.Accepted.{Accepted}
-use Rattle.chart_records.proofs.PlacesRead.{waits-are, most-states, most-actions}
+use Rattle.chart_records.proofs.PlacesRead.{waits-are, most-actions}
 use Rattle.machines.specs.Chains.{earliest}
 use Rattle.machines.proofs.Chains.{remaining-is}
 use Rattle.machines.proofs.ChainsEarliest.{keep-alike, one_found}
-use Rattle.chart_steps.specs.Tables.{waiting_keys, empty_key, key_for, key_at, keyed, deeds_of, deeds_of_three}
+use Rattle.chart_steps.specs.Tables.{waiting_keys, empty_key, key_at, keyed, deeds_of, deeds_of_three}
 use Rattle.chart_steps.proofs.Accepted.{owner-placed, waiting-owner, waits-tick}
 use Rattle.chart_steps.proofs.TablesActions.{key-tells, key-within, of-key}
 

@@ -1,4 +1,6 @@
 // A chart's turn in place, on a run's arrays, of an accepted set; tables that are built once per set.
+#![tactic(auto)]
+
 pub mod actions;
 pub mod deeds;
 pub mod steps;

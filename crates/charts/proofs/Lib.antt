@@ -4,4 +4,3 @@ pub mod TurnOfKept
 pub mod TurnOf
 pub mod TurnOfCycle
 pub mod PlayedOf
-pub mod LentTypes

@@ -1,11 +1,9 @@
 -- A cycle of an accepted set, turn by turn. Assumes nothing.
-use mathlib.Core.Path.{◌≡◌, refl, ap}
-use mathlib.Core.Logic.{inl, inr}
-use mathlib.Core.List.{List, [], ◌∷◌}
+use mathlib.Core.Path.{◌≡◌, ap}
+use mathlib.Core.Logic.{◌⊎◌, inl, inr}
+use mathlib.Core.List.{List}
 use Prim.Native.Nat.{ℕ, ◌+◌, ◌-◌, ◌≤◌, ◌<◌}
 use native.Mathlib.Omega.{arith}
-use types.Run.{OneOf}
-use denote.Enum.Declared.{tag_of}
 use Rattle.records.specs.Refusal.{Refusal, val, fault}
 use Rattle.model.specs.Outcome.{settled}
 use Rattle.model.specs.Runs as M
@@ -17,9 +15,8 @@ use Rattle.model.proofs.ChartFileSound.{sound}
 use Rattle.chart_records.proofs.PlacesRead.{length-initial}
 use Rattle.chart_records.specs.declared.Shape.{Shape}
 use Rattle.answers.specs.declared.Answer.{Answer}
-use Rattle.answers.specs.declared.Answer.TheVariants.{Taken, Idle, Time, Fault, Refused}
+use Rattle.answers.specs.declared.Answer.TheVariants.{Taken, Idle, Time}
 use Rattle.answers.specs.Answers.{answer_of}
-use Rattle.answers.specs.contracts.Answer as declared-answer
 use Rattle.machines.proofs.TurnsCycle as B
 use Rattle.chart_runs.specs.declared.Run.{Run}
 use Rattle.charts.specs.declared.turns.Turned.{Turned}
@@ -33,15 +30,9 @@ pub record PartTurn (x : Answer) : Type 0 where
   pub is : answer_of x ≡ val answer
   pub not_time : NotTime answer
 
-pub part-turn : (x : Answer) → OneOf (0 ∷ 1 ∷ []) (tag_of declared-answer.the_type x) → PartTurn x
-part-turn (Taken t) h = record { answer = M.taken t; is = refl; not_time = tt }
-part-turn Idle h = record { answer = M.idle; is = refl; not_time = tt }
-part-turn Time (inl e) = absurd (omega (arith, e))
-part-turn Time (inr e) = absurd (omega (arith, e))
-part-turn (Fault w) (inl e) = absurd (omega (arith, e))
-part-turn (Fault w) (inr e) = absurd (omega (arith, e))
-part-turn (Refused w) (inl e) = absurd (omega (arith, e))
-part-turn (Refused w) (inr e) = absurd (omega (arith, e))
+pub part-turn : (x : Answer) → ((t : ℕ) × (x ≡ Taken t)) ⊎ (x ≡ Idle) → PartTurn x
+part-turn x (inl e) = record { answer = M.taken e.0; is = ap answer_of e.1; not_time = tt }
+part-turn x (inr e) = record { answer = M.idle; is = ap answer_of e; not_time = tt }
 
 -- a turn of the present run, by what it answered
 module _ (s : List ℕ) (sh : Shape) (ok : Accepted s sh) (given : ℕ) (present : Run) (t : Turned) (is : turn_of t ≡ settled (run_of present) (M.turn (charts (read_charts s)) given (run_of present))) where

@@ -17,7 +17,7 @@ use chart_steps::tables::{fill_actions, fill_rows};
 use records::sizes::{ACTION_KEYS, ACTIONS, PRIORITIES, STATES};
 
 // The answer of a call that is done or not, and the run after it.
-#[derive(Drop)]
+#[derive(Clone, Copy)]
 pub struct Called {
     pub answer: Ending,
     pub run: Run,

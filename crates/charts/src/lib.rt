@@ -1,4 +1,6 @@
 // Chart sets at work: runs, and the turns and cycles that they take.
+#![tactic(auto)]
+
 pub mod cycles;
 pub mod lent;
 pub mod plays;

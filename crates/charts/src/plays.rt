@@ -29,14 +29,14 @@ use records::sizes::{
 };
 
 // How many cycles were done, or why not even the first was, and the run after them.
-#[derive(Drop)]
+#[derive(Clone, Copy)]
 pub struct Played {
     pub answer: Cycles,
     pub run: Run,
 }
 
 // What turns in place come to: all were taken, or why one was not.
-#[derive(Drop)]
+#[derive(Clone, Copy)]
 enum Progress {
     Done,
     Fault(Reason),

@@ -26,7 +26,7 @@ use records::sizes::{
 };
 
 // A turn's answer, and the run after it.
-#[derive(Drop)]
+#[derive(Clone, Copy)]
 pub struct Turned {
     pub answer: Answer,
     pub run: Run,

@@ -1,0 +1,25 @@
+use mathlib.Core.Path.{sym, ap, ◌∙◌}
+use native.Mathlib.Omega.{arith}
+use lib.ListN.{get_or}
+use Rattle.records.specs.RefusalOf.{refusal_of}
+use Rattle.model.specs.Outcome.{settled}
+use Rattle.model.specs.ChartSet.{read_charts}
+use Rattle.model.specs.Charts.{charts}
+use Rattle.machines.specs.Checks.{before_of}
+use Rattle.machines.specs.Playing.{stopped_at}
+use Rattle.machines.proofs.Turns.{cycle-refused}
+use Rattle.machines.proofs.Playing.{played_after-none, played_after-stop, played_after-all}
+use Rattle.chart_runs.specs.RunOf.{run_of}
+use Rattle.charts.proofs.plays.play_with_tables.Goals as goal
+
+pub returns-then-masks-eq0 : goal.returns-then-masks-eq0
+returns-then-masks-eq0 c =
+    let none_left = c.if-masks-eq0.true in
+    sym (ap (λ p. settled (run_of c.args.run) (stopped_at p.count p.run p.stop)) (played_after-all (charts (read_charts c.args.s.now)) c.args.masks.now (run_of c.args.run) 0 (run_of c.args.run) (omega (arith, none_left)) (played_after-none (charts (read_charts c.args.s.now)) c.args.masks.now (run_of c.args.run))))
+
+pub returns-in-Refused : goal.returns-in-Refused
+returns-in-Refused c =
+    let some_left = c.if-masks-eq0.false in
+    let m = charts (read_charts c.args.s.now) in
+    let failed = cycle-refused m (get_or c.args.masks.now 0 0) (run_of c.args.run) (refusal_of c.in-Refused.w) (sym c.before_turn.ensures ∙ ap before_of c.in-Refused.is) in
+    sym (ap (λ p. settled (run_of c.args.run) (stopped_at p.count p.run p.stop)) (played_after-stop m c.args.masks.now (run_of c.args.run) 0 (run_of c.args.run) (refusal_of c.in-Refused.w) (omega (arith, some_left)) (played_after-none m c.args.masks.now (run_of c.args.run)) failed))
