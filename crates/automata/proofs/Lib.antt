@@ -3,4 +3,3 @@ pub mod RunOfClocks
 pub mod TurnOfKept
 pub mod TurnOf
 pub mod PlayedOf
-pub mod LentTypes

@@ -23,7 +23,7 @@ use machines::checks::{Before, events_given};
 use records::sizes::{Clocks, NO_RECORD, Places, TABLE_KEYS, TABLE_RECORDS, TableHeads, Variables};
 
 // The answer of a call that is done or not, and the run after it.
-#[derive(Drop)]
+#[derive(Clone, Copy)]
 pub struct Called {
     pub answer: Ending,
     pub run: Run,
@@ -104,7 +104,7 @@ pub fn cycle_by_turns(s: &[u8], shape: Shape, run: Run, events: u32) -> Called
 }
 
 // What turns in place come to: all were taken, or why one was not.
-#[derive(Drop)]
+#[derive(Clone, Copy)]
 pub enum Progress {
     Done,
     Fault(Reason),

@@ -21,14 +21,14 @@ use records::sizes::{
     Variables,
 };
 
-#[derive(Drop)]
+#[derive(Clone, Copy)]
 pub struct Played {
     pub answer: Cycles,
     pub run: Run,
 }
 
 // Cycles from position 1, which are told of by their number, and the run after them.
-#[derive(Drop)]
+#[derive(Clone, Copy)]
 pub struct Rest {
     pub count: u32,
     pub run: Run,

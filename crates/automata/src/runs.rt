@@ -23,7 +23,7 @@ use timings::{cap_for, grown_to, top, turn_for};
 
 // A run: of each automaton its present location, the clocks, the variables, the events present, the position in the cycle, the cycles done.
 #[repr(C)]
-#[derive(Drop)]
+#[derive(Clone, Copy)]
 pub struct Run {
     pub locations: Places,
     pub clocks: Clocks,

@@ -21,7 +21,7 @@ use machines::checks::{Before, events_given};
 use records::sizes::{Clocks, NO_RECORD, Places, TABLE_KEYS, TABLE_RECORDS, TableHeads, Variables};
 
 // A turn's answer, and the run after it.
-#[derive(Drop)]
+#[derive(Clone, Copy)]
 pub struct Turned {
     pub answer: Answer,
     pub run: Run,

@@ -1,4 +1,6 @@
 // The reader of automata tables: the framing, the checks on what the records say, and refusal 11.
+#![tactic(auto)]
+
 ghost use Rattle.std.specs.Prelude.{◌≡◌, ◌&&◌, ◌≤◌, length};
 ghost use Rattle.prelude.specs.Lists.{all};
 ghost use Rattle.records.specs.Bytes.{records};
@@ -27,7 +29,7 @@ use structure::{clocks_tick, idle_edges_stay, inside_automata};
 use unused::record_clean;
 
 // A file that passes is known by its shape; what is refused is refused as 11, whatever the test.
-#[derive(Drop)]
+#[derive(Clone, Copy)]
 pub enum Checked {
     Accepted(Shape),
     Refused(Refusal),

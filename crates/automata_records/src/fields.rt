@@ -11,7 +11,7 @@ use chart_records::fields::{Deed, Guard, byte_in, deed_by, guard_by, guard_by_pl
 use records::u16_at;
 
 // A literal's trigger.
-#[derive(Drop)]
+#[derive(Clone, Copy)]
 pub enum LiteralTrigger {
     Always,
     Event(u8),

@@ -1,8 +1,10 @@
 // The records of a framed automata file, and the fields of each.
+#![tactic(auto)]
+
 pub mod fields;
 
 // How many records a framed automata file has of each kind, from kind 33 on.
-#[derive(Drop)]
+#[derive(Clone, Copy)]
 pub struct Shape {
     pub automata: u16,
     pub locations: u16,

@@ -17,20 +17,20 @@ use expressions::outcomes::Truth;
 use records::sizes::{Clocks, LITERAL_KEYS, TableHeads, Variables};
 
 // What the edges read so far come to.
-#[derive(Drop)]
+#[derive(Clone, Copy)]
 pub enum Tally {
     Nothing,
     One(u16),
     Many,
 }
 
-#[derive(Drop)]
+#[derive(Clone, Copy)]
 pub enum Counted {
     Now(Tally),
     Fault(Reason),
 }
 
-#[derive(Drop)]
+#[derive(Clone, Copy)]
 pub enum Choice {
     Chosen(u16),
     Failed(Reason),

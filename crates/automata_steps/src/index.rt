@@ -8,7 +8,7 @@ use automata_records::Shape;
 use records::sizes::{EDGE_OWNERS, EFFECT_KEYS, LITERAL_KEYS, LOCATION_OWNERS, TableHeads};
 
 // Where a kind stands: its records from `start` up to `end`, and its owners' keys, so many from `base` on.
-#[derive(Drop)]
+#[derive(Clone, Copy)]
 pub struct Span {
     pub start: u16,
     pub end: u16,

@@ -20,7 +20,7 @@ use machines::deeds::{Done, do_guarded, done_by};
 use records::sizes::{Clocks, EFFECT_KEYS, Places, TableHeads, Variables};
 
 // The edge taken and the events after it, or why none is taken.
-#[derive(Drop)]
+#[derive(Clone, Copy)]
 pub enum Stepped {
     Taken(u16, u32),
     Fault(Reason),

@@ -1,0 +1,29 @@
+use mathlib.Core.Path.{sym, ap, ◌∙◌}
+use Rattle.records.specs.Refusal.{val, ◌>>=◌}
+use Rattle.model.specs.Runs.{moved}
+use Rattle.model.specs.AutomataTable.{read_automata}
+use Rattle.model.specs.Automata.{automata}
+use Rattle.automata_records.proofs.PlacesRead.{length-initial}
+use Rattle.machines.specs.Worlds.{moment, run_in}
+use Rattle.machines.proofs.Turns.{at_part}
+use Rattle.automata.proofs.turns.automaton_turn.Goals as goal
+
+pub returns-in-Fault : goal.returns-in-Fault
+returns-in-Fault c =
+    λ k.
+    let x = c.args in
+    let p = x.position.now in
+    let r = run_in x.locations.now x.clocks.now x.vars.now x.events.now (moment p k) in
+    sym
+    (at_part (automata (read_automata x.s.now)) x.shape.automata (length-initial x.s.now x.shape c.requires.prepared.accepted.shape) r c.requires.le_position.1
+    ∙ ap (λ o. o >>= λ z. val (z.0, moved z.1)) (sym (c.in-Fault.ensures.m_after (moment p k))))
+
+pub returns-in-Taken : goal.returns-in-Taken
+returns-in-Taken c =
+    λ k.
+    let x = c.args in
+    let p = x.position.now in
+    let r = run_in x.locations.now x.clocks.now x.vars.now x.events.now (moment p k) in
+    sym
+    (at_part (automata (read_automata x.s.now)) x.shape.automata (length-initial x.s.now x.shape c.requires.prepared.accepted.shape) r c.requires.le_position.1
+    ∙ ap (λ o. o >>= λ z. val (z.0, moved z.1)) (sym (c.in-Taken.ensures.m_after (moment p k))))

@@ -1,0 +1,19 @@
+use Prim.Native.Nat.{◌+◌}
+use native.Mathlib.Omega.{arith}
+use Rattle.automata_records.specs.Accepted.{FewRecords}
+use Rattle.automata_steps.proofs.IndexRecords.{few-records, in-file}
+use Rattle.automata_steps.proofs.fields.automaton_of.Goals as goal
+
+pub first_edge-requires : goal.first_edge-requires
+first_edge-requires c =
+    let few : FewRecords c.args.shape = few-records c.args.s.now c.args.shape c.requires.0 in
+    few
+
+pub overflow_add-first_edge : goal.overflow_add-first_edge
+overflow_add-first_edge c =
+    let few : FewRecords c.args.shape = few-records c.args.s.now c.args.shape c.requires.0 in
+    let f = few in omega (arith, c.first_edge.ensures, c.requires.1)
+
+pub byte_of-requires : goal.byte_of-requires
+byte_of-requires c =
+    (in-file c.args.s.now c.args.shape c.requires.0 (c.first_edge.result + c.args.e) (omega (arith, c.first_edge.ensures, c.requires.1)), omega arith)
