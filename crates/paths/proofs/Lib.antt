@@ -5,3 +5,4 @@ pub mod LedOfSteps
 pub mod AlongFollowed
 pub mod LedOf
 pub mod AlongBounds
+pub mod EdgesHeld

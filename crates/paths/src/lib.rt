@@ -1,4 +1,6 @@
 // A path of the twin, led back to the transitions that it came from.
+#![tactic(auto)]
+
 ghost use Rattle.std.specs.Prelude.{◌≡◌, true, cond, [], ◌∷◌, ℕ, ◌+◌, ◌*◌, ◌≤◌, ◌<◌, ltb, length};
 ghost use Rattle.std.proofs.lemmas.List.Edits.{sets};
 ghost use Rattle.model.specs.Limits.{most_states};
@@ -22,14 +24,14 @@ use records::sizes::{
 const IDLE_EDGES: usize = 2 * STATES;
 
 // Of each idle edge, counted from the first, its state; and how many there are.
-#[derive(Drop)]
+#[derive(Clone, Copy)]
 pub struct Idling {
     pub states: [u16; IDLE_EDGES],
     pub edges: u16,
 }
 
 // An edge of the twin: one of a transition, or an idle edge of a state.
-#[derive(Drop)]
+#[derive(Clone, Copy)]
 pub struct Edge {
     pub automaton: u8,
     pub source: u16,
@@ -37,7 +39,7 @@ pub struct Edge {
 }
 
 // Of each edge its automaton and its ends, made once for a path.
-#[derive(Drop)]
+#[derive(Clone, Copy)]
 pub struct EdgeTable {
     pub edges: u16,
     pub automata: [u8; EDGES],
@@ -46,14 +48,14 @@ pub struct EdgeTable {
 }
 
 // How many rows a path has, if its steps fit.
-#[derive(Drop)]
+#[derive(Clone, Copy)]
 pub enum Count {
     Rows(usize),
     Broken,
 }
 
 // How many rows were written, or why none were.
-#[derive(Drop)]
+#[derive(Clone, Copy)]
 pub enum Led {
     Rows(usize),
     Refused(Refusal),

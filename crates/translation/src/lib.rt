@@ -1,4 +1,6 @@
 // The translator: the automata of a chart set, written into a lent buffer.
+#![tactic(auto)]
+
 ghost use Rattle.std.specs.Prelude.{◌≡◌, ◌<◌, ◌^◌, leb, length};
 ghost use Rattle.model.specs.Outcome.{settled};
 ghost use Rattle.model.specs.ChartSet.{read_charts};
@@ -26,7 +28,7 @@ use twin_records::edges::put_edges;
 use twin_records::sections::{put_homes, put_initials, put_nodes, put_variables};
 
 // The length of the twin's file, or why there is none.
-#[derive(Drop)]
+#[derive(Clone, Copy)]
 pub enum Translated {
     Written(usize),
     Refused(Refusal),

@@ -12,7 +12,7 @@ use alike::outcomes::{answers_alike, endings_alike, state_at};
 use alike::runs::runs_alike;
 
 // Whether the call was alike, and the runs that it leaves.
-#[derive(Drop)]
+#[derive(Clone, Copy)]
 pub struct Both {
     pub alike: bool,
     pub run: chart_runs::Run,

@@ -1,4 +1,6 @@
 // Demand 3 of what the functions really answer and leave: the same calls on a set and on its twin, compared.
+#![tactic(auto)]
+
 ghost use Rattle.std.specs.Prelude.{◌≡◌};
 ghost use Rattle.model.specs.ChartSet.{read_charts};
 ghost use Rattle.model.specs.AutomataTable.{read_automata};
@@ -18,7 +20,7 @@ use records::sizes::{CHARTS, CLOCKS, VARIABLES};
 use translation::Translated;
 
 // All of so many calls were alike; why there was nothing to compare; the first call that was not alike.
-#[derive(Drop)]
+#[derive(Clone, Copy)]
 pub enum Verdict {
     Alike(usize),
     Refused(Refusal),
@@ -26,7 +28,7 @@ pub enum Verdict {
 }
 
 // The verdict, and the runs that the calls left.
-#[derive(Drop)]
+#[derive(Clone, Copy)]
 pub struct Compared {
     pub verdict: Verdict,
     pub run: chart_runs::Run,

@@ -1,0 +1,76 @@
+use mathlib.Core.Path.{◌≡◌, sym, ap, ◌∙◌, subst}
+use mathlib.Core.Bool.{cond}
+use Prim.Native.Nat.{ℕ, ◌+◌, ◌<◌}
+use native.Mathlib.Omega.{arith}
+use lib.Dec.{eqb}
+use lib.ListN.{length, get_or, length-replicate}
+use Rattle.chart_records.specs.Places.{wait_at}
+use Rattle.chart_steps.specs.Tables.{waiting_keys}
+use Rattle.model.specs.ChartSet.{read_charts}
+use Rattle.model.specs.Translation.{state_count}
+use Rattle.chart_records.proofs.PlacesRead.{length-homes, most-states}
+use Rattle.prelude.proofs.Filled.{Filled, filled_none, filled_more, filled-padded}
+use Rattle.twin_records.specs.Tables.{waiting_place}
+use Rattle.twin_records.proofs.TablesWaiting.{waiting_none, waiting-more, waiting_few, place-for, waits-count, waits-by}
+use Rattle.twin_records.proofs.clocks.fill_waiting.Goals as goal
+
+pub loop-state-init : goal.loop-state-init
+loop-state-init c =
+    let x = c.args in
+    let cs = read_charts x.s.now in (
+      omega arith,
+      c.requires.2 ∙ sym (waiting_none cs),
+      filled_none (waiting_place cs) 65535 x.waiting.now,
+      ap length c.requires.3 ∙ length-replicate {A = ℕ} 128 65535,
+    )
+
+pub overflow_add-action : goal.overflow_add-action
+overflow_add-action c =
+    let inside : c.loop-state.state < 128 = let x = c.args in
+    omega (arith, c.loop-state-test.true, most-states x.s.now x.shape c.requires.0.shape) in
+    omega (arith, inside)
+
+pub bounds-first-state : goal.bounds-first-state
+bounds-first-state c =
+    let inside : c.loop-state.state < 128 = let x = c.args in
+    omega (arith, c.loop-state-test.true, most-states x.s.now x.shape c.requires.0.shape) in
+    omega (arith, inside)
+
+pub bounds-waiting-i : goal.bounds-waiting-i
+bounds-waiting-i c =
+    let inside : c.loop-state.state < 128 = let x = c.args in
+    omega (arith, c.loop-state-test.true, most-states x.s.now x.shape c.requires.0.shape) in
+    inside
+
+pub overflow_add-count : goal.overflow_add-count
+overflow_add-count c =
+    let x = c.args in
+    let l = c.loop-state in
+    omega (arith, l.invariant.1, c.count_of-count.ensures.1, waiting_few x.s.now x.shape c.requires.0 l.state l.invariant.0)
+
+pub loop-state-preserved : goal.loop-state-preserved
+loop-state-preserved c =
+    let inside : c.loop-state.state < 128 = let x = c.args in
+    omega (arith, c.loop-state-test.true, most-states x.s.now x.shape c.requires.0.shape) in
+    let x = c.args in
+    let l = c.loop-state in
+    let cs = read_charts x.s.now in
+    let a = get_or x.first.now (waiting_keys + l.state) 0 in
+    let ms = (wait_at x.s.now x.shape a).1 in
+    let by = waits-by x.s.now x.shape c.requires.0 x.first.now c.requires.1 l.state c.loop-state-test.true in
+    let own : c.number_for.result ≡ waiting_place cs l.state = c.number_for.ensures ∙ ap (cond (eqb a 65535) 65535) l.invariant.1 ∙ sym (place-for cs l.state a ms by) in (
+      omega (arith, c.loop-state-test.true),
+      omega (arith, l.invariant.1, c.count_of-count.ensures.0, waits-count cs l.state a ms by, waiting-more cs l.state),
+      filled_more (waiting_place cs) 65535 x.waiting.now l.waiting l.state c.number_for.result own l.invariant.2 (omega (arith, inside, l.invariant.3)),
+      l.invariant.3,
+    )
+
+pub returns : goal.returns
+returns c =
+    let x = c.args in
+    let l = c.loop-state in
+    let cs = read_charts x.s.now in
+    let size = length-homes x.s.now x.shape c.requires.0.shape in
+    let e : l.state ≡ state_count cs = omega (arith, l.invariant.0, size, c.loop-state-test.false) in
+    filled-padded (waiting_place cs) 65535 128 (state_count cs) (omega (arith, most-states x.s.now x.shape c.requires.0.shape, size)) l.waiting
+    (subst (λ l₀. Filled (waiting_place cs) 65535 l₀ l.waiting (state_count cs)) c.requires.3 (subst (Filled (waiting_place cs) 65535 x.waiting.now l.waiting) e l.invariant.2))

@@ -1,0 +1,12 @@
+use mathlib.Core.List.{[], ◌∷◌}
+use Prim.Native.Nat.{◌-◌}
+use Rattle.twin_records.specs.Texts.{record_text}
+use Rattle.twin_records.proofs.TextsWritten.{Texts}
+use Rattle.chart_records.specs.Places.{home_at}
+use Rattle.twin_records.proofs.sections.put_homes.Given as goal
+
+abbrev pub invariant-loop-state : goal.invariant-loop-state
+invariant-loop-state l = Texts (λ i. record_text 34 (home_at l.s l.shape i ∷ [])) l.shape.states 16 l.initial.out l.at l.out l.next l.state
+
+abbrev pub decreases-loop-state : goal.decreases-loop-state
+decreases-loop-state l = l.shape.states - l.state
