@@ -6,21 +6,21 @@ ghost use Rattle.guard_reader.specs.Places.{Skipped, FindsMark, ReadsNumber, Sig
 use records::byte_at;
 
 // The place behind a mark.
-#[derive(Drop)]
+#[derive(Clone, Copy)]
 pub enum Place {
     At(usize),
     Missing,
 }
 
 // A number and the place behind it.
-#[derive(Drop)]
+#[derive(Clone, Copy)]
 pub enum Numeral {
     Value(u32, usize),
     Outside,
 }
 
 // The operator that begins at a place: its code in a node's record, its level, and the place behind it. Where there is none the level is above all.
-#[derive(Drop)]
+#[derive(Clone, Copy)]
 pub struct Sign {
     pub code: u8,
     pub level: u8,

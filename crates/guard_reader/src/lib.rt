@@ -1,4 +1,6 @@
 // The reader of guards typed as a line: by the rules of the grammar, from left to right, each node written as soon as its operands are.
+#![tactic(auto)]
+
 ghost use Rattle.std.specs.Prelude.{◌≡◌, ◌++◌, ◌*◌, ◌≤◌, length, take, drop};
 ghost use Rattle.guards.specs.Calls.{read_guard};
 ghost use Rattle.guard_reader.specs.Answer.{IsLine, guard_of};
@@ -21,7 +23,7 @@ const SHORT_LINE: usize = 32;
 const SHORT_LINE_NODES: usize = 512;
 
 // The number of nodes of a line, or why there are none.
-#[derive(Drop)]
+#[derive(Clone, Copy)]
 pub enum Guard {
     Nodes(u16),
     Refused(Refusal),

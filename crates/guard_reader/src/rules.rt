@@ -8,7 +8,7 @@ use super::lexemes::{Numeral, Place, number_at, past, sign_at, skip};
 use super::trees::{Part, chosen, constant, joined, negated, negative, variable};
 use records::byte_at;
 
-#[derive(Drop)]
+#[derive(Clone, Copy)]
 pub enum Parsed {
     Tree(Part),
     Outside,

@@ -9,7 +9,7 @@ use records::{put_byte, put_u32};
 
 // A tree that was read: the place behind it, the number of nodes written with it, whether all operands have the sort that their operator takes, and whether it is a
 // truth.
-#[derive(Drop)]
+#[derive(Clone, Copy)]
 pub struct Part {
     pub next: usize,
     pub size: u32,

@@ -1,4 +1,6 @@
 // The writer of guards: the line of a list of nodes that is one tree, written into a lent buffer.
+#![tactic(auto)]
+
 ghost use Rattle.std.specs.Prelude.{◌≡◌};
 ghost use Rattle.guards.specs.Calls.{write_guard};
 ghost use Rattle.guard_writer.specs.Answers.{written_of};
@@ -14,7 +16,7 @@ use records::refusals::Refusal;
 use trees::put_tree;
 
 // The length of the line, or why there is none.
-#[derive(Drop)]
+#[derive(Clone, Copy)]
 pub enum Written {
     Line(usize),
     Refused(Refusal),

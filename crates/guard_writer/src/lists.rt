@@ -13,7 +13,7 @@ use records::refusals::Refusal;
 use records::sizes::{NODES, VARIABLES};
 
 // The number of the root, or why the list is no guard.
-#[derive(Drop)]
+#[derive(Clone, Copy)]
 pub enum Listed {
     Tree(u16),
     Refused(Refusal),

@@ -8,6 +8,7 @@ ghost use Rattle.guard_writer.specs.Codes.{code_level, first_byte, second_byte};
 use records::byte_at;
 
 // How tightly an operator binds: 0 for what has none.
+#[tactic(auto, unfolding(prelude::specs::Lists::case_of))]
 pub fn level(code: u8) -> u8
     ensures { result ≡ code_level code }
 {
@@ -35,6 +36,7 @@ pub fn level_at(nodes: &[u8], n: u16) -> u8
 }
 
 // The sign of an operator that stands between its operands: its first byte, and its second, 0 where there is none.
+#[tactic(auto, unfolding(prelude::specs::Lists::case_of))]
 pub fn first_byte(code: u8) -> u8
     ensures { result ≡ first_byte code }
 {
@@ -52,6 +54,7 @@ pub fn first_byte(code: u8) -> u8
     }
 }
 
+#[tactic(auto, unfolding(prelude::specs::Lists::case_of))]
 pub fn second_byte(code: u8) -> u8
     ensures { result ≡ second_byte code }
 {

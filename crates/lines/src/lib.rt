@@ -1,4 +1,6 @@
 // The text of one replay line. Bytes past the end of `out` are counted and not written, so a place must be near enough for its sums not to wrap.
+#![tactic(auto)]
+
 ghost use Rattle.std.specs.Prelude.{[], ◌∷◌, ◌≡◌, ◌+◌, ◌*◌, ◌≤◌, ◌<◌, ◌^◌, length, take};
 ghost use Rattle.model.specs.Replay.{decimal, signed_decimal, chosen as chosenText, space};
 ghost use Rattle.records.specs.Wrote.{Wrote, Begins};
@@ -6,7 +8,7 @@ ghost use Rattle.lines.specs.Text.{chosen_of, head_text, variables_text, line_te
 
 use records::put_byte;
 
-#[derive(Drop)]
+#[derive(Clone, Copy)]
 pub enum Chosen {
     Taken(u16),
     Idle,

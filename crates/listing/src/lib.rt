@@ -1,4 +1,6 @@
 // The lines of a listing: of each record of a set or table its words, written at the start of a lent buffer.
+#![tactic(auto)]
+
 ghost use Rattle.std.specs.Prelude.{◌≡◌, [], ◌∷◌, ◌++◌, ◌*◌, ◌/◌, ◌≤◌, ◌<◌, length};
 ghost use Rattle.records.specs.Bytes.{byte};
 ghost use Rattle.records.specs.Wrote.{Begins};

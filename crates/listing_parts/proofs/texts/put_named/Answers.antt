@@ -1,0 +1,8 @@
+use mathlib.Core.Path.{refl}
+use native.Mathlib.Omega.{arith}
+use Rattle.listing_parts.proofs.Near.{near-then, near-as}
+use Rattle.listing_parts.proofs.texts.put_named.Goals as goal
+
+pub returns : goal.returns
+returns c =
+    near-as (near-then c.put_word-next.ensures c.put_number.ensures) refl (omega arith)
