@@ -1,4 +1,6 @@
 // The proved functions of the lower crates, exported for tests that compare them with the simulator.
+#![tactic(auto)]
+
 ghost use Rattle.std.specs.Prelude.{◌≡◌};
 ghost use Rattle.std.proofs.lemmas.List.Edits.{sets};
 ghost use Rattle.records.specs.Bytes.{byte, two, four, two±, four±, bytes2, bytes4, bytes2±, bytes4±};

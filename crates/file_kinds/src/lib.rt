@@ -1,4 +1,6 @@
 // What a file is by its kinds, before it is checked: a set or a table, and why one that is longer than any set is refused.
+#![tactic(auto)]
+
 ghost use Rattle.std.specs.Prelude.{◌≡◌, leb};
 ghost use Rattle.records.specs.Bytes.{byte};
 ghost use Rattle.records.specs.RefusalOf.{refusal_of};
@@ -16,7 +18,7 @@ pub fn is_dash(name: &[u8]) -> bool
 }
 
 // What a file seems to be, by its first byte, which is the kind of its first record.
-#[derive(Drop)]
+#[derive(Clone, Copy)]
 pub enum Seen {
     Empty,
     Set,

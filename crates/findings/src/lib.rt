@@ -1,4 +1,6 @@
 // Where a file breaks a rule that is asked of each record by itself.
+#![tactic(auto)]
+
 ghost use Rattle.std.specs.Prelude.{◌≡◌, length};
 ghost use Rattle.findings.specs.Found.{test_of, FoundIn};
 
@@ -8,7 +10,7 @@ use chart_records::fields::trigger_of;
 use records::byte_at;
 
 // Kinds that are known, refusals 4, 5 and 9 of a chart set; and what 11 asks of the first three in a table.
-#[derive(Drop)]
+#[derive(Clone, Copy)]
 pub enum Rule {
     SetKinds,
     SetBytes,
@@ -19,7 +21,7 @@ pub enum Rule {
     TableCodes,
 }
 
-#[derive(Drop)]
+#[derive(Clone, Copy)]
 pub enum Found {
     At(usize),
     Nowhere,

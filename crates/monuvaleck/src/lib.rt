@@ -1,5 +1,7 @@
 // The C interface: what control units, other languages, tests and benchmarks link. Each function takes any bytes, runs, events and buffers. A result of 0 or
 // more is the answer; a refusal or fault is minus its number, and then nothing lent has changed.
+#![tactic(auto)]
+
 pub mod files;
 pub mod guard_lines;
 pub mod sets;

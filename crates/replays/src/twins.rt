@@ -18,7 +18,7 @@ use automata_records::Shape;
 use records::sizes::TableHeads;
 
 // The length of the lines written, how the cycle ended, and the run after it.
-#[derive(Drop)]
+#[derive(Clone, Copy)]
 pub struct ReplayedCycle {
     pub size: usize,
     pub answer: Ending,
