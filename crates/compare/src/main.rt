@@ -1,62 +1,69 @@
 // Compares a chart set with its twin: the set is translated, and the same calls are made on both, from fresh runs: a cycle for each event mask, then a turn for each, then all cycles as one long run. Event masks of four
 // bytes, little-endian, come from standard input; a last partial one is left out. After each call answers and runs are compared. It is proved that they never differ; here it is seen, on one's own set and events.
+#![tactic(auto)]
+
 ghost use Rattle.std.specs.Prelude.{◌≡◌, ◌*◌, ◌/◌, ◌≤◌, length};
 ghost use Rattle.records.specs.Wrote.{Wrote};
 ghost use Rattle.compare.specs.Masks.{masks_in};
 
-use libc::{STDERR_FILENO, STDIN_FILENO, STDOUT_FILENO};
 use messages::files::refuse_set;
-use messages::input::{Form, argument, arguments, fill, read_file};
-use messages::words::print;
+use messages::host::Host;
+use messages::input::{Form, NAME_ROOM, argument, arguments, fill, read_file};
+use messages::words::{print, tell_failed};
 use records::sizes::{FILE_ROOM, LONGEST_TABLE};
 use twins::Verdict;
 
 // Whether it was written; else that is told.
-fn print_number(n: usize) -> bool {
-    if !io::print_decimal(STDOUT_FILENO, n as u64) {
-        os::fail(b"standard output");
-        return false;
+fn print_number(rt: &impl Host, n: usize) -> bool {
+    match rt.print(n) {
+        Ok(()) => true,
+        Err(why) => {
+            tell_failed(rt, b"standard output", why);
+            false
+        }
     }
-    true
 }
 
 // Whether they were alike: what was compared, and how many calls were made.
-fn tell(s: &[u8], what: &[u8], verdict: Verdict) -> bool {
+fn tell(rt: &impl Host, s: &[u8], what: &[u8], verdict: Verdict) -> bool {
     match verdict {
         Verdict::Refused(w) => {
-            refuse_set(s, w);
+            refuse_set(rt, s, w);
             false
         }
         Verdict::Alike(n) => {
-            print(what) && print(b": alike, ") && print_number(n) && print(b" calls\n")
+            print(rt, what)
+                && print(rt, b": alike, ")
+                && print_number(rt, n)
+                && print(rt, b" calls\n")
         }
         Verdict::Differ(k) => {
-            io::write_all(STDERR_FILENO, what);
-            io::write_all(STDERR_FILENO, b": set and twin differ at call ");
-            io::print_decimal(STDERR_FILENO, k as u64);
-            io::write_all(STDERR_FILENO, b"\n");
+            rt.tell(what);
+            rt.tell(b": set and twin differ at call ");
+            let _ = rt.eprint(k);
+            rt.tell(b"\n");
             false
         }
     }
 }
 
 // Of kinds, 0 is a turn; past their end calls are cycles.
-fn compare_masks(s: &[u8], masks: &[u32]) {
+fn compare_masks(rt: &impl Host, s: &[u8], masks: &[u32]) {
     let mut twin = [0u8; LONGEST_TABLE];
     let kinds = [0u8; 65536];
     let cycles = twins::compare(s, b"", masks, &mut twin);
     let by_cycles = cycles.verdict;
-    if !tell(s, b"cycles", by_cycles) {
+    if !tell(rt, s, b"cycles", by_cycles) {
         return;
     }
     let turns = twins::compare(s, &kinds, masks, &mut twin);
     let by_turns = turns.verdict;
-    if !tell(s, b"turns", by_turns) {
+    if !tell(rt, s, b"turns", by_turns) {
         return;
     }
     let played = twins::compare_plays(s, masks, &mut twin);
     let by_plays = played.verdict;
-    tell(s, b"long run", by_plays);
+    tell(rt, s, b"long run", by_plays);
 }
 
 // As many masks as there are whole ones in the bytes, and room; answers how many.
@@ -77,46 +84,47 @@ fn put_masks(bytes: &[u8], masks: &mut [u32]) -> usize
     i
 }
 
-fn compare_bytes(s: &[u8], bytes: &[u8]) {
+fn compare_bytes(rt: &impl Host, s: &[u8], bytes: &[u8]) {
     let mut masks = [0u32; 65536];
     let count = put_masks(bytes, &mut masks);
-    compare_masks(s, &masks[..count]);
+    compare_masks(rt, s, &masks[..count]);
 }
 
-fn compare_file(s: &[u8]) {
+fn compare_file(rt: &impl Host, s: &[u8]) {
     let mut bytes = [0u8; 262144];
-    let got = fill(STDIN_FILENO, &mut bytes);
-    if got.failed {
-        os::fail(b"standard input");
+    let got = fill(&mut rt.reader(), &mut bytes);
+    if let Some(why) = got.error {
+        tell_failed(rt, b"standard input", why);
         return;
     }
     let size = got.size;
-    compare_bytes(s, &bytes[..size]);
+    compare_bytes(rt, s, &bytes[..size]);
 }
 
-fn compare_named(name: &[u8]) {
+fn compare_named(rt: &impl Host, name: &[u8]) {
     let mut file = [0u8; FILE_ROOM];
-    let got = read_file(name, &mut file, Form::Set);
+    let got = read_file(rt, name, &mut file, Form::Set);
     if got.failed {
         return;
     }
     let size = got.size;
-    compare_file(&file[..size]);
+    compare_file(rt, &file[..size]);
 }
 
-fn main() {
+fn main(rt: HostRuntime) {
     if !arguments(
+        &rt,
         2,
         2,
         b"usage: compare SET\ncompares a chart set with its twin, call by call, by at most 65,536 event masks of four bytes from standard input\n",
     ) {
         return;
     }
-    let mut name = io::buffer();
-    let got = argument(1, &mut name);
+    let mut name = [0u8; NAME_ROOM];
+    let got = argument(&rt, 1, &mut name);
     if got.failed {
         return;
     }
     let size = got.size;
-    compare_named(&name[..size]);
+    compare_named(&rt, &name[..size]);
 }

@@ -1,5 +1,7 @@
 // Files that are accepted, shown a line for each record or each guard in file order: an automata table where its first record is of a table's kind, else a
 // chart set. A refusal is told as `check_file` tells it, and then nothing is shown.
+#![tactic(auto)]
+
 ghost use Rattle.std.specs.Prelude.{◌≡◌, true, false, ◌*◌, ◌/◌, ◌≤◌, ◌<◌, leb, length};
 ghost use Rattle.records.specs.Bytes.{byte};
 ghost use Rattle.listing.specs.Guards.{line_room};
@@ -7,13 +9,14 @@ ghost use Rattle.listing.specs.Listing.{number_of, HasNodes};
 
 use file_kinds::is_table;
 use listing::{LINE_ROOM, guard_into, line_into};
+use messages::host::Host;
 use messages::input::{Form, read_file};
 use messages::words::print;
 use records::sizes::{FILE_ROOM, TABLE_RECORDS};
 use refusals::{tell_set, tell_table};
 
 // What is shown of a file: all records, or its guards alone.
-#[derive(Drop)]
+#[derive(Clone, Copy)]
 pub enum Wanted {
     Records,
     Guards,
@@ -30,16 +33,16 @@ fn wanted_into(out: &mut [u8], wanted: Wanted, s: &[u8], nodes: &[u8], n: usize,
 }
 
 // Whether what is wanted of record n went to standard output; i of its kind are before it.
-fn print_record(wanted: Wanted, s: &[u8], nodes: &[u8], n: usize, i: u32) -> bool
+fn print_record(rt: &impl Host, wanted: Wanted, s: &[u8], nodes: &[u8], n: usize, i: u32) -> bool
     requires { HasNodes s.now nodes.now × (n < length s.now / 16) × (i ≡ number_of s.now (byte s.now (16 * n)) n) }
 {
     let mut text = [0u8; LINE_ROOM];
     let size = wanted_into(&mut text, wanted, s, nodes, n, i);
-    print(&text[..size])
+    print(rt, &text[..size])
 }
 
 // How many records of each kind are behind is counted. No set or table has more records.
-fn print_records(wanted: Wanted, s: &[u8], nodes: &[u8])
+fn print_records(rt: &impl Host, wanted: Wanted, s: &[u8], nodes: &[u8])
     requires { HasNodes s.now nodes.now }
 {
     let mut counts = [0u32; 256];
@@ -49,7 +52,7 @@ fn print_records(wanted: Wanted, s: &[u8], nodes: &[u8])
             return;
         }
         let kind = s[16 * n] as usize;
-        if !print_record(wanted, s, nodes, n, counts[kind]) {
+        if !print_record(rt, wanted, s, nodes, n, counts[kind]) {
             return;
         }
         counts[kind] += 1;
@@ -57,45 +60,45 @@ fn print_records(wanted: Wanted, s: &[u8], nodes: &[u8])
     }
 }
 
-fn show_set(wanted: Wanted, s: &[u8])
+fn show_set(rt: &impl Host, wanted: Wanted, s: &[u8])
     requires { leb 33 (byte s.now 0) ≡ false }
 {
     match chart_files::check(s) {
-        chart_files::Checked::Refused(w) => tell_set(s, w),
+        chart_files::Checked::Refused(w) => tell_set(rt, s, w),
         chart_files::Checked::Accepted(shape) => {
             let nodes = chart_records::fields::node_records(s, shape);
-            print_records(wanted, s, nodes);
+            print_records(rt, wanted, s, nodes);
         }
     }
 }
 
-fn show_table(wanted: Wanted, s: &[u8])
+fn show_table(rt: &impl Host, wanted: Wanted, s: &[u8])
     requires { leb 33 (byte s.now 0) ≡ true }
 {
     match automata_files::check(s) {
-        automata_files::Checked::Refused(_) => tell_table(s),
+        automata_files::Checked::Refused(_) => tell_table(rt, s),
         automata_files::Checked::Accepted(shape) => {
             let nodes = automata_records::fields::node_records(s, shape);
-            print_records(wanted, s, nodes);
+            print_records(rt, wanted, s, nodes);
         }
     }
 }
 
-fn show_bytes(wanted: Wanted, s: &[u8]) {
+fn show_bytes(rt: &impl Host, wanted: Wanted, s: &[u8]) {
     if is_table(s) {
-        show_table(wanted, s);
+        show_table(rt, wanted, s);
     } else {
-        show_set(wanted, s);
+        show_set(rt, wanted, s);
     }
 }
 
 // A file by its name; - is standard input.
-pub fn show_file(wanted: Wanted, name: &[u8]) {
+pub fn show_file(rt: &impl Host, wanted: Wanted, name: &[u8]) {
     let mut file = [0u8; FILE_ROOM];
-    let got = read_file(name, &mut file, Form::Either);
+    let got = read_file(rt, name, &mut file, Form::Either);
     if got.failed {
         return;
     }
     let size = got.size;
-    show_bytes(wanted, &file[..size]);
+    show_bytes(rt, wanted, &file[..size]);
 }

@@ -1,43 +1,45 @@
 // Translates a chart set into its automata twin, which it writes to a file, and tells the twin's length and how many records it has of each kind. The file is
 // made, or emptied, only once the twin is there, and without --force never where an accepted chart set stands, such as the set itself under any name. Where the file is -, the twin goes to
 // standard output, and nothing else does. A refusal's number and meaning go to standard error.
+#![tactic(auto)]
+
 ghost use Rattle.std.specs.Prelude.{◌≤◌, length};
 ghost use Rattle.model.specs.Limits.{longest_table};
 
 use automata_files::{Checked, shape_of};
 use automata_records::Shape;
 use file_kinds::is_dash;
-use libc::STDERR_FILENO;
 use messages::files::refuse_set;
-use messages::input::{Form, argument, fill, read_file};
+use messages::host::Host;
+use messages::input::{
+    Form, NAME_ROOM, argument, argument_count, argument_or_empty, fill, path_of, read_file,
+};
 use messages::texts::written_into;
-use messages::words::print;
+use messages::words::{print, tell_failed};
 use records::byte_at;
 use records::sizes::{FILE_ROOM, LONGEST_TABLE};
+use std::{fs, io};
 use translation::Translated;
 
-fn print_written(size: u32, shape: Shape) {
-    let mut text = io::buffer();
+fn print_written(rt: &impl Host, size: u32, shape: Shape) {
+    let mut text = [0u8; NAME_ROOM];
     let length = written_into(&mut text, size, shape);
-    print(&text[..length]);
+    print(rt, &text[..length]);
+}
+
+fn put_file(rt: &impl Host, name: &[u8], bytes: &[u8]) -> io::Result<()> {
+    fs::write(rt, path_of(name)?, bytes)
 }
 
 // Whether all of it was written; else that is told.
-fn write_file(name: &[u8], bytes: &[u8]) -> bool {
-    let fd = os::open_overwrite(name);
-    if fd < 0 {
-        os::fail(name);
-        return false;
+fn write_file(rt: &impl Host, name: &[u8], bytes: &[u8]) -> bool {
+    match put_file(rt, name, bytes) {
+        Ok(()) => true,
+        Err(why) => {
+            tell_failed(rt, name, why);
+            false
+        }
     }
-    if !io::write_all(fd, bytes) {
-        os::fail(name);
-        return false;
-    }
-    if libc::close(fd) != 0 {
-        os::fail(name);
-        return false;
-    }
-    true
 }
 
 fn is_set(s: &[u8]) -> bool {
@@ -47,16 +49,19 @@ fn is_set(s: &[u8]) -> bool {
     }
 }
 
+fn open_named<R: Host>(rt: &R, name: &[u8]) -> io::Result<R::File> {
+    fs::open(rt, path_of(name)?)
+}
+
 // Whether the file of that name is there, can be read, and is an accepted set. No set fills the buffer.
-fn holds_set(name: &[u8]) -> bool {
-    let fd = os::open_read(name);
-    if fd < 0 {
-        return false;
-    }
+fn holds_set(rt: &impl Host, name: &[u8]) -> bool {
+    let mut input = match open_named(rt, name) {
+        Ok(input) => input,
+        Err(_) => return false,
+    };
     let mut file = [0u8; FILE_ROOM];
-    let got = fill(fd, &mut file);
-    libc::close(fd);
-    if got.failed {
+    let got = fill(&mut input, &mut file);
+    if got.error.is_some() {
         return false;
     }
     let size = got.size;
@@ -64,80 +69,77 @@ fn holds_set(name: &[u8]) -> bool {
 }
 
 // Whether the file may be written; else it is told why not.
-fn may_write(name: &[u8], force: bool) -> bool {
+fn may_write(rt: &impl Host, name: &[u8], force: bool) -> bool {
     if force {
         return true;
     }
-    if holds_set(name) {
-        io::write_all(STDERR_FILENO, name);
-        io::write_all(
-            STDERR_FILENO,
-            b": an accepted chart set stands there; --force writes over it\n",
-        );
+    if holds_set(rt, name) {
+        rt.tell(name);
+        rt.tell(b": an accepted chart set stands there; --force writes over it\n");
         return false;
     }
     true
 }
 
-fn write_twin(name: &[u8], force: bool, twin: &[u8])
+fn write_twin(rt: &impl Host, name: &[u8], force: bool, twin: &[u8])
     requires { length twin.now ≤ longest_table }
 {
     if is_dash(name) {
-        print(twin);
+        print(rt, twin);
         return;
     }
-    if !may_write(name, force) {
+    if !may_write(rt, name, force) {
         return;
     }
-    if !write_file(name, twin) {
+    if !write_file(rt, name, twin) {
         return;
     }
     match shape_of(twin) {
         Checked::Refused(_) => (),
-        Checked::Accepted(shape) => print_written(twin.len() as u32, shape),
+        Checked::Accepted(shape) => print_written(rt, twin.len() as u32, shape),
     }
 }
 
 // No twin is longer than this.
-fn translate_into(s: &[u8], name: &[u8], force: bool, twin: &mut [u8])
+fn translate_into(rt: &impl Host, s: &[u8], name: &[u8], force: bool, twin: &mut [u8])
     requires { length twin.old ≤ longest_table }
 {
     match calls::sets::translate(s, twin) {
-        Translated::Refused(w) => refuse_set(s, w),
-        Translated::Written(n) => write_twin(name, force, &twin[..n]),
+        Translated::Refused(w) => refuse_set(rt, s, w),
+        Translated::Written(n) => write_twin(rt, name, force, &twin[..n]),
     }
 }
 
-fn translate_file(s: &[u8], name: &[u8], force: bool) {
+fn translate_file(rt: &impl Host, s: &[u8], name: &[u8], force: bool) {
     let mut twin = [0u8; LONGEST_TABLE];
-    translate_into(s, name, force, &mut twin);
+    translate_into(rt, s, name, force, &mut twin);
 }
 
-fn translate_named(set: &[u8], twin: &[u8], force: bool) {
+fn translate_named(rt: &impl Host, set: &[u8], twin: &[u8], force: bool) {
     let mut file = [0u8; FILE_ROOM];
-    let got = read_file(set, &mut file, Form::Set);
+    let got = read_file(rt, set, &mut file, Form::Set);
     if got.failed {
         return;
     }
     let size = got.size;
-    translate_file(&file[..size], twin, force);
+    translate_file(rt, &file[..size], twin, force);
 }
 
 // The names are the arguments of those numbers.
-fn translate_arguments(set_at: usize, twin_at: usize, force: bool) {
-    let mut set = io::buffer();
-    let got = argument(set_at, &mut set);
+fn translate_arguments(rt: &impl Host, set_at: usize, twin_at: usize, force: bool) {
+    let mut set = [0u8; NAME_ROOM];
+    let got = argument(rt, set_at, &mut set);
     if got.failed {
         return;
     }
     let set_size = got.size;
-    let mut twin = io::buffer();
-    let got = argument(twin_at, &mut twin);
+    let mut twin = [0u8; NAME_ROOM];
+    let got = argument(rt, twin_at, &mut twin);
     if got.failed {
         return;
     }
     let twin_size = got.size;
-    translate_named(&set[..set_size], &twin[..twin_size], force);
+    translate_named(rt, &set[..set_size], &twin[..twin_size], force);
 }
 
 fn is_force(word: &[u8]) -> bool {
@@ -151,21 +153,20 @@ fn is_force(word: &[u8]) -> bool {
 }
 
 // Whether the first argument is --force.
-fn forced() -> bool {
-    let mut word = io::buffer();
-    let size = os::arg(1, &mut word);
+fn forced(rt: &impl Host) -> bool {
+    let mut word = [0u8; NAME_ROOM];
+    let size = argument_or_empty(rt, 1, &mut word);
     is_force(&word[..size])
 }
 
-fn main() {
-    let count = os::arg_count();
-    if (count == 4) & forced() {
-        translate_arguments(2, 3, true);
-    } else if (count == 3) & !forced() {
-        translate_arguments(1, 2, false);
+fn main(rt: HostRuntime) {
+    let count = argument_count(&rt, 5);
+    if (count == 4) & forced(&rt) {
+        translate_arguments(&rt, 2, 3, true);
+    } else if (count == 3) & !forced(&rt) {
+        translate_arguments(&rt, 1, 2, false);
     } else {
-        io::write_all(
-            STDERR_FILENO,
+        rt.tell(
             b"usage: translate [--force] SET TWIN\ntranslates a chart set into its automata twin, which is written to the file TWIN; over an accepted chart set only with --force\n",
         );
     }
