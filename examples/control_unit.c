@@ -2,7 +2,7 @@
  * translates the set into its twin, plays both side by side, and leads the twin's path back to the transitions that it came from. Last it reads guards typed as a
  * line into nodes, and writes them back.
  *
- *   cc -std=c11 -Iinclude examples/control_unit.c target/staticlib/libmonuvaleck.a -o target/control_unit
+ *   cc -std=c11 -Iinclude examples/control_unit.c crates/monuvaleck/out/libmonuvaleck.a -o target/control_unit
  *   target/control_unit crates/replay/data/set.bin
  */
 #include "monuvaleck.h"

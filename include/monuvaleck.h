@@ -1,6 +1,6 @@
 /* Monuvaleck: chart sets of sewer crawlers, their automata twins, and guards typed as a line.
  *
- * Link with libmonuvaleck.a (x86-64 Linux; `rt staticlib monuvaleck` writes target/staticlib/libmonuvaleck.a). It needs memcpy and memset
+ * Link with libmonuvaleck.a (x86-64 Linux; `rt lib` in crates/monuvaleck writes out/libmonuvaleck.a there). It needs memcpy and memset
  * of the C library and nothing else: no heap, no files, no signals, no floating point.
  *
  * ANSWERS. Every function answers an int32_t. 0 or more is the answer. Less than 0 is a refusal or a fault: minus its number, one of
