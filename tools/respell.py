@@ -3,9 +3,10 @@
 
 usage: tools/respell.py [--say]     at the top of the repository; --say writes nothing and lists what would change
 
-It turns the names that specs/ and proofs/ declare, wherever an .antt file, a clause, a `ghost use` or a must-fail edit says them: camelCase and dashed words become
-snake_case, a middle dot and a subscript at a word's end stay. A dash stays where it joins a name to the type or fact before it (`All-append`). Names that come from
-the source (functions, types, fields), those that the toolchain makes, strings, and the text of programs stay. Names that would fall together get `_lem` behind them.
+It ran once, on what the toolchain's port script had left, and is kept to tell how the names came about: a second run would turn some names of its table APART again.
+It turns the names that specs/ and proofs/ declare, wherever an .antt file, a clause or a `ghost use` says them: camelCase becomes snake_case, and in definitions of
+specs/, constructors and fields a dash an underscore; in a lemma's name a dash stays, as it joins names. Names that come from the source (functions, types, fields),
+those that the toolchain makes, strings, and the text of programs stay; must-fail edits were turned by hand. Where two names would fall together, APART says the other.
 """
 
 import collections
