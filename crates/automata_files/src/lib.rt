@@ -20,7 +20,7 @@ use automata_records::Shape;
 use automata_records::fields::node_records;
 use codes::in_code;
 use expressions::sorts::test_nodes;
-use framing::{Framing, frame_of};
+use framing::frame_of;
 use names::table_named;
 use nodes::table_nodes_fit;
 use records::refusals::Refusal;
@@ -28,39 +28,23 @@ use records::sizes::{NODES, TABLE_LIMITS};
 use structure::{clocks_tick, idle_edges_stay, inside_automata};
 use unused::record_clean;
 
-// A file that passes is known by its shape; what is refused is refused as 11, whatever the test.
-#[derive(Clone, Copy)]
-pub enum Checked {
-    Accepted(Shape),
-    Refused(Refusal),
-}
-
-// Refusals 1 to 3, read for kinds 33 to 41.
-pub fn shape_of(s: &[u8]) -> Checked
+// Refusals 1 to 3, read for kinds 33 to 41. What is refused is refused as 11, whatever the test.
+pub fn shape_of(s: &[u8]) -> Result<Shape, Refusal>
     ensures { IsShaped s.now result }
 {
-    let most = TABLE_LIMITS;
-    let frame = frame_of(s, 33, &most);
-    let answer = frame.answer;
-    match answer {
-        Framing::OddLength => Checked::Refused(Refusal::BadTable),
-        Framing::UnorderedKinds => Checked::Refused(Refusal::BadTable),
-        Framing::WrongAmounts => Checked::Refused(Refusal::BadTable),
-        Framing::Framed => {
-            let counts = frame.counts;
-            Checked::Accepted(Shape {
-                automata: counts[0] as u16,
-                locations: counts[1] as u16,
-                edges: counts[2] as u16,
-                literals: counts[3] as u16,
-                clocks: counts[4] as u16,
-                variables: counts[5] as u16,
-                nodes: counts[6] as u16,
-                updates: counts[7] as u16,
-                resets: counts[8] as u16,
-            })
-        }
-    }
+    let framed = frame_of(s, 33, &TABLE_LIMITS);
+    let counts = framed.map_err(|_| Refusal::BadTable)?.counts;
+    Ok(Shape {
+        automata: counts[0] as u16,
+        locations: counts[1] as u16,
+        edges: counts[2] as u16,
+        literals: counts[3] as u16,
+        clocks: counts[4] as u16,
+        variables: counts[5] as u16,
+        nodes: counts[6] as u16,
+        updates: counts[7] as u16,
+        resets: counts[8] as u16,
+    })
 }
 
 // The tests of a record by itself, in one pass.
@@ -92,27 +76,23 @@ fn passes(s: &[u8], shape: Shape) -> bool
 {
     let mut uses = [0u8; NODES];
     let nodes = node_records(s, shape);
-    let found = test_nodes(nodes, shape.nodes, shape.variables, &mut uses);
+    let tests = test_nodes(nodes, shape.nodes, shape.variables, &mut uses);
     all_sound(s)
-        & table_named(s, shape, found)
+        & table_named(s, shape, tests.named)
         & clocks_tick(s, shape)
         & inside_automata(s, shape)
         & idle_edges_stay(s, shape)
-        & table_nodes_fit(s, shape, found, &uses)
+        & table_nodes_fit(s, shape, tests.fit, &uses)
 }
 
 // The reader: refusal 11, or the file's shape.
-pub fn check(s: &[u8]) -> Checked
+pub fn check(s: &[u8]) -> Result<Shape, Refusal>
     ensures { IsChecked s.now result }
 {
-    match shape_of(s) {
-        Checked::Refused(refusal) => Checked::Refused(refusal),
-        Checked::Accepted(shape) => {
-            if passes(s, shape) {
-                Checked::Accepted(shape)
-            } else {
-                Checked::Refused(Refusal::BadTable)
-            }
-        }
+    let shape = shape_of(s)?;
+    if passes(s, shape) {
+        Ok(shape)
+    } else {
+        Err(Refusal::BadTable)
     }
 }

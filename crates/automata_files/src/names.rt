@@ -2,7 +2,7 @@
 ghost use Rattle.std.specs.Prelude.{◌≡◌};
 ghost use Rattle.prelude.specs.Lists.{all, upto};
 ghost use Rattle.expressions.specs.Nodes.{node_at};
-ghost use Rattle.expressions.specs.Verdicts.{verdict_of};
+ghost use Rattle.expressions.specs.Sorts.{nodes_named};
 ghost use Rattle.model.specs.AutomataTable.{read_automata};
 ghost use Rattle.model.specs.AutomataFile.{literal_trigger_named, table_named};
 ghost use Rattle.automata_records.specs.Shape.{IsShape};
@@ -16,7 +16,6 @@ use automata_records::fields::{
     literal_edge, literal_trigger_of, reset_clock, reset_edge, source_of, target_of, update_edge,
 };
 use chart_checks::names::{guard_named, parts_named};
-use expressions::sorts::says_named;
 
 fn initial_named(s: &[u8], shape: Shape, a: u16) -> bool
     ensures { result ≡ initial_named s.now shape a }
@@ -159,15 +158,15 @@ fn resets_named(s: &[u8], shape: Shape) -> bool
 }
 
 // Of the nodes it is known by what `test_nodes` found.
-pub fn table_named(s: &[u8], shape: Shape, found: u8) -> bool
-    requires { IsShape s.now shape × (found ≡ verdict_of (node_at (node_part s.now shape)) shape.nodes shape.variables) }
+pub fn table_named(s: &[u8], shape: Shape, named: bool) -> bool
+    requires { IsShape s.now shape × (named ≡ nodes_named (node_at (node_part s.now shape)) shape.nodes shape.variables) }
     ensures { result ≡ table_named (read_automata s.now) }
 {
     initials_named(s, shape)
         & homes_named(s, shape)
         & edges_named(s, shape)
         & literals_named(s, shape)
-        & says_named(found)
+        & named
         & updates_named(s, shape)
         & resets_named(s, shape)
 }

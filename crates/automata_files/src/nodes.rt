@@ -2,7 +2,7 @@
 ghost use Rattle.std.specs.Prelude.{◌≡◌, ◌&&◌, ◌≤◌, leb, length, get_or, replicate};
 ghost use Rattle.prelude.specs.Lists.{all, upto};
 ghost use Rattle.expressions.specs.Nodes.{node_at};
-ghost use Rattle.expressions.specs.Verdicts.{verdict_of};
+ghost use Rattle.expressions.specs.Sorts.{operands_fit};
 ghost use Rattle.expressions.specs.Uses.{add_uses, all_operands};
 ghost use Rattle.model.specs.AutomataTable.{read_automata};
 ghost use Rattle.model.specs.AutomataFile.{table_nodes_fit};
@@ -14,7 +14,6 @@ ghost use Rattle.automata_records.specs.Structure.{guard_at, condition_at, assig
 use automata_records::Shape;
 use automata_records::fields::{condition_of, deed_of, guard_of, node_records};
 use chart_checks::uses::{deed_sorted, guard_sorted};
-use expressions::sorts::says_fit;
 
 fn guards_fit(s: &[u8], shape: Shape) -> bool
     requires { IsShape s.now shape }
@@ -71,9 +70,9 @@ fn none_twice(uses: &[u8], size: u16) -> bool
 }
 
 // By what `test_nodes` found of the nodes.
-pub fn table_nodes_fit(s: &[u8], shape: Shape, found: u8, uses: &[u8]) -> bool
-    requires { IsShape s.now shape × (found ≡ verdict_of (node_at (node_part s.now shape)) shape.nodes shape.variables) × (uses.now ≡ add_uses (replicate 1024 0) (all_operands (node_at (node_part s.now shape)) shape.nodes)) }
+pub fn table_nodes_fit(s: &[u8], shape: Shape, fit: bool, uses: &[u8]) -> bool
+    requires { IsShape s.now shape × (fit ≡ operands_fit (node_at (node_part s.now shape)) shape.nodes) × (uses.now ≡ add_uses (replicate 1024 0) (all_operands (node_at (node_part s.now shape)) shape.nodes)) }
     ensures { result ≡ table_nodes_fit (read_automata s.now) }
 {
-    says_fit(found) & guards_fit(s, shape) & updates_fit(s, shape) & none_twice(uses, shape.nodes)
+    fit & guards_fit(s, shape) & updates_fit(s, shape) & none_twice(uses, shape.nodes)
 }

@@ -7,7 +7,7 @@ ghost use Rattle.automata_records.specs.Places.{first_location, first_edge, firs
 ghost use Rattle.automata_records.specs.Parts.{literal_trigger_for};
 
 use super::Shape;
-use chart_records::fields::{Deed, Guard, byte_in, deed_by, guard_by, guard_by_plus_one, u16_in};
+use chart_records::fields::{Deed, byte_in, deed_by, guard_by, guard_by_plus_one, u16_in};
 use records::u16_at;
 
 // A literal's trigger.
@@ -141,7 +141,7 @@ pub fn literal_trigger_of(s: &[u8], shape: Shape, l: u16) -> LiteralTrigger
     literal_trigger_by(byte_in(s, n, 4), byte_in(s, n, 5), u16_in(s, n, 6))
 }
 
-pub fn guard_of(s: &[u8], shape: Shape, l: u16) -> Guard
+pub fn guard_of(s: &[u8], shape: Shape, l: u16) -> Option<u16>
     ensures { guard_for result ≡ (literal_at s.now shape l).1.guard }
 {
     guard_by(u16_in(s, literal_record(shape, l), 8))
@@ -167,7 +167,7 @@ pub fn deed_of(s: &[u8], shape: Shape, u: u16) -> Deed
 }
 
 // The guard of update u.
-pub fn condition_of(s: &[u8], shape: Shape, u: u16) -> Guard
+pub fn condition_of(s: &[u8], shape: Shape, u: u16) -> Option<u16>
     ensures { guard_for result ≡ (update_at s.now shape u).1.guard }
 {
     guard_by_plus_one(u16_in(s, update_record(shape, u), 8))

@@ -2,7 +2,7 @@
 ghost use Rattle.std.specs.Prelude.{◌≡◌};
 ghost use Rattle.prelude.specs.Lists.{all, upto};
 ghost use Rattle.expressions.specs.Nodes.{node_at};
-ghost use Rattle.expressions.specs.Verdicts.{verdict_of};
+ghost use Rattle.expressions.specs.Sorts.{nodes_named};
 ghost use Rattle.model.specs.ChartSet.{read_charts};
 ghost use Rattle.model.specs.ChartFile.{guard_named, deed_named, all_named};
 ghost use Rattle.model.specs.ChartFile as file;
@@ -13,10 +13,9 @@ ghost use Rattle.chart_checks.specs.Names.{initial_named, home_named, transition
 
 use chart_records::Shape;
 use chart_records::fields::{
-    Deed, Guard, condition_of, deed_of, guard_of, home_of, initial_of, owner_of, place_of,
+    Deed, condition_of, deed_of, guard_of, home_of, initial_of, owner_of, place_of,
     source_of, target_of,
 };
-use expressions::sorts::says_named;
 
 fn initials_named(s: &[u8], shape: Shape) -> bool
     ensures { result ≡ all (initial_named s.now shape) (upto shape.charts) }
@@ -44,12 +43,12 @@ fn homes_named(s: &[u8], shape: Shape) -> bool
     true
 }
 
-pub fn guard_named(guard: Guard, nodes: u16) -> bool
+pub fn guard_named(guard: Option<u16>, nodes: u16) -> bool
     ensures { result ≡ guard_named nodes (guard_for guard) }
 {
     match guard {
-        Guard::Free => true,
-        Guard::Node(n) => n < nodes,
+        None => true,
+        Some(n) => n < nodes,
     }
 }
 
@@ -84,7 +83,7 @@ fn deed_named(deed: Deed, variables: u16, nodes: u16) -> bool
 }
 
 // The guard and the deed of an action or update.
-pub fn parts_named(guard: Guard, deed: Deed, variables: u16, nodes: u16) -> bool
+pub fn parts_named(guard: Option<u16>, deed: Deed, variables: u16, nodes: u16) -> bool
     ensures { result ≡ file.action_named variables nodes (record { guard = guard_for guard; deed = deed_for deed }) }
 {
     guard_named(guard, nodes) & deed_named(deed, variables, nodes)
@@ -120,13 +119,13 @@ fn actions_named(s: &[u8], shape: Shape) -> bool
 }
 
 // Of the nodes it is known by what `test_nodes` found.
-pub fn all_named(s: &[u8], shape: Shape, found: u8) -> bool
-    requires { IsShape s.now shape × (found ≡ verdict_of (node_at (node_part s.now shape)) shape.nodes shape.variables) }
+pub fn all_named(s: &[u8], shape: Shape, named: bool) -> bool
+    requires { IsShape s.now shape × (named ≡ nodes_named (node_at (node_part s.now shape)) shape.nodes shape.variables) }
     ensures { result ≡ all_named (read_charts s.now) }
 {
     initials_named(s, shape)
         & homes_named(s, shape)
         & transitions_named(s, shape)
-        & says_named(found)
+        & named
         & actions_named(s, shape)
 }

@@ -4,7 +4,7 @@ ghost use Rattle.model.specs.Limits.{most_nodes};
 ghost use Rattle.prelude.specs.Lists.{all, upto};
 ghost use Rattle.records.specs.Bytes.{records};
 ghost use Rattle.expressions.specs.Nodes.{node_of, node_at};
-ghost use Rattle.expressions.specs.Verdicts.{verdict_of};
+ghost use Rattle.expressions.specs.Sorts.{operands_fit};
 ghost use Rattle.expressions.specs.Uses.{add_uses};
 ghost use Rattle.model.specs.ChartSet.{read_charts};
 ghost use Rattle.model.specs.ChartFile as file;
@@ -15,25 +15,25 @@ ghost use Rattle.prelude.specs.Lists.{gather};
 ghost use Rattle.chart_checks.specs.Used.{guard_at, condition_at, assigned_at, operand_use, guard_use, action_use, all_uses, truths, numbers};
 
 use chart_records::Shape;
-use chart_records::fields::{Deed, Guard, condition_of, deed_of, guard_of, node_records};
-use expressions::sorts::{add_use, is_number, is_truth, says_fit};
+use chart_records::fields::{Deed, condition_of, deed_of, guard_of, node_records};
+use expressions::sorts::{add_use, is_number, is_truth};
 
 // A guard is a truth.
-pub fn guard_sorted(guard: Guard, nodes: &[u8]) -> bool
+pub fn guard_sorted(guard: Option<u16>, nodes: &[u8]) -> bool
     ensures { result ≡ truths (node_at nodes.now) (file.guard_nodes (guard_for guard)) }
 {
     match guard {
-        Guard::Free => true,
-        Guard::Node(n) => is_truth(nodes, n),
+        None => true,
+        Some(n) => is_truth(nodes, n),
     }
 }
 
-fn count_guard(guard: Guard, uses: &mut [u8])
+fn count_guard(guard: Option<u16>, uses: &mut [u8])
     ensures { uses.new ≡ add_uses uses.old (file.guard_nodes (guard_for guard)) }
 {
     match guard {
-        Guard::Free => {}
-        Guard::Node(n) => add_use(uses, n),
+        None => {}
+        Some(n) => add_use(uses, n),
     }
 }
 
@@ -123,12 +123,12 @@ fn all_once(uses: &[u8], size: u16) -> bool
     true
 }
 
-// Of a framed file whose codes and ranges are kept, by what `test_nodes` found of its nodes; `uses` has those as operands.
-pub fn nodes_fit(s: &[u8], shape: Shape, found: u8, uses: &mut [u8]) -> bool
-    requires { IsShape s.now shape × (all file.in_code (records s.now) ≡ true) × (found ≡ verdict_of (node_at (node_part s.now shape)) shape.nodes shape.variables) × (uses.old ≡ add_uses (replicate most_nodes 0) (operand_use s.now shape)) }
+// Of a framed file whose codes and ranges are kept, by what `test_nodes` found of its nodes' operands; `uses` has those as operands.
+pub fn nodes_fit(s: &[u8], shape: Shape, fit: bool, uses: &mut [u8]) -> bool
+    requires { IsShape s.now shape × (all file.in_code (records s.now) ≡ true) × (fit ≡ operands_fit (node_at (node_part s.now shape)) shape.nodes) × (uses.old ≡ add_uses (replicate most_nodes 0) (operand_use s.now shape)) }
     ensures { (result ≡ file.nodes_fit (read_charts s.now)) × (uses.new ≡ all_uses s.now shape) }
 {
     let guards = guards_fit(s, shape, uses);
     let actions = actions_fit(s, shape, uses);
-    says_fit(found) & guards & actions & all_once(uses, shape.nodes)
+    fit & guards & actions & all_once(uses, shape.nodes)
 }

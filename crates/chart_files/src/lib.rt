@@ -17,7 +17,7 @@ use chart_checks::uses::nodes_fit;
 use chart_records::Shape;
 use chart_records::fields::node_records;
 use expressions::sorts::test_nodes;
-use framing::{Framing, frame_of};
+use framing::frame_of;
 use record_tests::codes::in_code;
 use record_tests::unused::record_clean;
 use records::refusals::Refusal;
@@ -26,36 +26,19 @@ use structure::structured;
 use timing::all_ticking;
 use waiting::waits_alike;
 
-// A file that passes is known by its shape.
-#[derive(Clone, Copy)]
-pub enum Checked {
-    Accepted(Shape),
-    Refused(Refusal),
-}
-
 // Refusals 1 to 3.
-pub fn shape_of(s: &[u8]) -> Checked
+pub fn shape_of(s: &[u8]) -> Result<Shape, Refusal>
     ensures { IsShaped s.now result }
 {
-    let most = SET_LIMITS;
-    let frame = frame_of(s, 1, &most);
-    let answer = frame.answer;
-    match answer {
-        Framing::OddLength => Checked::Refused(Refusal::OddLength),
-        Framing::UnorderedKinds => Checked::Refused(Refusal::UnorderedKinds),
-        Framing::WrongAmounts => Checked::Refused(Refusal::WrongAmounts),
-        Framing::Framed => {
-            let counts = frame.counts;
-            Checked::Accepted(Shape {
-                charts: counts[0] as u16,
-                states: counts[1] as u16,
-                transitions: counts[2] as u16,
-                variables: counts[3] as u16,
-                nodes: counts[4] as u16,
-                actions: counts[5] as u16,
-            })
-        }
-    }
+    let counts = frame_of(s, 1, &SET_LIMITS)?.counts;
+    Ok(Shape {
+        charts: counts[0] as u16,
+        states: counts[1] as u16,
+        transitions: counts[2] as u16,
+        variables: counts[3] as u16,
+        nodes: counts[4] as u16,
+        actions: counts[5] as u16,
+    })
 }
 
 // What all records pass by themselves: refusal 4, and 5.
@@ -86,44 +69,41 @@ fn test_records(s: &[u8]) -> Tested
 }
 
 // Refusals 4 to 9 of a framed file, and 25, in their order.
-fn check_framed(s: &[u8], shape: Shape) -> Checked
+fn check_framed(s: &[u8], shape: Shape) -> Result<Shape, Refusal>
     requires { IsShape s.now shape }
     ensures { IsChecked s.now result }
 {
     let tested = test_records(s);
     if !tested.clean {
-        return Checked::Refused(Refusal::StrayByte);
+        return Err(Refusal::StrayByte);
     }
     if !tested.coded {
-        return Checked::Refused(Refusal::BrokenCode);
+        return Err(Refusal::BrokenCode);
     }
     let mut uses = [0u8; NODES];
     let nodes = node_records(s, shape);
-    let found = test_nodes(nodes, shape.nodes, shape.variables, &mut uses);
-    if !all_named(s, shape, found) {
-        return Checked::Refused(Refusal::DanglingNumber);
+    let tests = test_nodes(nodes, shape.nodes, shape.variables, &mut uses);
+    if !all_named(s, shape, tests.named) {
+        return Err(Refusal::DanglingNumber);
     }
     if !structured(s, shape) {
-        return Checked::Refused(Refusal::BrokenStructure);
+        return Err(Refusal::BrokenStructure);
     }
-    if !nodes_fit(s, shape, found, &mut uses) {
-        return Checked::Refused(Refusal::BrokenNode);
+    if !nodes_fit(s, shape, tests.fit, &mut uses) {
+        return Err(Refusal::BrokenNode);
     }
     if !all_ticking(s, shape) {
-        return Checked::Refused(Refusal::ZeroTicks);
+        return Err(Refusal::ZeroTicks);
     }
     if !waits_alike(s, shape) {
-        return Checked::Refused(Refusal::UnlikeWaits);
+        return Err(Refusal::UnlikeWaits);
     }
-    Checked::Accepted(shape)
+    Ok(shape)
 }
 
 // The reader: a file's refusal, the lowest that applies, or its shape.
-pub fn check(s: &[u8]) -> Checked
+pub fn check(s: &[u8]) -> Result<Shape, Refusal>
     ensures { IsChecked s.now result }
 {
-    match shape_of(s) {
-        Checked::Accepted(shape) => check_framed(s, shape),
-        Checked::Refused(refusal) => Checked::Refused(refusal),
-    }
+    check_framed(s, shape_of(s)?)
 }

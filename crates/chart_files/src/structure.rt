@@ -15,7 +15,7 @@ ghost use Rattle.chart_files.specs.Structure.{inside_chart, is_free, transition_
 
 use chart_records::Shape;
 use chart_records::fields::{
-    Guard, Trigger, guard_of, home_of, initial_of, owner_of, place_of, priority_of, source_of,
+    Trigger, guard_of, home_of, initial_of, owner_of, place_of, priority_of, source_of,
     target_of, trigger_of,
 };
 use expressions::sorts::add_use;
@@ -63,10 +63,7 @@ fn inside_charts(s: &[u8], shape: Shape) -> bool
 fn free(s: &[u8], shape: Shape, t: u16) -> bool
     ensures { result ≡ is_free (transition_at s.now shape t).guard }
 {
-    match guard_of(s, shape, t) {
-        Guard::Free => true,
-        Guard::Node(_) => false,
-    }
+    guard_of(s, shape, t).is_none()
 }
 
 // Neither trigger nor guard.

@@ -1,12 +1,10 @@
 -- The parts of a transition and of an action that the code has as enums, in the words of the model. Assumes nothing: these are definitions.
-use Rattle.std.proofs.Math.Option.{Option, some, none}
-use Rattle.std.specs.Prelude.{ℕ}
+use Rattle.std.specs.Prelude.{ℕ, Option, Some, None}
+use Rattle.std.proofs.Math.Option as Opt
 use Rattle.model.specs.Runs as M
 use Rattle.model.specs.ChartSet as C
 use Rattle.chart_records.specs.declared.fields.Trigger.{Trigger}
 use Rattle.chart_records.specs.declared.fields.Trigger.TheVariants.{Always, Event, After, Every}
-use Rattle.chart_records.specs.declared.fields.Guard.{Guard}
-use Rattle.chart_records.specs.declared.fields.Guard.TheVariants.{Free, Node}
 use Rattle.chart_records.specs.declared.fields.Deed.{Deed}
 use Rattle.chart_records.specs.declared.fields.Deed.TheVariants.{Assign, Raise}
 
@@ -16,9 +14,10 @@ trigger_for (Event e) = C.event e
 trigger_for (After ms) = C.after ms
 trigger_for (Every ms) = C.every ms
 
-abbrev pub guard_for : Guard → Option ℕ
-guard_for Free = none
-guard_for (Node n) = some n
+-- a guard's node, if there is a guard
+abbrev pub guard_for : Option ℕ → Opt.Option ℕ
+guard_for None = Opt.none
+guard_for (Some n) = Opt.some n
 
 abbrev pub deed_for : Deed → M.Deed
 deed_for (Assign v n) = M.assign v n

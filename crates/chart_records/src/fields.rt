@@ -17,12 +17,6 @@ pub enum Trigger {
     Every(u32),
 }
 
-#[derive(Clone, Copy)]
-pub enum Guard {
-    Free,
-    Node(u16),
-}
-
 // A variable and the node assigned to it, or an event.
 #[derive(Clone, Copy)]
 pub enum Deed {
@@ -125,29 +119,21 @@ pub fn trigger_of(s: &[u8], shape: Shape, t: u16) -> Trigger
     }
 }
 
-// 65,535 is the number of no node.
-pub fn guard_by(node: u16) -> Guard
+// The node of a guard; 65,535 is the number of no node.
+pub fn guard_by(node: u16) -> Option<u16>
     ensures { guard_for result ≡ read_guard node }
 {
-    if node == 65535 {
-        Guard::Free
-    } else {
-        Guard::Node(node)
-    }
+    (node != 65535).then_some(node)
 }
 
 // Of an action or update: the node plus one, 0 for none.
-pub fn guard_by_plus_one(field: u16) -> Guard
+pub fn guard_by_plus_one(field: u16) -> Option<u16>
     ensures { guard_for result ≡ read_plus_one field }
 {
-    if field == 0 {
-        Guard::Free
-    } else {
-        Guard::Node(field - 1)
-    }
+    field.checked_sub(1)
 }
 
-pub fn guard_of(s: &[u8], shape: Shape, t: u16) -> Guard
+pub fn guard_of(s: &[u8], shape: Shape, t: u16) -> Option<u16>
     ensures { guard_for result ≡ (transition_at s.now shape t).guard }
 {
     guard_by(u16_in(
@@ -212,7 +198,7 @@ pub fn deed_of(s: &[u8], shape: Shape, i: u16) -> Deed
 }
 
 // The guard of action i.
-pub fn condition_of(s: &[u8], shape: Shape, i: u16) -> Guard
+pub fn condition_of(s: &[u8], shape: Shape, i: u16) -> Option<u16>
     ensures { guard_for result ≡ (action_at s.now shape i).1.guard }
 {
     guard_by_plus_one(u16_in(
