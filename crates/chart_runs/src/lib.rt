@@ -14,8 +14,9 @@ ghost use Rattle.chart_runs.specs.RunOf.{run_of, AgesPossible, aged};
 
 use chart_records::Shape;
 use chart_steps::values::values_of;
-use machines::checks::{Before, decide, events_given, initial_places, shared_possible};
+use machines::checks::{decide, events_given, initial_places, shared_possible};
 use machines::values::start_values;
+use records::refusals::Refusal;
 use records::sizes::{Ages, CHARTS, Places, Variables};
 
 // A run: of each chart its present state and that state's age, the variables, the events present, the position in the cycle, the cycles done.
@@ -102,7 +103,7 @@ fn is_possible(s: &[u8], shape: Shape, run: Run) -> bool
 }
 
 // What is checked before a turn, or a cycle.
-pub fn before_turn(s: &[u8], shape: Shape, run: Run, events: u32) -> Before
+pub fn before_turn(s: &[u8], shape: Shape, run: Run, events: u32) -> Result<(), Refusal>
     requires { IsShape s.now shape }
     ensures { before_of result ≡ checked (machine (read_charts s.now)) events (run_of run) }
 {

@@ -17,7 +17,7 @@ use super::deeds::do_deeds;
 use super::tables::slot_of;
 use super::transitions::{holds, source_of, target_of};
 use chart_records::Shape;
-use expressions::outcomes::Truth;
+use expressions::outcomes::Reason;
 use machines::deeds::fault_code;
 use records::sizes::{
     ActionHeads, ActionLinks, Ages, CROSSING_KEYS, EMPTY_KEY, EXIT_KEYS, Ends, Places, Rows,
@@ -26,12 +26,12 @@ use records::sizes::{
 use timings::{every_holds, ticks};
 
 // A place of a row that names none does not hold.
-fn slot_holds(s: &[u8], shape: Shape, vars: &Variables, events: u32, age: u32, t: u16) -> Truth
+fn slot_holds(s: &[u8], shape: Shape, vars: &Variables, events: u32, age: u32, t: u16) -> Result<bool, Reason>
     requires { Accepted s.now shape × ((t ≡ 65535 → ⊥) → t < shape.transitions) }
     ensures { truth_of result ≡ slot_holds (transition_holds (read_charts s.now) (bare_world vars.now events) age) t }
 {
     if t == 65535 {
-        Truth::Value(false)
+        Ok(false)
     } else {
         holds(s, shape, vars, events, age, t)
     }
@@ -60,8 +60,8 @@ fn first_that(
     while j < end {
         let t = slot_of(s, shape, rows, state, j);
         match slot_holds(s, shape, vars, events, age, t) {
-            Truth::Fault(w) => return fault_code(w),
-            Truth::Value(holding) => {
+            Err(w) => return fault_code(w),
+            Ok(holding) => {
                 if holding {
                     return t as u64;
                 }

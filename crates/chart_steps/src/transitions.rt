@@ -11,7 +11,7 @@ use super::triggers::triggered;
 use super::values::values_of;
 use chart_records::Shape;
 use chart_records::fields::first_transition;
-use expressions::outcomes::Truth;
+use expressions::outcomes::Reason;
 use machines::values::guard_holds;
 use records::sizes::Variables;
 use records::u16_within;
@@ -31,7 +31,7 @@ pub fn target_of(s: &[u8], shape: Shape, t: u16) -> u16
 }
 
 // The trigger first, then the guard only if the trigger holds.
-pub fn holds(s: &[u8], shape: Shape, vars: &Variables, events: u32, age: u32, t: u16) -> Truth
+pub fn holds(s: &[u8], shape: Shape, vars: &Variables, events: u32, age: u32, t: u16) -> Result<bool, Reason>
     requires { Accepted s.now shape × (t < shape.transitions) }
     ensures { truth_of result ≡ transition_holds (read_charts s.now) (bare_world vars.now events) age t }
 {
@@ -39,6 +39,6 @@ pub fn holds(s: &[u8], shape: Shape, vars: &Variables, events: u32, age: u32, t:
     if triggered(s, n, age, events) {
         guard_holds(s, values_of(shape), vars, u16_within(s, 16 * n + 12))
     } else {
-        Truth::Value(false)
+        Ok(false)
     }
 }

@@ -10,7 +10,7 @@ ghost use Rattle.chart_runs.specs.RunOf.{run_of};
 ghost use Rattle.charts.specs.TurnOf.{called_of};
 
 use super::turns::turn;
-use answers::{Answer, Ending};
+use answers::{Answer, Stop};
 use chart_records::Shape;
 use chart_runs::{Run, start};
 use chart_steps::tables::{fill_actions, fill_rows};
@@ -19,7 +19,7 @@ use records::sizes::{ACTION_KEYS, ACTIONS, PRIORITIES, STATES};
 // The answer of a call that is done or not, and the run after it.
 #[derive(Clone, Copy)]
 pub struct Called {
-    pub answer: Ending,
+    pub answer: Result<(), Stop>,
     pub run: Run,
 }
 
@@ -30,7 +30,7 @@ pub fn fresh(s: &[u8], shape: Shape, lent: Run) -> Called
 {
     let run = start(s, shape);
     Called {
-        answer: Ending::Done,
+        answer: Ok(()),
         run,
     }
 }
@@ -60,19 +60,19 @@ pub fn cycle_by_turns(s: &[u8], shape: Shape, run: Run, events: u32) -> Called
             }
             Answer::Time => {
                 return Called {
-                    answer: Ending::Done,
+                    answer: Ok(()),
                     run: after,
                 };
             }
             Answer::Fault(w) => {
                 return Called {
-                    answer: Ending::Fault(w),
+                    answer: Err(Stop::Fault(w)),
                     run,
                 };
             }
             Answer::Refused(w) => {
                 return Called {
-                    answer: Ending::Refused(w),
+                    answer: Err(Stop::Refused(w)),
                     run,
                 };
             }

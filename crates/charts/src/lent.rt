@@ -13,12 +13,12 @@ ghost use Rattle.chart_runs.specs.RunOf.{run_of};
 use super::cycles::{cycle_by_turns, fresh};
 use super::plays::play_in_place;
 use super::turns::one_turn;
-use answers::{Answer, Cycles, Ending};
+use answers::{Answer, Stop};
 use chart_records::Shape;
 use chart_runs::Run;
 
 // The lent run becomes a fresh one.
-pub fn start(s: &[u8], shape: Shape, run: &mut Run) -> Ending
+pub fn start(s: &[u8], shape: Shape, run: &mut Run) -> Result<(), Stop>
     requires { Accepted s.now shape }
     ensures { (ending_of result ≡ val tt) × (run_of run.new ≡ started (machine (read_charts s.now))) }
 {
@@ -39,7 +39,7 @@ pub fn turn(s: &[u8], shape: Shape, run: &mut Run, events: u32) -> Answer
 }
 
 // A cycle: all its turns, or none.
-pub fn cycle(s: &[u8], shape: Shape, run: &mut Run, events: u32) -> Ending
+pub fn cycle(s: &[u8], shape: Shape, run: &mut Run, events: u32) -> Result<(), Stop>
     requires { Accepted s.now shape }
     ensures { (ending_of result ≡ (settled (run_of run.old) (model-cycle (machine (read_charts s.now)) events (run_of run.old))).answer)
         × (run_of run.new ≡ (settled (run_of run.old) (model-cycle (machine (read_charts s.now)) events (run_of run.old))).lent) }
@@ -50,7 +50,7 @@ pub fn cycle(s: &[u8], shape: Shape, run: &mut Run, events: u32) -> Ending
 }
 
 // Many cycles, one for each mask, until one is refused or faults.
-pub fn play(s: &[u8], shape: Shape, run: &mut Run, masks: &[u32]) -> Cycles
+pub fn play(s: &[u8], shape: Shape, run: &mut Run, masks: &[u32]) -> Result<u32, Stop>
     requires { Accepted s.now shape }
     ensures { (cycles_of result ≡ (settled (run_of run.old) (playing (machine (read_charts s.now)) masks.now (run_of run.old))).answer)
         × (run_of run.new ≡ (settled (run_of run.old) (playing (machine (read_charts s.now)) masks.now (run_of run.old))).lent) }

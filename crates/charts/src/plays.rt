@@ -16,12 +16,12 @@ ghost use Rattle.chart_steps.specs.Prepared.{Prepared};
 ghost use Rattle.charts.specs.TurnOf.{after, finish, Ready};
 ghost use Rattle.charts.specs.PlayedOf.{played_of};
 
-use answers::{Cycles, Reason};
+use answers::{Reason, Stop};
 use chart_records::Shape;
 use chart_runs::{Run, before_turn, grow_ages, run_between_cycles};
 use chart_steps::steps::turns_in_place;
 use chart_steps::tables::{fill_actions, fill_rows};
-use machines::checks::{Before, events_given};
+use machines::checks::events_given;
 use machines::deeds::reason_by;
 use records::sizes::{
     ACTION_KEYS, ACTIONS, ActionHeads, ActionLinks, Ages, Ends, MOST_CYCLES, PRIORITIES, Places,
@@ -31,27 +31,20 @@ use records::sizes::{
 // How many cycles were done, or why not even the first was, and the run after them.
 #[derive(Clone, Copy)]
 pub struct Played {
-    pub answer: Cycles,
+    pub answer: Result<u32, Stop>,
     pub run: Run,
 }
 
-// What turns in place come to: all were taken, or why one was not.
-#[derive(Clone, Copy)]
-enum Progress {
-    Done,
-    Fault(Reason),
-}
-
 // Time passes once the charts' turns are taken, whose events these are, unless one of them faulted.
-fn time_after(charts: u16, ages: &mut Ages, events: u64) -> Progress
+fn time_after(charts: u16, ages: &mut Ages, events: u64) -> Result<(), Reason>
     requires { (charts ≤ most_charts) × (events ≤ 4_294_967_295 → (k : ℕ) → k < charts → get_or ages.old k 0 < 4_294_967_295) }
     ensures { ((q : model-run) → ran_to result q ≡ ended_by events q) × (events ≤ 4_294_967_295 → ages.new ≡ map_from 0 (aged charts) ages.old) × (4_294_967_295 < events → ages.new ≡ ages.old) }
 {
     if 4294967295 < events {
-        return Progress::Fault(reason_by(events));
+        return Err(reason_by(events));
     }
     grow_ages(charts, ages);
-    Progress::Done
+    Ok(())
 }
 
 // The turns from a position up to time's. After a fault the places are as the turns before it left them.
@@ -68,7 +61,7 @@ fn cycle_or_fault(
     events: u32,
     position: u32,
     cycles: u32,
-) -> Progress
+) -> Result<(), Reason>
     requires { Prepared s.now shape rows.now ends.now first.now next.now × Ready shape.charts (run_in states.old ages.old vars.old events (moment position cycles)) }
     ensures { ran_to result (run_in states.new ages.new vars.new 0 (moment 1 (cycles + 1))) ≡ after (machine (read_charts s.now)) (shape.charts + 2 - position) (run_in states.old ages.old vars.old events (moment position cycles)) }
 {
@@ -105,10 +98,10 @@ fn cycle_or_none(
     vars: &mut Variables,
     events: u32,
     cycles: u32,
-) -> Progress
+) -> Result<(), Reason>
     requires { Prepared s.now shape rows.now ends.now first.now next.now × (checked (machine (read_charts s.now)) events (run_in states.old ages.old vars.old 0 (moment 1 cycles)) ≡ val tt) }
     ensures cycles_after { finish (ran_to result (run_in states.new ages.new vars.new 0 (moment 1 (cycles + 1)))) ≡ model-cycle (machine (read_charts s.now)) events (run_in states.old ages.old vars.old 0 (moment 1 cycles)) }
-    ensures states_unchanged { (w : Reason) → result ≡ Progress.Fault w → (states.new ≡ states.old) × (ages.new ≡ ages.old) × (vars.new ≡ vars.old) }
+    ensures states_unchanged { (w : Reason) → result ≡ Err w → (states.new ≡ states.old) × (ages.new ≡ ages.old) × (vars.new ≡ vars.old) }
 {
     let states_before = *states;
     let ages_before = *ages;
@@ -116,13 +109,13 @@ fn cycle_or_none(
     match cycle_or_fault(
         s, shape, rows, ends, first, next, states, ages, vars, events, 1, cycles,
     ) {
-        Progress::Fault(w) => {
+        Err(w) => {
             *states = states_before;
             *ages = ages_before;
             *vars = vars_before;
-            Progress::Fault(w)
+            Err(w)
         }
-        Progress::Done => Progress::Done,
+        Ok(()) => Ok(()),
     }
 }
 
@@ -153,8 +146,8 @@ fn further_cycles(
         match cycle_or_none(
             s, shape, rows, ends, first, next, states, ages, vars, masks[k], done,
         ) {
-            Progress::Fault(_) => return done - cycles,
-            Progress::Done => {
+            Err(_) => return done - cycles,
+            Ok(()) => {
                 done += 1;
             }
         }
@@ -175,7 +168,7 @@ fn play_further(
     masks: &[u32],
 ) -> Played
     requires { Prepared s.now shape rows.now ends.now first.now next.now × T (possible (machine (read_charts s.now)) (run_of run)) × (run.position ≡ 1) }
-    ensures { (result.answer ≡ Cycles.Done (1 + (played (machine (read_charts s.now)) masks.now (run_of run)).count))
+    ensures { (result.answer ≡ Ok (1 + (played (machine (read_charts s.now)) masks.now (run_of run)).count))
         × (run_of result.run ≡ (played (machine (read_charts s.now)) masks.now (run_of run)).run) }
 {
     let mut states = run.states;
@@ -196,7 +189,7 @@ fn play_further(
         masks,
     );
     Played {
-        answer: Cycles::Done(1 + count),
+        answer: Ok(1 + count),
         run: run_between_cycles(states, ages, variables, cycles + count),
     }
 }
@@ -233,11 +226,11 @@ fn play_from_first(
         run.position,
         run.cycles,
     ) {
-        Progress::Fault(w) => Played {
-            answer: Cycles::Fault(w),
+        Err(w) => Played {
+            answer: Err(Stop::Fault(w)),
             run,
         },
-        Progress::Done => {
+        Ok(()) => {
             let after = run_between_cycles(states, ages, variables, run.cycles + 1);
             play_further(s, shape, rows, ends, first, next, after, &masks[1..])
         }
@@ -260,16 +253,16 @@ fn play_with_tables(
 {
     if masks.len() == 0 {
         return Played {
-            answer: Cycles::Done(0),
+            answer: Ok(0),
             run,
         };
     }
     match before_turn(s, shape, run, masks[0]) {
-        Before::Refused(w) => Played {
-            answer: Cycles::Refused(w),
+        Err(w) => Played {
+            answer: Err(Stop::Refused(w)),
             run,
         },
-        Before::Passed => play_from_first(s, shape, rows, ends, first, next, run, masks),
+        Ok(()) => play_from_first(s, shape, rows, ends, first, next, run, masks),
     }
 }
 

@@ -18,7 +18,6 @@ use chart_records::Shape;
 use chart_runs::{Run, before_turn, give, time_passed};
 use chart_steps::steps::turns_in_place;
 use chart_steps::tables::{fill_actions, fill_rows};
-use machines::checks::Before;
 use machines::deeds::reason_by;
 use records::sizes::{
     ACTION_KEYS, ACTIONS, ActionHeads, ActionLinks, Ages, Ends, PRIORITIES, Places, Rows, STATES,
@@ -164,11 +163,11 @@ pub fn turn(
     ensures { turn_of result ≡ settled (run_of run) (model-turn (machine (read_charts s.now)) events (run_of run)) }
 {
     match before_turn(s, shape, run, events) {
-        Before::Refused(w) => Turned {
+        Err(w) => Turned {
             answer: Answer::Refused(w),
             run,
         },
-        Before::Passed => {
+        Ok(()) => {
             let given = give(run, events);
             turn_taken(s, shape, rows, ends, first, next, run, given)
         }

@@ -1,10 +1,9 @@
 -- Checks 12 to 14: what of them is the same for charts and automata, and what the code answers. Assumes nothing: these are definitions.
-use Rattle.std.specs.Prelude.{Bool, ◌&&◌, List, ℕ, length}
-use Rattle.records.specs.RefusalOf.{refusal_of}
-use Rattle.records.specs.Refusal.{Out, val, fault}
+use Rattle.std.specs.Prelude.{Bool, ◌&&◌, List, ℕ, length, Result}
+use Rattle.records.specs.declared.refusals.Refusal.{Refusal}
+use Rattle.records.specs.RefusalOf.{refusal_of, out_of}
+use Rattle.records.specs.Refusal.{Out}
 use Rattle.model.specs.Runs.{Variable, World, places_possible, variables_possible, position_possible, count_possible, events_possible, rest_zero, rest_zero_values}
-use Rattle.machines.specs.declared.checks.Before.{Before}
-use Rattle.machines.specs.declared.checks.Before.TheVariants.{Passed, Refused}
 
 -- position, count and events
 abbrev pub counts_possible : ℕ → World → Bool
@@ -19,6 +18,5 @@ shared_possible parts homes variables at w =
     && rest_zero parts at
     && rest_zero_values (length variables) w.vars
 
-abbrev pub before_of : Before → Out (Unit {0})
-before_of Passed = val tt
-before_of (Refused w) = fault (refusal_of w)
+abbrev pub before_of : Result (Unit {0}) Refusal → Out (Unit {0})
+before_of r = out_of refusal_of r

@@ -1,8 +1,9 @@
 -- The answers of deeds, as the model's outcomes. Assumes nothing: these are definitions.
-use Rattle.std.specs.Prelude.{cond, List, ◌≡◌, ℕ, ◌+◌, leb, eqb, ℤ}
+use Rattle.std.specs.Prelude.{cond, List, ◌≡◌, ℕ, ◌+◌, leb, eqb, ℤ, Result}
+use Rattle.records.specs.RefusalOf.{out_of}
 use Rattle.records.specs.Refusal.{Refusal, refusal_number, out_of_range, zero_divisor, out_of_bounds, Out, val, fault, ◌>>=◌}
 use Rattle.model.specs.Runs.{World, Run}
-use Rattle.machines.specs.declared.deeds.Done as declared-done
+use Rattle.answers.specs.declared.Reason.{Reason}
 use Rattle.answers.specs.Answers.{reason_of}
 
 -- What a run has besides places, variables and events, and what no deed and no turn of a chart or automaton looks at: contracts take it as one.
@@ -25,9 +26,8 @@ abbrev pub run_in : List ℕ → List ℕ → List ℤ → ℕ → Moment → Ru
 run_in at timers vars events m = record { at = at; timers = timers; world = world_in vars events m }
 
 -- deeds leave the moment as it is
-abbrev pub world_after : declared-done.Done → List ℤ → Moment → Out World
-world_after (declared-done.TheVariants.Events events) vars m = val (world_in vars events m)
-world_after (declared-done.TheVariants.Fault w) vars m = fault (reason_of w)
+abbrev pub world_after : Result ℕ Reason → List ℤ → Moment → Out World
+world_after r vars m = out_of reason_of r >>= λ events. val (world_in vars events m)
 
 -- ---- answers as one number: below 2^32 it is what was found, and a fault is 2^32 and its number in the refusal table
 

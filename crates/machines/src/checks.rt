@@ -143,25 +143,24 @@ pub fn shared_possible(
 }
 
 // What is checked before a turn, or a cycle: the run, where events are given, and that a cycle is left to do.
-#[derive(Clone, Copy)]
-pub enum Before {
-    Passed,
-    Refused(Refusal),
-}
-
-pub fn decide(possible: bool, events: u32, position: u32, cycles: u32) -> Before
+pub fn decide(
+    possible: bool,
+    events: u32,
+    position: u32,
+    cycles: u32,
+) -> Result<(), Refusal>
     ensures { before_of result ≡ checked_by possible events position cycles }
 {
     if !possible {
-        return Before::Refused(Refusal::ImpossibleRun);
+        return Err(Refusal::ImpossibleRun);
     }
     if (position != 1) & (events != 0) {
-        return Before::Refused(Refusal::MisplacedEvents);
+        return Err(Refusal::MisplacedEvents);
     }
     if (position == 1) & (cycles == MOST_CYCLES) {
-        return Before::Refused(Refusal::CyclesDone);
+        return Err(Refusal::CyclesDone);
     }
-    Before::Passed
+    Ok(())
 }
 
 // Input events are given at position 1.

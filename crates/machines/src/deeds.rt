@@ -12,15 +12,7 @@ ghost use Rattle.machines.specs.Worlds.{Moment, world_in, world_after, coded_fau
 
 use super::values::{Values, bound_within, number_at, plus_one_holds};
 use answers::Reason;
-use expressions::outcomes::{Number, Truth};
 use records::sizes::Variables;
-
-// The events afterwards, or why there are none.
-#[derive(Clone, Copy)]
-pub enum Done {
-    Events(u32),
-    Fault(Reason),
-}
 
 pub fn present(e: u8, events: u32) -> bool
     requires { e < 32 }
@@ -87,13 +79,14 @@ pub fn reason_by(code: u64) -> Reason
     }
 }
 
-pub fn done_by(code: u64) -> Done
-    ensures { ((vars : List ℤ) (m : Moment) → world_after result vars m ≡ world_by code vars m) × ((w : Reason) → result ≡ Done.Fault w → 4_294_967_295 < code) }
+// The events afterwards, or why there are none.
+pub fn done_by(code: u64) -> Result<u32, Reason>
+    ensures { ((vars : List ℤ) (m : Moment) → world_after result vars m ≡ world_by code vars m) × ((w : Reason) → result ≡ Err w → 4_294_967_295 < code) }
 {
     if 4294967295 < code {
-        Done::Fault(reason_by(code))
+        Err(reason_by(code))
     } else {
-        Done::Events(code as u32)
+        Ok(code as u32)
     }
 }
 
@@ -104,8 +97,8 @@ fn assign_code(s: &[u8], values: Values, v: u8, n: u16, vars: &mut Variables, ev
         × IsCode result × (4_294_967_295 < result → vars.new ≡ vars.old) }
 {
     match number_at(s, values, vars, n) {
-        Number::Fault(w) => fault_code(w),
-        Number::Value(z) => {
+        Err(w) => fault_code(w),
+        Ok(z) => {
             if is_within(s, values, v, z) {
                 let i = v as usize;
                 vars[i] = z as i16;
@@ -154,8 +147,8 @@ pub fn do_guarded(
         × IsCode result × (4_294_967_295 < result → vars.new ≡ vars.old) }
 {
     match plus_one_holds(s, values, vars, guard) {
-        Truth::Fault(w) => fault_code(w),
-        Truth::Value(holding) => {
+        Err(w) => fault_code(w),
+        Ok(holding) => {
             if holding {
                 do_deed(s, values, code, x, n, vars, events)
             } else {

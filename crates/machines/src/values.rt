@@ -10,7 +10,7 @@ ghost use Rattle.model.specs.Runs.{guard_holds};
 ghost use Rattle.model.specs.ChartSet.{read_guard, read_plus_one};
 ghost use Rattle.machines.specs.Files.{variable_in, node_part, nodes_in, HasValues};
 
-use expressions::outcomes::{Number, Truth};
+use expressions::outcomes::Reason;
 use expressions::values::{number_of, truth_of};
 use records::i16_at;
 use records::sizes::{VARIABLES, Variables};
@@ -88,14 +88,14 @@ pub fn node_records(s: &[u8], values: Values) -> &[u8]
 }
 
 // Node n, as a number and as a truth.
-pub fn number_at(s: &[u8], values: Values, vars: &Variables, n: u16) -> Number
+pub fn number_at(s: &[u8], values: Values, vars: &Variables, n: u16) -> Result<i32, Reason>
     requires { HasValues s.now values }
     ensures { number_of result ≡ number (node_of (nodes_in s.now values)) vars.now n }
 {
     number_of(node_records(s, values), vars, n)
 }
 
-pub fn truth_at(s: &[u8], values: Values, vars: &Variables, n: u16) -> Truth
+pub fn truth_at(s: &[u8], values: Values, vars: &Variables, n: u16) -> Result<bool, Reason>
     requires { HasValues s.now values }
     ensures { truth_of result ≡ truth (node_of (nodes_in s.now values)) vars.now n }
 {
@@ -103,24 +103,24 @@ pub fn truth_at(s: &[u8], values: Values, vars: &Variables, n: u16) -> Truth
 }
 
 // A guard that is none holds.
-pub fn guard_holds(s: &[u8], values: Values, vars: &Variables, guard: u16) -> Truth
+pub fn guard_holds(s: &[u8], values: Values, vars: &Variables, guard: u16) -> Result<bool, Reason>
     requires { HasValues s.now values }
     ensures { truth_of result ≡ guard_holds (nodes_in s.now values) vars.now (read_guard guard) }
 {
     if guard == 65535 {
-        Truth::Value(true)
+        Ok(true)
     } else {
         truth_at(s, values, vars, guard)
     }
 }
 
 // The guard of an action or update, as its node plus one, or 0 for none.
-pub fn plus_one_holds(s: &[u8], values: Values, vars: &Variables, guard: u16) -> Truth
+pub fn plus_one_holds(s: &[u8], values: Values, vars: &Variables, guard: u16) -> Result<bool, Reason>
     requires { HasValues s.now values }
     ensures { truth_of result ≡ guard_holds (nodes_in s.now values) vars.now (read_plus_one guard) }
 {
     if guard == 0 {
-        Truth::Value(true)
+        Ok(true)
     } else {
         truth_at(s, values, vars, guard - 1)
     }
