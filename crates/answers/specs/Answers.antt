@@ -1,15 +1,14 @@
 -- What turns, cycles and long runs answer, as the model's outcomes, and the numbers of the answers. Assumes nothing: these are definitions.
-use Rattle.std.specs.Prelude.{ℕ, ℤ, pos, neg_ℤ}
+use Rattle.std.specs.Prelude.{ℕ, ℤ, pos, neg_ℤ, Result}
 use Rattle.records.specs.Refusal as R
 use Rattle.records.specs.Refusal.{Out, val, fault}
-use Rattle.records.specs.RefusalOf.{refusal_of}
+use Rattle.records.specs.RefusalOf.{refusal_of, out_of}
 use Rattle.model.specs.Runs as M
 use Rattle.answers.specs.declared.Reason.{Reason}
 use Rattle.answers.specs.declared.Reason.TheVariants.{Range, Divisor, Bounds, NoneOpen, ManyOpen}
 use Rattle.answers.specs.declared.Answer.{Answer}
 use Rattle.answers.specs.declared.Answer.TheVariants.{Taken, Idle, Time, Fault, Refused}
-use Rattle.answers.specs.declared.Ending as declared-ending
-use Rattle.answers.specs.declared.Cycles as declared-cycles
+use Rattle.answers.specs.declared.Stop as declared-stop
 
 abbrev pub reason_of : Reason → R.Refusal
 reason_of Range = R.out_of_range
@@ -26,16 +25,17 @@ answer_of Time = val M.time
 answer_of (Fault w) = fault (reason_of w)
 answer_of (Refused w) = fault (refusal_of w)
 
--- "a cycle's is only that it is done"
-abbrev pub ending_of : declared-ending.Ending → Out (Unit {0})
-ending_of declared-ending.TheVariants.Done = val tt
-ending_of (declared-ending.TheVariants.Fault w) = fault (reason_of w)
-ending_of (declared-ending.TheVariants.Refused w) = fault (refusal_of w)
+-- why another call stopped
+abbrev pub stop_of : declared-stop.Stop → R.Refusal
+stop_of (declared-stop.TheVariants.Fault w) = reason_of w
+stop_of (declared-stop.TheVariants.Refused w) = refusal_of w
 
-abbrev pub cycles_of : declared-cycles.Cycles → Out ℕ
-cycles_of (declared-cycles.TheVariants.Done n) = val n
-cycles_of (declared-cycles.TheVariants.Fault w) = fault (reason_of w)
-cycles_of (declared-cycles.TheVariants.Refused w) = fault (refusal_of w)
+-- "a cycle's is only that it is done"
+abbrev pub ending_of : Result (Unit {0}) declared-stop.Stop → Out (Unit {0})
+ending_of r = out_of stop_of r
+
+abbrev pub cycles_of : Result ℕ declared-stop.Stop → Out ℕ
+cycles_of r = out_of stop_of r
 
 -- ---- as callers in other languages get them
 

@@ -5,12 +5,13 @@ ghost use Rattle.std.specs.Prelude.{◌≡◌, ℕ, ◌<◌, ◌^◌, pos, neg_�
 ghost use Rattle.records.specs.Refusal.{refusal_number, val};
 ghost use Rattle.records.specs.RefusalOf.{refusal_of};
 ghost use Rattle.model.specs.Calls.{numbered, answer_code};
-ghost use Rattle.answers.specs.Answers.{reason_of, refused_code, answer_of, ending_of, cycles_of, done_code, count_code};
+ghost use Rattle.answers.specs.Answers.{reason_of, refused_code, answer_of, stop_of, ending_of, cycles_of, done_code, count_code};
+ghost use Rattle.answers.specs.declared.Stop.TheVariants.{Fault, Refused};
 
 use records::refusals::{Refusal, refusal_number};
 
 // Why a turn faults: a number out of 32 bits, a zero divisor, a number out of its variable's bounds; of automata also no edge open, two or more open.
-#[derive(Clone, Copy)]
+#[derive(Clone, Copy, PartialEq, Eq)]
 pub enum Reason {
     Range,
     Divisor,
@@ -29,20 +30,27 @@ pub enum Answer {
     Refused(Refusal),
 }
 
-// That of a call that is done or not.
-#[derive(Clone, Copy)]
-pub enum Ending {
-    Done,
+// Why a call that is done or not, or that counts, ended with neither.
+#[derive(Clone, Copy, PartialEq, Eq)]
+pub enum Stop {
     Fault(Reason),
     Refused(Refusal),
 }
 
-// How many cycles were done, or why not even the first was.
-#[derive(Clone, Copy)]
-pub enum Cycles {
-    Done(u32),
-    Fault(Reason),
-    Refused(Refusal),
+impl From<Reason> for Stop {
+    ghost from_gives = { λ w e. e ≡ Fault w };
+
+    fn from(w: Reason) -> Stop {
+        Stop::Fault(w)
+    }
+}
+
+impl From<Refusal> for Stop {
+    ghost from_gives = { λ w e. e ≡ Refused w };
+
+    fn from(w: Refusal) -> Stop {
+        Stop::Refused(w)
+    }
 }
 
 // Its number in the refusal table.
@@ -90,23 +98,30 @@ pub fn answer_code(answer: Answer) -> i32
     }
 }
 
-pub fn ending_code(answer: Ending) -> i32
-    ensures { result ≡ numbered done_code (ending_of answer) }
+fn stop_code(why: Stop) -> i32
+    ensures { result ≡ refused_code (stop_of why) }
 {
-    match answer {
-        Ending::Done => 0,
-        Ending::Fault(w) => fault_code(w),
-        Ending::Refused(w) => refused_code(w),
+    match why {
+        Stop::Fault(w) => fault_code(w),
+        Stop::Refused(w) => refused_code(w),
     }
 }
 
-pub fn count_code(answer: Cycles) -> i32
+pub fn ending_code(answer: Result<(), Stop>) -> i32
+    ensures { result ≡ numbered done_code (ending_of answer) }
+{
+    match answer {
+        Ok(()) => 0,
+        Err(why) => stop_code(why),
+    }
+}
+
+pub fn count_code(answer: Result<u32, Stop>) -> i32
     requires { (n : ℕ) → cycles_of answer ≡ val n → n < 2 ^ 31 }
     ensures { result ≡ numbered count_code (cycles_of answer) }
 {
     match answer {
-        Cycles::Done(n) => n as i32,
-        Cycles::Fault(w) => fault_code(w),
-        Cycles::Refused(w) => refused_code(w),
+        Ok(n) => n as i32,
+        Err(why) => stop_code(why),
     }
 }

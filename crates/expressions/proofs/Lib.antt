@@ -6,6 +6,5 @@ pub mod Fields
 pub mod Arms
 pub mod WholeRecords
 pub mod Uses
-pub mod Verdicts
 pub mod ExampleNodes
 mod ValueExamples

@@ -1,13 +1,12 @@
 -- The code's answers, read as the outcomes and the nodes of document 01. Assumes nothing: these are definitions.
-use Rattle.std.specs.Prelude.{Bool, List, [], ◌∷◌, ℕ, ℤ}
-use Rattle.records.specs.Refusal.{Refusal, out_of_range, zero_divisor, Out, val, fault}
+use Rattle.std.specs.Prelude.{Bool, List, [], ◌∷◌, ℕ, ℤ, Result}
+use Rattle.records.specs.Refusal.{Refusal, out_of_range, zero_divisor, Out}
+use Rattle.records.specs.RefusalOf.{out_of}
 use Rattle.expressions.specs.Nodes.{Node, constant, variable, arithmetic, choice, comparison, negation, both, either, unknown}
 use Rattle.arithmetic.specs.Operators.{Arithmetic, sum, difference, product, quotient, remainder, Comparison, equal, less, at_most}
 use Rattle.expressions.specs.Sorts.{Sort, a_number, a_truth}
 use Rattle.expressions.specs.declared.outcomes.Reason.{Reason}
 use Rattle.expressions.specs.declared.outcomes.Reason.TheVariants.{Range, Divisor}
-use Rattle.expressions.specs.declared.outcomes.Number as declared-number
-use Rattle.expressions.specs.declared.outcomes.Truth as declared-truth
 use Rattle.expressions.specs.declared.nodes.Operator.{Operator}
 use Rattle.expressions.specs.declared.nodes.Operator.TheVariants.{Sum, Difference, Product, Quotient, Remainder}
 use Rattle.expressions.specs.declared.nodes.Relation.{Relation}
@@ -21,13 +20,11 @@ abbrev pub value_reason_of : Reason → Refusal
 value_reason_of Range = out_of_range
 value_reason_of Divisor = zero_divisor
 
-abbrev pub number_of : declared-number.Number → Out ℤ
-number_of (declared-number.TheVariants.Value z) = val z
-number_of (declared-number.TheVariants.Fault w) = fault (value_reason_of w)
+abbrev pub number_of : Result ℤ Reason → Out ℤ
+number_of r = out_of value_reason_of r
 
-abbrev pub truth_of : declared-truth.Truth → Out Bool
-truth_of (declared-truth.TheVariants.Value t) = val t
-truth_of (declared-truth.TheVariants.Fault w) = fault (value_reason_of w)
+abbrev pub truth_of : Result Bool Reason → Out Bool
+truth_of r = out_of value_reason_of r
 
 abbrev pub operator_of : Operator → Arithmetic
 operator_of Sum = sum

@@ -2,10 +2,9 @@
 pub mod Nodes
 pub mod Values
 pub mod Sorts
--- What the code says: its enums and numbers as the paper's outcomes, and how it reads and counts.
+-- What the code says: its results and numbers as the paper's outcomes, and how it reads and counts.
 pub mod Answers
 pub mod OperandValues
 pub mod Coded
 pub mod WholeRecords
-pub mod Verdicts
 pub mod Uses

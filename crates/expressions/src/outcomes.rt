@@ -1,19 +1,6 @@
-// What a node comes to: a value, or the reason why there is none.
-// Why there is no value.
-#[derive(Clone, Copy)]
+// Why a node comes to no value.
+#[derive(Clone, Copy, PartialEq, Eq)]
 pub enum Reason {
     Range,
     Divisor,
-}
-
-#[derive(Clone, Copy)]
-pub enum Number {
-    Value(i32),
-    Fault(Reason),
-}
-
-#[derive(Clone, Copy)]
-pub enum Truth {
-    Value(bool),
-    Fault(Reason),
 }

@@ -3,7 +3,6 @@ ghost use Rattle.std.specs.Prelude.{◌≡◌, map, ◌+◌, min, ltb, ℤ};
 ghost use Rattle.prelude.specs.Lists.{all};
 ghost use Rattle.expressions.specs.Nodes.{node_at};
 ghost use Rattle.expressions.specs.Sorts.{sort_of, is_number, is_truth, same_sort, operands, variables_of, nodes_named, operand_fits, operands_fit};
-ghost use Rattle.expressions.specs.Verdicts.{verdict, verdict_of, says_named, says_fit};
 ghost use Rattle.expressions.specs.Uses.{all_operands, add_use, add_uses};
 ghost use Rattle.expressions.specs.Answers.{sort_for, operands_for};
 ghost use Rattle.expressions.specs.Coded.{coded_node};
@@ -152,46 +151,31 @@ fn count_uses(uses: &mut [u8], o: Operands)
     }
 }
 
-// Two answers as one number, which stays in a register.
-fn verdict(named: bool, fit: bool) -> u8
-    ensures { result ≡ verdict named fit }
-{
-    if named {
-        if fit { 3 } else { 1 }
-    } else {
-        if fit { 2 } else { 0 }
-    }
+// Whether each operand is a node and each variable one of the file, and whether each operand is lower than its node and of the right sort.
+#[derive(Clone, Copy)]
+pub struct NodeTests {
+    pub named: bool,
+    pub fit: bool,
 }
 
-pub fn says_named(found: u8) -> bool
-    ensures { result ≡ says_named found }
+// One pass over `size` nodes, each read once: both tests, with the uses of nodes as operands.
+pub fn test_nodes(nodes: &[u8], size: u16, variables: u16, uses: &mut [u8]) -> NodeTests
+    ensures named { result.named ≡ nodes_named (node_at nodes.now) size variables }
+    ensures fit { result.fit ≡ operands_fit (node_at nodes.now) size }
+    ensures uses { uses.new ≡ add_uses uses.old (all_operands (node_at nodes.now) size) }
 {
-    (found == 1) | (found == 3)
-}
-
-pub fn says_fit(found: u8) -> bool
-    ensures { result ≡ says_fit found }
-{
-    2 <= found
-}
-
-// One pass over `size` nodes, each read once: whether each operand is one of them and each variable one of `variables`, whether each operand is
-// lower than its node and of the right sort, and the uses of nodes as operands.
-pub fn test_nodes(nodes: &[u8], size: u16, variables: u16, uses: &mut [u8]) -> u8
-    ensures { (result ≡ verdict_of (node_at nodes.now) size variables) × (uses.new ≡ add_uses uses.old (all_operands (node_at nodes.now) size)) }
-{
-    let mut named = true;
-    let mut fit = true;
-    let mut n = 0;
-    while n < size {
+    let mut tests = NodeTests {
+        named: true,
+        fit: true,
+    };
+    for n in 0..size {
         let f = fields_at(nodes, n);
         let o = operands_of(f);
-        named = named & (all_below(o, size) & variable_below(f, variables));
-        fit = fit & all_fit(nodes, n, o);
+        tests.named = tests.named & (all_below(o, size) & variable_below(f, variables));
+        tests.fit = tests.fit & all_fit(nodes, n, o);
         count_uses(uses, o);
-        n += 1;
     }
-    verdict(named, fit)
+    tests
 }
 
 // Its parts, where one alone is asked for.
@@ -199,14 +183,14 @@ pub fn nodes_named(nodes: &[u8], size: u16, variables: u16) -> bool
     ensures { result ≡ nodes_named (node_at nodes.now) size variables }
 {
     let mut uses = [0u8; 1];
-    says_named(test_nodes(nodes, size, variables, &mut uses))
+    test_nodes(nodes, size, variables, &mut uses).named
 }
 
 pub fn operands_fit(nodes: &[u8], size: u16) -> bool
     ensures { result ≡ operands_fit (node_at nodes.now) size }
 {
     let mut uses = [0u8; 1];
-    says_fit(test_nodes(nodes, size, 0, &mut uses))
+    test_nodes(nodes, size, 0, &mut uses).fit
 }
 
 pub fn count_operands(nodes: &[u8], size: u16, uses: &mut [u8])

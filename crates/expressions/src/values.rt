@@ -13,7 +13,7 @@ ghost use Rattle.arithmetic.specs.Outcomes.{fault_of, StandsFor, TruthStandsFor}
 ghost use Rattle.arithmetic.specs.Operators.{arithmetic_of, comparison_of};
 
 use super::nodes::fields_at;
-use super::outcomes::{Number, Reason, Truth};
+use super::outcomes::Reason;
 use arithmetic::{HIGHEST, OUT_OF_RANGE, ZERO_DIVISOR, compare, compute, wide};
 use records::sizes::Variables;
 use records::{i32_at, i32_within, u16_within};
@@ -338,24 +338,24 @@ fn reason(range: bool) -> Reason
     }
 }
 
-pub fn number_of(nodes: &[u8], vars: &Variables, n: u16) -> Number
+pub fn number_of(nodes: &[u8], vars: &Variables, n: u16) -> Result<i32, Reason>
     ensures { number_of result ≡ number (node_at nodes.now) vars.now n }
 {
     let z = number_outcome(nodes, vars, n);
     if HIGHEST < z {
-        Number::Fault(reason(z <= OUT_OF_RANGE))
+        Err(reason(z <= OUT_OF_RANGE))
     } else {
-        Number::Value(z as i32)
+        Ok(z as i32)
     }
 }
 
-pub fn truth_of(nodes: &[u8], vars: &Variables, n: u16) -> Truth
+pub fn truth_of(nodes: &[u8], vars: &Variables, n: u16) -> Result<bool, Reason>
     ensures { truth_of result ≡ truth (node_at nodes.now) vars.now n }
 {
     let t = truth_outcome(nodes, vars, n);
     match t {
-        0 => Truth::Value(false),
-        1 => Truth::Value(true),
-        _ => Truth::Fault(reason(t == 2)),
+        0 => Ok(false),
+        1 => Ok(true),
+        _ => Err(reason(t == 2)),
     }
 }

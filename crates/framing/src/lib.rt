@@ -1,32 +1,17 @@
 // The framing of files of 16-byte records: refusals 1 to 3.
 #![tactic(auto)]
 
-ghost use Rattle.std.specs.Prelude.{◌≡◌, map, ◌+◌, ◌-◌, ◌*◌, ◌/◌, ◌≤◌, ◌<◌, ◌^◌, length, take, replicate};
+ghost use Rattle.std.specs.Prelude.{◌≡◌, map, ◌+◌, ◌-◌, ◌*◌, ◌/◌, ◌≤◌, ◌<◌, ◌^◌, length, take};
 ghost use Rattle.prelude.specs.Lists.{upto};
 ghost use Rattle.framing.specs.Frame.{IsFrame, IsRun, IsTally, exceeds, sum_to};
 
-// What refusals 1 to 3 come to.
-#[derive(Clone, Copy)]
-pub enum Framing {
-    Framed,
-    OddLength,
-    UnorderedKinds,
-    WrongAmounts,
-}
+use records::refusals::Refusal;
 
-// Of the nine kinds from a format's first on: how many records, and the number of the first record. All 0 where refused.
+// Of the nine kinds from a format's first on: how many records, and the number of the first record.
 #[derive(Clone, Copy)]
 pub struct Frame {
-    pub answer: Framing,
     pub counts: [usize; 9],
     pub firsts: [usize; 9],
-}
-
-// What one pass over the kinds finds. The counts are the file's where it is not unordered.
-#[derive(Clone, Copy)]
-struct Tally {
-    unordered: bool,
-    counts: [usize; 9],
 }
 
 // A format has nine kinds at most.
@@ -41,33 +26,29 @@ fn run_end(s: &[u8], start: usize, kind: usize) -> usize
     requires { start ≤ length s.now / 16 }
     ensures { IsRun s.now start kind result }
 {
-    let mut i = start;
-    while i < s.len() / 16 {
+    for i in start..s.len() / 16 {
         if (s[16 * i] as usize) != kind {
             return i;
         }
-        i += 1;
     }
-    i
+    s.len() / 16
 }
 
-// One pass over the records: a run of each kind in turn. What is left is of no kind, or of one that had its run.
-fn tally_of(s: &[u8], first: u8, most: &[u16]) -> Tally
+// How many records of each kind, by one pass: a run of each kind in turn. None where records are left: those are of no kind, or of one that had its run.
+fn tally_of(s: &[u8], first: u8, most: &[u16]) -> Option<[usize; 9]>
     ensures { IsTally first most.now s.now result }
 {
-    let kinds = kinds_of(most);
     let mut counts = [0usize; 9];
     let mut i: usize = 0;
-    let mut k: usize = 0;
-    while k < kinds {
+    for k in 0..kinds_of(most) {
         let end = run_end(s, i, (first as usize) + k);
         counts[k] = end - i;
         i = end;
-        k += 1;
     }
-    Tally {
-        unordered: i < s.len() / 16,
-        counts,
+    if i < s.len() / 16 {
+        None
+    } else {
+        Some(counts)
     }
 }
 
@@ -75,16 +56,13 @@ fn tally_of(s: &[u8], first: u8, most: &[u16]) -> Tally
 fn wrong_amounts(counts: [usize; 9], most: &[u16]) -> bool
     ensures { result ≡ exceeds counts most.now }
 {
-    let kinds = kinds_of(most);
     if counts[0] == 0 {
         return true;
     }
-    let mut k: usize = 0;
-    while k < kinds {
+    for k in 0..kinds_of(most) {
         if (most[k] as usize) < counts[k] {
             return true;
         }
-        k += 1;
     }
     false
 }
@@ -96,44 +74,24 @@ fn sums(counts: [usize; 9]) -> [usize; 9]
 {
     let mut firsts = [0usize; 9];
     let mut sum: usize = 0;
-    let mut k: usize = 0;
-    while k < 9 {
+    for k in 0..9 {
         firsts[k] = sum;
         sum += counts[k];
-        k += 1;
     }
     firsts
 }
 
-fn refused(answer: Framing) -> Frame
-    ensures { (result.answer ≡ answer) × (result.counts ≡ replicate 9 0) × (result.firsts ≡ replicate 9 0) }
-{
-    Frame {
-        answer,
-        counts: [0usize; 9],
-        firsts: [0usize; 9],
-    }
-}
-
 // The framing of a file: its kinds are those from `first` on, with the limits `most`.
-pub fn frame_of(s: &[u8], first: u8, most: &[u16]) -> Frame
+pub fn frame_of(s: &[u8], first: u8, most: &[u16]) -> Result<Frame, Refusal>
     ensures { IsFrame first most.now s.now result }
 {
     if s.len() % 16 != 0 {
-        return refused(Framing::OddLength);
+        return Err(Refusal::OddLength);
     }
-    let t = tally_of(s, first, most);
-    if t.unordered {
-        return refused(Framing::UnorderedKinds);
-    }
-    let counts = t.counts;
+    let counts = tally_of(s, first, most).ok_or(Refusal::UnorderedKinds)?;
     if wrong_amounts(counts, most) {
-        return refused(Framing::WrongAmounts);
+        return Err(Refusal::WrongAmounts);
     }
     let firsts = sums(counts);
-    Frame {
-        answer: Framing::Framed,
-        counts,
-        firsts,
-    }
+    Ok(Frame { counts, firsts })
 }
