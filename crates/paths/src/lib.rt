@@ -27,7 +27,7 @@ const IDLE_EDGES: usize = 2 * STATES;
 #[derive(Clone, Copy)]
 pub struct Idling {
     pub states: [u16; IDLE_EDGES],
-    pub edges: u16,
+    pub count: u16,
 }
 
 // An edge of the twin: one of a transition, or an idle edge of a state.
@@ -38,27 +38,19 @@ pub struct Edge {
     pub target: u16,
 }
 
-// Of each edge its automaton and its ends, made once for a path.
+// The edges of the twin, made once for a path, and how many there are.
 #[derive(Clone, Copy)]
 pub struct EdgeTable {
-    pub edges: u16,
-    pub automata: [u8; EDGES],
-    pub sources: [u16; EDGES],
-    pub targets: [u16; EDGES],
+    pub edges: [Edge; EDGES],
+    pub count: u16,
 }
 
-// How many rows a path has, if its steps fit.
+// Where the steps so far have led: the automata's locations, and of the next step its position in its cycle.
 #[derive(Clone, Copy)]
-pub enum Count {
-    Rows(usize),
-    Broken,
-}
-
-// How many rows were written, or why none were.
-#[derive(Clone, Copy)]
-pub enum Led {
-    Rows(usize),
-    Refused(Refusal),
+pub struct Walk {
+    pub locations: Places,
+    pub position: u32,
+    pub cycles: u32,
 }
 
 // A state that has waiting actions idles by two edges, the due one first; any other by one.
@@ -73,28 +65,26 @@ fn idle_edges(s: &[u8], shape: Shape, first: &ActionHeads, state: u16) -> u16
 // Each state is put twice: where it idles by one edge, the next state takes the second place.
 fn idling_of(s: &[u8], shape: Shape) -> Idling
     requires { Accepted s.now shape }
-    ensures { HasIdling s.now shape result.states result.edges }
+    ensures { HasIdling s.now shape result }
 {
     let mut first = [65535u16; ACTION_KEYS];
     let mut next = [65535u16; ACTIONS];
     fill_actions(s, shape, &mut first, &mut next);
     let mut states = [0u16; IDLE_EDGES];
-    let mut edges: u16 = 0;
-    let mut state: u16 = 0;
-    while state < shape.states {
-        let i = edges as usize;
+    let mut count: u16 = 0;
+    for state in 0..shape.states {
+        let i = count as usize;
         states[i] = state;
         states[i + 1] = state;
-        edges += idle_edges(s, shape, &first, state);
-        state += 1;
+        count += idle_edges(s, shape, &first, state);
     }
-    Idling { states, edges }
+    Idling { states, count }
 }
 
 // Edges are numbered as the transitions, then the idle edges by state.
-fn edge_of(s: &[u8], shape: Shape, idling: &[u16; IDLE_EDGES], idle: u16, e: u16) -> Edge
-    requires accepted { Accepted s.now shape × HasIdling s.now shape idling.now idle }
-    requires e_bound { e < shape.transitions + idle }
+fn edge_of(s: &[u8], shape: Shape, idling: &Idling, e: u16) -> Edge
+    requires accepted { Accepted s.now shape × HasIdling s.now shape idling.now }
+    requires e_bound { e < shape.transitions + idling.now.count }
     ensures { IsEdge s.now shape.charts e result }
 {
     if e < shape.transitions {
@@ -108,7 +98,7 @@ fn edge_of(s: &[u8], shape: Shape, idling: &[u16; IDLE_EDGES], idle: u16, e: u16
         }
     } else {
         let i = (e - shape.transitions) as usize;
-        let state = idling[i];
+        let state = idling.states[i];
         let automaton = home_of(s, shape, state);
         Edge {
             automaton,
@@ -120,93 +110,63 @@ fn edge_of(s: &[u8], shape: Shape, idling: &[u16; IDLE_EDGES], idle: u16, e: u16
 
 fn edges_of(s: &[u8], shape: Shape) -> EdgeTable
     requires { Accepted s.now shape }
-    ensures { HasEdges s.now shape result.edges result.automata result.sources result.targets }
+    ensures { HasEdges s.now shape result }
 {
     let idling = idling_of(s, shape);
-    let states = idling.states;
-    let idle = idling.edges;
-    let edges = shape.transitions + idle;
-    let mut automata = [0u8; EDGES];
-    let mut sources = [0u16; EDGES];
-    let mut targets = [0u16; EDGES];
-    let mut e: u16 = 0;
-    while e < edges {
-        let edge = edge_of(s, shape, &states, idle, e);
-        let i = e as usize;
-        automata[i] = edge.automaton;
-        sources[i] = edge.source;
-        targets[i] = edge.target;
-        e += 1;
+    let count = shape.transitions + idling.count;
+    let none = Edge {
+        automaton: 0,
+        source: 0,
+        target: 0,
+    };
+    let mut edges = [none; EDGES];
+    for e in 0..count {
+        edges[e as usize] = edge_of(s, shape, &idling, e);
     }
-    EdgeTable {
-        edges,
-        automata,
-        sources,
-        targets,
-    }
+    EdgeTable { edges, count }
 }
 
 // A path starts where a run does, at position 1 of cycle 0.
-fn start_locations(s: &[u8], shape: Shape) -> Places
+fn start_walk(s: &[u8], shape: Shape) -> Walk
     requires { Accepted s.now shape }
-    ensures { walk_in shape.charts result 1 0 ≡ walk_start (read_charts s.now) }
+    ensures { walk_in shape.charts result ≡ walk_start (read_charts s.now) }
 {
     let run = chart_runs::start(s, shape);
-    run.states
+    Walk {
+        locations: run.states,
+        position: 1,
+        cycles: 0,
+    }
 }
 
-fn edge_fits(
-    s: &[u8],
-    shape: Shape,
-    edges: u16,
-    automata: &[u8; EDGES],
-    sources: &[u16; EDGES],
-    targets: &[u16; EDGES],
-    e: u16,
-    locations: &Places,
-    position: u32,
-) -> bool
-    requires { Accepted s.now shape × HasEdges s.now shape edges automata.now sources.now targets.now }
-    ensures { (cycles : ℕ) → result ≡ edge_fits (read_charts s.now) e (walk_in shape.charts locations.now position cycles) }
+fn edge_fits(s: &[u8], shape: Shape, table: &EdgeTable, e: u16, walk: &Walk) -> bool
+    requires { Accepted s.now shape × HasEdges s.now shape table.now }
+    ensures { result ≡ edge_fits (read_charts s.now) e (walk_in shape.charts walk.now) }
 {
-    if edges <= e {
+    if table.count <= e {
         return false;
     }
-    let i = e as usize;
-    let automaton = automata[i];
-    let a = automaton as usize;
-    if (automaton as u32) + 1 == position {
-        sources[i] == locations[a]
+    let edge = table.edges[e as usize];
+    let a = edge.automaton as usize;
+    if (edge.automaton as u32) + 1 == walk.position {
+        edge.source == walk.locations[a]
     } else {
         false
     }
 }
 
 // 65535 is time.
-fn step_fits(
-    s: &[u8],
-    shape: Shape,
-    edges: u16,
-    automata: &[u8; EDGES],
-    sources: &[u16; EDGES],
-    targets: &[u16; EDGES],
-    e: u16,
-    locations: &Places,
-    position: u32,
-    cycles: u32,
-) -> bool
-    requires { Accepted s.now shape × HasEdges s.now shape edges automata.now sources.now targets.now }
-    ensures { result ≡ step_fits (read_charts s.now) e (walk_in shape.charts locations.now position cycles) }
+fn step_fits(s: &[u8], shape: Shape, table: &EdgeTable, e: u16, walk: &Walk) -> bool
+    requires { Accepted s.now shape × HasEdges s.now shape table.now }
+    ensures { result ≡ step_fits (read_charts s.now) e (walk_in shape.charts walk.now) }
 {
-    if MOST_CYCLES <= cycles {
+    if MOST_CYCLES <= walk.cycles {
         return false;
     }
     if e == 65535 {
-        position == (shape.charts as u32) + 1
+        walk.position == (shape.charts as u32) + 1
     } else {
-        edge_fits(
-            s, shape, edges, automata, sources, targets, e, locations, position,
-        )
+        edge_fits(s, shape, table, e, walk)
     }
 }
 
@@ -225,27 +185,19 @@ fn next_cycles(e: u16, cycles: u32) -> u32
 }
 
 // A step that fits leads an automaton to its edge's target; time moves none.
-fn follow_step(
-    s: &[u8],
-    shape: Shape,
-    edges: u16,
-    automata: &[u8; EDGES],
-    sources: &[u16; EDGES],
-    targets: &[u16; EDGES],
-    e: u16,
-    locations: &mut Places,
-    position: u32,
-    cycles: u32,
-)
-    requires accepted { Accepted s.now shape × HasEdges s.now shape edges automata.now sources.now targets.now }
-    requires cycles_value { step_fits (read_charts s.now) e (walk_in shape.charts locations.old position cycles) ≡ true }
-    ensures { walk_in shape.charts locations.new (next_position e position) (next_cycles e cycles) ≡ walkedOn (read_charts s.now) e (walk_in shape.charts locations.old position cycles) }
+fn follow_step(s: &[u8], shape: Shape, table: &EdgeTable, e: u16, walk: &mut Walk)
+    requires accepted { Accepted s.now shape × HasEdges s.now shape table.now }
+    requires fits { step_fits (read_charts s.now) e (walk_in shape.charts walk.old) ≡ true }
+    ensures { walk_in shape.charts walk.new ≡ walkedOn (read_charts s.now) e (walk_in shape.charts walk.old) }
 {
-    if e != 65535 {
-        let i = e as usize;
-        let a = automata[i] as usize;
-        locations[a] = targets[i];
+    if e == 65535 {
+        walk.position = 1;
+        walk.cycles += 1;
+        return;
     }
+    let edge = table.edges[e as usize];
+    walk.locations[edge.automaton as usize] = edge.target;
+    walk.position += 1;
 }
 
 // A transition's edge has a row; an idle edge and time have none.
@@ -255,49 +207,21 @@ fn rows_of_step(shape: Shape, e: u16) -> usize
     if e < shape.transitions { 1 } else { 0 }
 }
 
-// How many rows a path gives.
-fn count_rows(
-    s: &[u8],
-    shape: Shape,
-    edges: u16,
-    automata: &[u8; EDGES],
-    sources: &[u16; EDGES],
-    targets: &[u16; EDGES],
-    path: &[u16],
-) -> Count
-    requires { Accepted s.now shape × HasEdges s.now shape edges automata.now sources.now targets.now }
+// How many rows a path gives, if its steps fit.
+fn count_rows(s: &[u8], shape: Shape, table: &EdgeTable, path: &[u16]) -> Option<usize>
+    requires { Accepted s.now shape × HasEdges s.now shape table.now }
     ensures { count_of result ≡ counted (led_back (read_charts s.now) path.now (walk_start (read_charts s.now))) }
 {
-    let mut locations = start_locations(s, shape);
-    let mut position: u32 = 1;
-    let mut cycles: u32 = 0;
+    let mut walk = start_walk(s, shape);
     let mut rows: usize = 0;
-    let mut i: usize = 0;
-    while i < path.len() {
-        let e = path[i];
-        if !step_fits(
-            s, shape, edges, automata, sources, targets, e, &locations, position, cycles,
-        ) {
-            return Count::Broken;
+    for &e in path {
+        if !step_fits(s, shape, table, e, &walk) {
+            return None;
         }
         rows += rows_of_step(shape, e);
-        follow_step(
-            s,
-            shape,
-            edges,
-            automata,
-            sources,
-            targets,
-            e,
-            &mut locations,
-            position,
-            cycles,
-        );
-        position = next_position(e, position);
-        cycles = next_cycles(e, cycles);
-        i += 1;
+        follow_step(s, shape, table, e, &mut walk);
     }
-    Count::Rows(rows)
+    Some(rows)
 }
 
 // Row k: cycle, chart, transition.
@@ -330,35 +254,24 @@ fn put_rows(s: &[u8], shape: Shape, path: &[u16], rows: &mut [u32])
     let mut position: u32 = 1;
     let mut cycles: u32 = 0;
     let mut k: usize = 0;
-    let mut i: usize = 0;
-    while i < path.len() {
-        let e = path[i];
+    for &e in path {
         put_step(shape, e, position, cycles, rows, k);
         k += rows_of_step(shape, e);
         position = next_position(e, position);
         cycles = next_cycles(e, cycles);
-        i += 1;
     }
 }
 
-// A path of an accepted set: nothing is written unless all its steps fit and its rows have room.
-pub fn path_back(s: &[u8], shape: Shape, path: &[u16], rows: &mut [u32]) -> Led
+// How many rows a path of an accepted set has: nothing is written unless all its steps fit and its rows have room.
+pub fn path_back(s: &[u8], shape: Shape, path: &[u16], rows: &mut [u32]) -> Result<usize, Refusal>
     requires { Accepted s.now shape }
     ensures { led_of result rows.new ≡ led (read_charts s.now) path.now rows.old }
 {
     let table = edges_of(s, shape);
-    let edges = table.edges;
-    let automata = table.automata;
-    let sources = table.sources;
-    let targets = table.targets;
-    match count_rows(s, shape, edges, &automata, &sources, &targets, path) {
-        Count::Broken => Led::Refused(Refusal::BrokenPath),
-        Count::Rows(n) => {
-            if rows.len() / 3 < n {
-                return Led::Refused(Refusal::ShortRows);
-            }
-            put_rows(s, shape, path, rows);
-            Led::Rows(n)
-        }
+    let n = count_rows(s, shape, &table, path).ok_or(Refusal::BrokenPath)?;
+    if rows.len() / 3 < n {
+        return Err(Refusal::ShortRows);
     }
+    put_rows(s, shape, path, rows);
+    Ok(n)
 }

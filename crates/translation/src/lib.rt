@@ -27,13 +27,6 @@ use twin_records::clocks::{fill_clocks, fill_waiting, put_clocks};
 use twin_records::edges::put_edges;
 use twin_records::sections::{put_homes, put_initials, put_nodes, put_variables};
 
-// The length of the twin's file, or why there is none.
-#[derive(Clone, Copy)]
-pub enum Translated {
-    Written(usize),
-    Refused(Refusal),
-}
-
 // Kinds 33 to 35.
 fn put_places(s: &[u8], shape: Shape, waiting: &[u16; STATES], out: &mut [u8], at: usize) -> usize
     requires { Accepted s.now shape × HasWaiting (read_charts s.now) waiting.now × (at < 2 ^ 50) }
@@ -118,13 +111,13 @@ fn has_room(s: &[u8], shape: Shape, room: usize) -> bool
     twin_length(s, shape) <= room
 }
 
-// An accepted set translated into a lent buffer: a buffer that is too short keeps its contents, and bytes beyond the result are kept.
-pub fn translate(s: &[u8], shape: Shape, out: &mut [u8]) -> Translated
+// An accepted set translated into a lent buffer, and how long its file is: a buffer that is too short keeps its contents, and bytes beyond the result are kept.
+pub fn translate(s: &[u8], shape: Shape, out: &mut [u8]) -> Result<usize, Refusal>
     requires { Accepted s.now shape }
     ensures { translated_of result out.new ≡ settled out.old (written (twin_bytes s.now) out.old) }
 {
     if !has_room(s, shape, out.len()) {
-        return Translated::Refused(Refusal::ShortBuffer);
+        return Err(Refusal::ShortBuffer);
     }
-    Translated::Written(put_twin(s, shape, out))
+    Ok(put_twin(s, shape, out))
 }
