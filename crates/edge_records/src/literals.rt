@@ -14,7 +14,7 @@ ghost use Rattle.twin_records.specs.Tables.{HasClocks, HasWaiting};
 ghost use Rattle.twin_records.specs.Texts.{record_text, literal_texts, literals_text, Puts};
 
 use chart_records::Shape;
-use chart_records::fields::{Guard, Trigger};
+use chart_records::fields::Trigger;
 use chart_steps::tables::slot_of;
 use chart_steps::transitions::source_of;
 use records::sizes::{Ends, Rows, STATES, TRANSITIONS};
@@ -22,13 +22,11 @@ use twin_records::clocks::count_of;
 use twin_records::fields::{guard_of, priority_of, trigger_of};
 use twin_records::writing::{literal_bytes, put_record};
 
-fn guard_number(guard: Guard) -> u16
+// 65535 is none.
+fn guard_number(guard: Option<u16>) -> u16
     ensures { bytes2 result ≡ write_guard (guard_for guard) }
 {
-    match guard {
-        Guard::Free => 65535,
-        Guard::Node(n) => n,
-    }
+    guard.unwrap_or(65535)
 }
 
 // The sign is 1 where transition t must hold, 2 where it must not.
@@ -90,11 +88,9 @@ fn put_negations(
     ensures { Puts out.old at (literal_texts edge (map (literal (read_charts s.now) false) (tried_before (read_charts s.now) state (count + 1)))) out.new result (2 ^ 20) }
 {
     let mut next = at;
-    let mut j: usize = 0;
-    while j < count {
+    for j in 0..count {
         let t = slot_of(s, shape, rows, state, j);
         next = put_negation(s, shape, clocks, out, next, edge, t);
-        j += 1;
     }
     next
 }
@@ -131,10 +127,8 @@ pub fn put_literals(
     ensures { Puts out.old at (gather (λ t. literals_text (read_charts s.now) (from_transition t)) (upto (transition_count (read_charts s.now)))) out.new result (2 ^ 40) }
 {
     let mut next = at;
-    let mut t: u16 = 0;
-    while t < shape.transitions {
+    for t in 0..shape.transitions {
         next = put_literals_of(s, shape, clocks, rows, out, next, t);
-        t += 1;
     }
     next
 }
@@ -208,13 +202,11 @@ pub fn put_idle_literals(
 {
     let mut next = at;
     let mut edge = shape.transitions;
-    let mut state: u16 = 0;
-    while state < shape.states {
+    for state in 0..shape.states {
         next = put_idle_literals_of(
             s, shape, clocks, waiting, rows, ends, out, next, edge, state,
         );
         edge += 1 + count_of(waiting[state as usize]);
-        state += 1;
     }
     next
 }

@@ -120,10 +120,8 @@ pub fn put_resets(
     ensures { Puts out.old at (gather (λ t. resets_text (read_charts s.now) (from_transition t)) (upto (transition_count (read_charts s.now)))) out.new result (2 ^ 40) }
 {
     let mut place = at;
-    let mut t: u16 = 0;
-    while t < shape.transitions {
+    for t in 0..shape.transitions {
         place = put_resets_of(s, shape, clocks, waiting, first, next, out, place, t);
-        t += 1;
     }
     place
 }

@@ -86,10 +86,8 @@ pub fn put_updates(
     ensures { Puts out.old at (gather (λ t. updates_text (read_charts s.now) (from_transition t)) (upto (transition_count (read_charts s.now)))) out.new result (2 ^ 40) }
 {
     let mut place = at;
-    let mut t: u16 = 0;
-    while t < shape.transitions {
+    for t in 0..shape.transitions {
         place = put_updates_of(s, shape, first, next, out, place, t);
-        t += 1;
     }
     place
 }
@@ -130,11 +128,9 @@ pub fn put_due_updates(
 {
     let mut place = at;
     let mut edge = shape.transitions;
-    let mut state: u16 = 0;
-    while state < shape.states {
+    for state in 0..shape.states {
         place = put_due_updates_of(s, shape, waiting, first, next, out, place, edge, state);
         edge += 1 + count_of(waiting[state as usize]);
-        state += 1;
     }
     place
 }

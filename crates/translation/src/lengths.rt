@@ -22,11 +22,9 @@ fn count_actions(s: &[u8], shape: Shape, counts: &mut ActionHeads)
     requires { Accepted s.now shape × (counts.old ≡ replicate action_keys 0) }
     ensures { CountsActions s.now shape counts.new }
 {
-    let mut a: u16 = 0;
-    while a < shape.actions {
+    for a in 0..shape.actions {
         let key = key_of(s, shape, a) as usize;
         counts[key] += 1;
-        a += 1;
     }
 }
 
@@ -42,14 +40,12 @@ fn count_tests(
     ensures { (result ≡ length (of_transitions (read_charts s.now) (literals_of (read_charts s.now))) + length (transition_clocks (read_charts s.now))) × CountsLeaving (read_charts s.now) leaving.new × CountsClocks (read_charts s.now) clocks.new × (length clocks.new ≡ most_states) }
 {
     let mut n: usize = 0;
-    let mut t: u16 = 0;
-    while t < shape.transitions {
+    for t in 0..shape.transitions {
         let source = source_of(s, shape, t) as usize;
         let own = clocks_in(trigger_of(s, shape, t));
         n += (leaving[source] + own + 1) as usize;
         leaving[source] += 1;
         clocks[source] += own;
-        t += 1;
     }
     n
 }
@@ -85,13 +81,11 @@ fn count_idle(
     ensures { (result ≡ idle_length (read_charts s.now)) × CountsResets (read_charts s.now) clocks.new }
 {
     let mut n: usize = 0;
-    let mut state: u16 = 0;
-    while state < shape.states {
+    for state in 0..shape.states {
         let i = state as usize;
         let waiting = actions[(WAITING_KEYS + state) as usize];
         n += idle_length(leaving[i], waiting) as usize;
         clocks[i] += any_of(waiting);
-        state += 1;
     }
     n
 }
@@ -102,14 +96,12 @@ fn count_effects(s: &[u8], shape: Shape, actions: &ActionHeads, resets: &[u16; S
     ensures { result ≡ length (of_transitions (read_charts s.now) (updates_of (read_charts s.now))) + length (of_transitions (read_charts s.now) (resets_of (read_charts s.now))) }
 {
     let mut n: usize = 0;
-    let mut t: u16 = 0;
-    while t < shape.transitions {
+    for t in 0..shape.transitions {
         let source = source_of(s, shape, t) as usize;
         let target = target_of(s, shape, t) as usize;
         let leaving = EXIT_PLACES + source;
         let crossing = CROSSING_PLACES + (t as usize);
         n += (actions[leaving] + actions[crossing] + actions[target] + resets[target]) as usize;
-        t += 1;
     }
     n
 }

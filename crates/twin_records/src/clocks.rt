@@ -38,12 +38,10 @@ pub fn fill_clocks(s: &[u8], shape: Shape, clocks: &mut [u16; TRANSITIONS]) -> u
     ensures { (result ≡ length (transition_clocks (read_charts s.now))) × HasClocks (read_charts s.now) clocks.new }
 {
     let mut count: u16 = 0;
-    let mut t: u16 = 0;
-    while t < shape.transitions {
+    for t in 0..shape.transitions {
         let i = t as usize;
         clocks[i] = count;
         count += clocks_in(trigger_of(s, shape, t));
-        t += 1;
     }
     count
 }
@@ -74,13 +72,11 @@ pub fn fill_waiting(
     ensures { HasWaiting (read_charts s.now) waiting.new }
 {
     let mut count = clocks;
-    let mut state: u16 = 0;
-    while state < shape.states {
+    for state in 0..shape.states {
         let i = state as usize;
         let action = first[(WAITING_KEYS + state) as usize];
         waiting[i] = number_for(action, count);
         count += count_of(action);
-        state += 1;
     }
 }
 
@@ -101,10 +97,8 @@ fn put_transition_clocks(s: &[u8], shape: Shape, out: &mut [u8], at: usize) -> u
     ensures { Puts out.old at (section 37 (map write_clock (transition_clocks (read_charts s.now)))) out.new result (2 ^ 20) }
 {
     let mut next = at;
-    let mut t: u16 = 0;
-    while t < shape.transitions {
+    for t in 0..shape.transitions {
         next = put_clock(trigger_of(s, shape, t), out, next);
-        t += 1;
     }
     next
 }
@@ -139,10 +133,8 @@ fn put_waiting_clocks(
     ensures { Puts out.old at (section 37 (map write_clock (gather (waiting_clocks (read_charts s.now)) (upto (state_count (read_charts s.now)))))) out.new result (2 ^ 20) }
 {
     let mut next = at;
-    let mut state: u16 = 0;
-    while state < shape.states {
+    for state in 0..shape.states {
         next = put_waiting_clock(s, shape, first, out, next, state);
-        state += 1;
     }
     next
 }

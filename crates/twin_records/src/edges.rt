@@ -34,11 +34,9 @@ fn put_transition_edges(s: &[u8], shape: Shape, out: &mut [u8], at: usize) -> us
     ensures { Puts out.old at (gather (λ t. edge_text (read_charts s.now) (from_transition t)) (upto (transition_count (read_charts s.now)))) out.new result (2 ^ 20) }
 {
     let mut next = at;
-    let mut t: u16 = 0;
-    while t < shape.transitions {
+    for t in 0..shape.transitions {
         let bytes = transition_record(s, shape, t);
         next = put_record(out, next, bytes);
-        t += 1;
     }
     next
 }
@@ -74,10 +72,8 @@ fn put_idle_edges(
     ensures { Puts out.old at (gather (λ st. gather (edge_text (read_charts s.now)) (idle_origins (read_charts s.now) st)) (upto (state_count (read_charts s.now)))) out.new result (2 ^ 20) }
 {
     let mut next = at;
-    let mut state: u16 = 0;
-    while state < shape.states {
+    for state in 0..shape.states {
         next = put_idle_edges_of(s, shape, waiting, out, next, state);
-        state += 1;
     }
     next
 }

@@ -5,9 +5,7 @@ ghost use Rattle.chart_records.specs.Places.{trigger_by, transition_at, action_a
 ghost use Rattle.chart_records.specs.Shape.{IsShape};
 
 use chart_records::Shape;
-use chart_records::fields::{
-    Deed, Guard, Trigger, deed_by, first_node, first_transition, guard_by,
-};
+use chart_records::fields::{Deed, Trigger, deed_by, first_node, first_transition, guard_by};
 use records::{u16_within, u32_within};
 
 pub fn priority_of(s: &[u8], shape: Shape, t: u16) -> u8
@@ -37,7 +35,7 @@ pub fn trigger_of(s: &[u8], shape: Shape, t: u16) -> Trigger
     trigger_by(s[at + 6], s[at + 7], u32_within(s, at + 8))
 }
 
-pub fn guard_of(s: &[u8], shape: Shape, t: u16) -> Guard
+pub fn guard_of(s: &[u8], shape: Shape, t: u16) -> Option<u16>
     requires { IsShape s.now shape × (t < shape.transitions) }
     ensures { guard_for result ≡ (transition_at s.now shape t).guard }
 {

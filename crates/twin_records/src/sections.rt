@@ -19,11 +19,9 @@ pub fn put_initials(s: &[u8], shape: Shape, out: &mut [u8], at: usize) -> usize
     ensures { Puts out.old at (section 33 (map (λ i. 0 ∷ bytes2 i) (read_charts s.now).initial)) out.new result (2 ^ 40) }
 {
     let mut next = at;
-    let mut c: u16 = 0;
-    while c < shape.charts {
+    for c in 0..shape.charts {
         let bytes = initial_bytes(initial_of(s, c));
         next = put_record(out, next, bytes);
-        c += 1;
     }
     next
 }
@@ -33,11 +31,9 @@ pub fn put_homes(s: &[u8], shape: Shape, out: &mut [u8], at: usize) -> usize
     ensures { Puts out.old at (section 34 (map (λ h. h ∷ []) (read_charts s.now).homes)) out.new result (2 ^ 40) }
 {
     let mut next = at;
-    let mut state: u16 = 0;
-    while state < shape.states {
+    for state in 0..shape.states {
         let bytes = home_bytes(home_of(s, shape, state));
         next = put_record(out, next, bytes);
-        state += 1;
     }
     next
 }
@@ -72,11 +68,9 @@ pub fn put_variables(s: &[u8], shape: Shape, out: &mut [u8], at: usize) -> usize
     ensures { Puts out.old at (section 38 (map write_variable (read_charts s.now).variables)) out.new result (2 ^ 40) }
 {
     let mut next = at;
-    let mut v: u16 = 0;
-    while v < shape.variables {
+    for v in 0..shape.variables {
         let bytes = variable_bytes(s, shape, v);
         next = put_record(out, next, bytes);
-        v += 1;
     }
     next
 }
@@ -101,11 +95,9 @@ pub fn put_nodes(s: &[u8], shape: Shape, out: &mut [u8], at: usize) -> usize
     ensures { Puts out.old at (section 39 (map write_node (read_charts s.now).nodes)) out.new result (2 ^ 40) }
 {
     let mut next = at;
-    let mut n: u16 = 0;
-    while n < shape.nodes {
+    for n in 0..shape.nodes {
         let bytes = node_record(s, shape, n);
         next = put_record(out, next, bytes);
-        n += 1;
     }
     next
 }

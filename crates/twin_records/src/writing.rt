@@ -22,10 +22,8 @@ fn put_part(out: &mut [u8], at: usize, bytes: [u8; 16])
     ensures { out.new ≡ sets out.old at bytes }
 {
     let room = out.len() - at;
-    let mut k: usize = 0;
-    while k < room {
+    for k in 0..room {
         out[at + k] = bytes[k];
-        k += 1;
     }
 }
 
@@ -33,10 +31,8 @@ fn put_whole(out: &mut [u8], at: usize, bytes: [u8; 16])
     requires { at + 16 ≤ length out.old }
     ensures { out.new ≡ sets out.old at bytes }
 {
-    let mut k: usize = 0;
-    while k < 16 {
+    for k in 0..16 {
         out[at + k] = bytes[k];
-        k += 1;
     }
 }
 
