@@ -1,5 +1,5 @@
 // Cycles of automata: by turns, one call after the other; and in place, for many cycles.
-ghost use Rattle.std.specs.Prelude.{◌≡◌, ◌+◌, ◌-◌, length};
+ghost use Rattle.std.specs.Prelude.{◌≡◌, ◌+◌, ◌-◌, length, Err};
 ghost use Rattle.model.specs.Limits.{most_clocks};
 ghost use Rattle.model.specs.Outcome.{settled};
 ghost use Rattle.model.specs.Runs.{cycle as model-cycle};
@@ -15,17 +15,17 @@ ghost use Rattle.automata.specs.TurnOf.{called_of, Ready, progress_of, ClocksLef
 
 use super::runs::{Run, before_turn, grow};
 use super::turns::turn;
-use answers::{Answer, Ending, Reason};
+use answers::{Answer, Reason, Stop};
 use automata_records::Shape;
 use automata_steps::index::index_of;
-use automata_steps::steps::{Stepped, edge_step};
-use machines::checks::{Before, events_given};
+use automata_steps::steps::edge_step;
+use machines::checks::events_given;
 use records::sizes::{Clocks, NO_RECORD, Places, TABLE_KEYS, TABLE_RECORDS, TableHeads, Variables};
 
 // The answer of a call that is done or not, and the run after it.
 #[derive(Clone, Copy)]
 pub struct Called {
-    pub answer: Ending,
+    pub answer: Result<(), Stop>,
     pub run: Run,
 }
 
@@ -48,29 +48,25 @@ fn turns_of_cycle(
         let after = turned.run;
         let answer = turned.answer;
         match answer {
-            Answer::Taken(_) => {
-                present = after;
-                given = 0;
-            }
-            Answer::Idle => {
+            Answer::Taken(_) | Answer::Idle => {
                 present = after;
                 given = 0;
             }
             Answer::Time => {
                 return Called {
-                    answer: Ending::Done,
+                    answer: Ok(()),
                     run: after,
                 };
             }
             Answer::Fault(w) => {
                 return Called {
-                    answer: Ending::Fault(w),
+                    answer: Err(Stop::Fault(w)),
                     run,
                 };
             }
             Answer::Refused(w) => {
                 return Called {
-                    answer: Ending::Refused(w),
+                    answer: Err(Stop::Refused(w)),
                     run,
                 };
             }
@@ -103,14 +99,7 @@ pub fn cycle_by_turns(s: &[u8], shape: Shape, run: Run, events: u32) -> Called
     }
 }
 
-// What turns in place come to: all were taken, or why one was not.
-#[derive(Clone, Copy)]
-pub enum Progress {
-    Done,
-    Fault(Reason),
-}
-
-// The automata's turns of a cycle, in place, from the present position on.
+// The automata's turns of a cycle, in place, from the present position on: all were taken, or why one was not.
 fn automata_turns(
     s: &[u8],
     shape: Shape,
@@ -122,26 +111,20 @@ fn automata_turns(
     events: u32,
     position: u32,
     cycles: u32,
-) -> Progress
+) -> Result<(), Reason>
     requires prepared { Prepared s.now shape first.now next.now }
     requires ready { Ready shape (run_in locations.old clocks.old vars.old events (moment position cycles)) }
     ensures cycles_after { progress_of (machine (read_automata s.now)) result (run_in locations.new clocks.new vars.new 0 (moment (shape.automata + 1) cycles)) ≡ after (machine (read_automata s.now)) (shape.automata + 2 - position) (run_in locations.old clocks.old vars.old events (moment position cycles)) }
     ensures clocks_left { ClocksLeft shape.clocks clocks.old result clocks.new }
 {
     let mut present = events;
-    let mut automaton = (position - 1) as u16;
-    while automaton < shape.automata {
-        match edge_step(
+    for automaton in (position - 1) as u16..shape.automata {
+        let (_, x) = edge_step(
             s, shape, first, next, automaton, locations, clocks, vars, present,
-        ) {
-            Stepped::Fault(w) => return Progress::Fault(w),
-            Stepped::Taken(_, x) => {
-                present = x;
-                automaton += 1;
-            }
-        }
+        )?;
+        present = x;
     }
-    Progress::Done
+    Ok(())
 }
 
 // A cycle in place, from the present position on. After a fault the places are of no use.
@@ -158,22 +141,18 @@ fn cycle_or_fault(
     events: u32,
     position: u32,
     cycles: u32,
-) -> Progress
+) -> Result<(), Reason>
     requires prepared { Prepared s.now shape first.now next.now }
     requires ready { Ready shape (run_in locations.old clocks.old vars.old events (moment position cycles)) }
     requires clocks_len { length clocks.old ≡ most_clocks }
     requires has_limits { HasLimits s.now shape turn.now cap.now }
     ensures { cycled_of result (run_in locations.new clocks.new vars.new 0 (moment 1 (cycles + 1))) ≡ after (machine (read_automata s.now)) (shape.automata + 2 - position) (run_in locations.old clocks.old vars.old events (moment position cycles)) }
 {
-    match automata_turns(
+    automata_turns(
         s, shape, first, next, locations, clocks, vars, events, position, cycles,
-    ) {
-        Progress::Fault(w) => Progress::Fault(w),
-        Progress::Done => {
-            grow(s, shape, turn, cap, clocks);
-            Progress::Done
-        }
-    }
+    )?;
+    grow(s, shape, turn, cap, clocks);
+    Ok(())
 }
 
 // A cycle in place, from the present position on: all its turns, or none.
@@ -190,28 +169,26 @@ pub fn cycle_or_none(
     events: u32,
     position: u32,
     cycles: u32,
-) -> Progress
+) -> Result<(), Reason>
     requires prepared { Prepared s.now shape first.now next.now }
     requires ready { Ready shape (run_in locations.old clocks.old vars.old events (moment position cycles)) }
     requires clocks_len { length clocks.old ≡ most_clocks }
     requires has_limits { HasLimits s.now shape turn.now cap.now }
     ensures cycles_after { cycled_of result (run_in locations.new clocks.new vars.new 0 (moment 1 (cycles + 1))) ≡ after (machine (read_automata s.now)) (shape.automata + 2 - position) (run_in locations.old clocks.old vars.old events (moment position cycles)) }
-    ensures vars_unchanged { (w : Reason) → result ≡ Progress.Fault w → run_in locations.new clocks.new vars.new ≡ run_in locations.old clocks.old vars.old }
+    ensures vars_unchanged { (w : Reason) → result ≡ Err w → run_in locations.new clocks.new vars.new ≡ run_in locations.old clocks.old vars.old }
 {
     let locations_before = *locations;
     let clocks_before = *clocks;
     let vars_before = *vars;
-    match cycle_or_fault(
+    let done = cycle_or_fault(
         s, shape, first, next, turn, cap, locations, clocks, vars, events, position, cycles,
-    ) {
-        Progress::Fault(w) => {
-            *locations = locations_before;
-            *clocks = clocks_before;
-            *vars = vars_before;
-            Progress::Fault(w)
-        }
-        Progress::Done => Progress::Done,
+    );
+    if done.is_err() {
+        *locations = locations_before;
+        *clocks = clocks_before;
+        *vars = vars_before;
     }
+    done
 }
 
 // A cycle of any run, in place, after the checks. After it there are no events, at position 1; of the places after a fault nothing is said.
@@ -229,24 +206,18 @@ pub fn cycle_after_checks(
     position: u32,
     cycles: u32,
     events: u32,
-) -> Ending
+) -> Result<(), Stop>
     requires prepared { Prepared s.now shape first.now next.now }
     requires sized { Sized locations.old clocks.old vars.old }
     requires has_limits { HasLimits s.now shape turn.now cap.now }
     ensures { ended_of result (run_in locations.new clocks.new vars.new 0 (moment 1 (cycles + 1))) ≡ model-cycle (machine (read_automata s.now)) events (run_in locations.old clocks.old vars.old present (moment position cycles)) }
 {
-    match before_turn(
+    before_turn(
         s, shape, locations, clocks, vars, present, position, cycles, events,
-    ) {
-        Before::Refused(w) => Ending::Refused(w),
-        Before::Passed => {
-            let given = events_given(events, position, present);
-            match cycle_or_none(
-                s, shape, first, next, turn, cap, locations, clocks, vars, given, position, cycles,
-            ) {
-                Progress::Fault(w) => Ending::Fault(w),
-                Progress::Done => Ending::Done,
-            }
-        }
-    }
+    )?;
+    let given = events_given(events, position, present);
+    cycle_or_none(
+        s, shape, first, next, turn, cap, locations, clocks, vars, given, position, cycles,
+    )?;
+    Ok(())
 }

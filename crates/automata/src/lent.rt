@@ -15,7 +15,7 @@ use super::cycles::{Called, cycle_by_turns};
 use super::plays::play_in_place;
 use super::runs::Run;
 use super::turns::one_turn;
-use answers::{Answer, Cycles, Ending};
+use answers::{Answer, Stop};
 use automata_records::Shape;
 
 // The fresh run, in place of any.
@@ -25,13 +25,13 @@ fn fresh(s: &[u8], shape: Shape, any: Run) -> Called
 {
     let run = super::runs::start(s, shape);
     Called {
-        answer: Ending::Done,
+        answer: Ok(()),
         run,
     }
 }
 
 // The lent run becomes a fresh one.
-pub fn start(s: &[u8], shape: Shape, run: &mut Run) -> Ending
+pub fn start(s: &[u8], shape: Shape, run: &mut Run) -> Result<(), Stop>
     requires { Accepted s.now shape }
     ensures { (ending_of result ≡ val tt) × (run_of run.new ≡ started (machine (read_automata s.now))) }
 {
@@ -51,7 +51,7 @@ pub fn turn(s: &[u8], shape: Shape, run: &mut Run, events: u32) -> Answer
 }
 
 // All of a cycle's turns, or none.
-pub fn cycle(s: &[u8], shape: Shape, run: &mut Run, events: u32) -> Ending
+pub fn cycle(s: &[u8], shape: Shape, run: &mut Run, events: u32) -> Result<(), Stop>
     requires { Accepted s.now shape }
     ensures { (ending_of result ≡ (settled (run_of run.old) (model-cycle (machine (read_automata s.now)) events (run_of run.old))).answer)
         × (run_of run.new ≡ (settled (run_of run.old) (model-cycle (machine (read_automata s.now)) events (run_of run.old))).lent) }
@@ -62,7 +62,7 @@ pub fn cycle(s: &[u8], shape: Shape, run: &mut Run, events: u32) -> Ending
 }
 
 // Many cycles, one for each mask.
-pub fn play(s: &[u8], shape: Shape, run: &mut Run, masks: &[u32]) -> Cycles
+pub fn play(s: &[u8], shape: Shape, run: &mut Run, masks: &[u32]) -> Result<u32, Stop>
     requires { Accepted s.now shape }
     ensures { (cycles_of result ≡ (settled (run_of run.old) (playing (machine (read_automata s.now)) masks.now (run_of run.old))).answer)
         × (run_of run.new ≡ (settled (run_of run.old) (playing (machine (read_automata s.now)) masks.now (run_of run.old))).lent) }

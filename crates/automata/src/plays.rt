@@ -11,9 +11,9 @@ ghost use Rattle.automata.specs.RunOf.{run_of, HasLimits};
 ghost use Rattle.automata_steps.specs.Prepared.{Prepared};
 ghost use Rattle.automata.specs.PlayedOf.{BetweenCycles, PlayedTo, played_of};
 
-use super::cycles::{Progress, cycle_after_checks, cycle_or_none};
+use super::cycles::{cycle_after_checks, cycle_or_none};
 use super::runs::{Run, limits_of, run_in};
-use answers::{Cycles, Ending};
+use answers::Stop;
 use automata_records::Shape;
 use automata_steps::index::index_of;
 use records::sizes::{
@@ -23,7 +23,7 @@ use records::sizes::{
 
 #[derive(Clone, Copy)]
 pub struct Played {
-    pub answer: Cycles,
+    pub answer: Result<u32, Stop>,
     pub run: Run,
 }
 
@@ -74,12 +74,11 @@ fn further_cycles(
     let mut clocks = run.clocks;
     let mut variables = run.variables;
     let mut cycles = run.cycles;
-    let mut k: usize = 0;
-    while k < masks.len() {
+    for k in 0..masks.len() {
         if cycles == MOST_CYCLES {
             return further_to(locations, clocks, variables, cycles, k as u32);
         }
-        match cycle_or_none(
+        let done = cycle_or_none(
             s,
             shape,
             first,
@@ -92,17 +91,13 @@ fn further_cycles(
             masks[k],
             1,
             cycles,
-        ) {
-            Progress::Fault(_) => {
-                return further_to(locations, clocks, variables, cycles, k as u32);
-            }
-            Progress::Done => {
-                cycles += 1;
-                k += 1;
-            }
+        );
+        if done.is_err() {
+            return further_to(locations, clocks, variables, cycles, k as u32);
         }
+        cycles += 1;
     }
-    further_to(locations, clocks, variables, cycles, k as u32)
+    further_to(locations, clocks, variables, cycles, masks.len() as u32)
 }
 
 // Cycles of an accepted table, one for each mask, until one is refused or faults. That is told only of the first.
@@ -122,7 +117,7 @@ fn play_with_index(
 {
     if masks.len() == 0 {
         return Played {
-            answer: Cycles::Done(0),
+            answer: Ok(0),
             run,
         };
     }
@@ -144,21 +139,17 @@ fn play_with_index(
         run.cycles,
         masks[0],
     ) {
-        Ending::Done => {
+        Ok(()) => {
             let after = run_in(&locations, &clocks, &variables, 0, 1, run.cycles + 1);
             let rest = further_cycles(s, shape, first, next, turn, cap, after, &masks[1..]);
             let last = rest.run;
             Played {
-                answer: Cycles::Done(rest.count + 1),
+                answer: Ok(rest.count + 1),
                 run: last,
             }
         }
-        Ending::Fault(w) => Played {
-            answer: Cycles::Fault(w),
-            run,
-        },
-        Ending::Refused(w) => Played {
-            answer: Cycles::Refused(w),
+        Err(w) => Played {
+            answer: Err(w),
             run,
         },
     }

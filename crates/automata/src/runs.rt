@@ -16,8 +16,9 @@ ghost use Rattle.automata.specs.RunOf.{run_of, Sized, top_at, grown_at, ClocksPo
 use automata_records::Shape;
 use automata_steps::fields::{is_after, ticks_of};
 use automata_steps::values::values_of;
-use machines::checks::{Before, decide, initial_places, shared_possible};
+use machines::checks::{decide, initial_places, shared_possible};
 use machines::values::start_values;
+use records::refusals::Refusal;
 use records::sizes::{CLOCKS, Clocks, Places, Variables};
 use timings::{cap_for, grown_to, top, turn_for};
 
@@ -89,11 +90,9 @@ fn clocks_possible(s: &[u8], shape: Shape, clocks: &Clocks) -> bool
     ensures { result ≡ all (λ k. leb (get_or clocks.now k 0) (top_at s.now shape k)) (upto shape.clocks) }
 {
     let mut possible = true;
-    let mut k: u16 = 0;
-    while k < shape.clocks {
+    for k in 0..shape.clocks {
         let i = k as usize;
         possible = possible & clock_possible(s, shape, k, clocks[i]);
-        k += 1;
     }
     possible
 }
@@ -104,10 +103,8 @@ fn clocks_unused(count: u16, clocks: &Clocks) -> bool
     ensures { result ≡ rest_zero count clocks.now }
 {
     let mut unused = true;
-    let mut k = count as usize;
-    while k < CLOCKS {
+    for k in count as usize..CLOCKS {
         unused = unused & (clocks[k] == 0);
-        k += 1;
     }
     unused
 }
@@ -152,7 +149,7 @@ pub fn before_turn(
     position: u32,
     cycles: u32,
     events: u32,
-) -> Before
+) -> Result<(), Refusal>
     requires { IsShape s.now shape × Sized locations.now clocks.now vars.now }
     ensures { before_of result ≡ checked (machine (read_automata s.now)) events (run_in locations.now clocks.now vars.now present (moment position cycles)) }
 {
@@ -166,12 +163,10 @@ pub fn limits_of(s: &[u8], shape: Shape, turn: &mut Clocks, cap: &mut Clocks)
     requires turn_len { (length turn.old ≡ most_clocks) × (length cap.old ≡ most_clocks) }
     ensures { (turn.new ≡ map_from 0 (turn_at s.now shape) turn.old) × (cap.new ≡ map_from 0 (cap_at s.now shape) cap.old) }
 {
-    let mut k: u16 = 0;
-    while k < shape.clocks {
+    for k in 0..shape.clocks {
         let i = k as usize;
         turn[i] = turn_for(is_after(s, shape, k), ticks_of(s, shape, k));
         cap[i] = cap_for(is_after(s, shape, k), ticks_of(s, shape, k));
-        k += 1;
     }
 }
 
@@ -190,11 +185,9 @@ pub fn grow(s: &[u8], shape: Shape, turn: &Clocks, cap: &Clocks, clocks: &mut Cl
     requires clocks_possible { ClocksPossible shape.clocks clocks.old }
     ensures { clocks.new ≡ map_from 0 (grown_at s.now shape) clocks.old }
 {
-    let mut k: u16 = 0;
-    while k < shape.clocks {
+    for k in 0..shape.clocks {
         let i = k as usize;
         clocks[i] = clock_grown(s, shape, turn, cap, k, clocks[i]);
-        k += 1;
     }
 }
 

@@ -16,8 +16,8 @@ use super::runs::{Run, before_turn, pass_time, run_in};
 use answers::Answer;
 use automata_records::Shape;
 use automata_steps::index::index_of;
-use automata_steps::steps::{Stepped, edge_step};
-use machines::checks::{Before, events_given};
+use automata_steps::steps::edge_step;
+use machines::checks::events_given;
 use records::sizes::{Clocks, NO_RECORD, Places, TABLE_KEYS, TABLE_RECORDS, TableHeads, Variables};
 
 // A turn's answer, and the run after it.
@@ -55,8 +55,8 @@ fn automaton_turn(
         vars,
         *events,
     ) {
-        Stepped::Fault(w) => Answer::Fault(w),
-        Stepped::Taken(e, x) => {
+        Err(w) => Answer::Fault(w),
+        Ok((e, x)) => {
             *events = x;
             *position = place + 1;
             Answer::Taken(e)
@@ -116,8 +116,8 @@ fn turn_in_place(
     match before_turn(
         s, shape, locations, clocks, vars, *present, *position, *cycles, events,
     ) {
-        Before::Refused(w) => Answer::Refused(w),
-        Before::Passed => {
+        Err(w) => Answer::Refused(w),
+        Ok(()) => {
             *present = events_given(events, *position, *present);
             turn_taken(
                 s, shape, first, next, locations, clocks, vars, present, position, cycles,
@@ -140,35 +140,11 @@ fn settle_turn(
     ensures { turn_of result ≡ settled (run_of lent) (taken_of answer (run_in locations.now clocks.now vars.now events (moment position cycles))) }
 {
     match answer {
-        Answer::Taken(e) => {
+        Answer::Fault(_) | Answer::Refused(_) => Turned { answer, run: lent },
+        Answer::Taken(_) | Answer::Idle | Answer::Time => {
             let run = run_in(locations, clocks, vars, events, position, cycles);
-            Turned {
-                answer: Answer::Taken(e),
-                run,
-            }
+            Turned { answer, run }
         }
-        Answer::Idle => {
-            let run = run_in(locations, clocks, vars, events, position, cycles);
-            Turned {
-                answer: Answer::Idle,
-                run,
-            }
-        }
-        Answer::Time => {
-            let run = run_in(locations, clocks, vars, events, position, cycles);
-            Turned {
-                answer: Answer::Time,
-                run,
-            }
-        }
-        Answer::Fault(w) => Turned {
-            answer: Answer::Fault(w),
-            run: lent,
-        },
-        Answer::Refused(w) => Turned {
-            answer: Answer::Refused(w),
-            run: lent,
-        },
     }
 }
 

@@ -1,6 +1,7 @@
 -- The answers of edges and of an automaton's turn, as the model's outcomes. Assumes nothing: these are definitions.
-use Rattle.std.specs.Prelude.{◌≡◌, Bool, List, [], ◌∷◌, ℕ, ◌<◌, ℤ, set}
+use Rattle.std.specs.Prelude.{◌≡◌, Bool, List, [], ◌∷◌, ℕ, ◌<◌, ℤ, set, Result, Ok, Err}
 use Rattle.records.specs.Refusal.{many_open, Out, val, fault, ◌>>=◌}
+use Rattle.records.specs.RefusalOf.{out_of}
 use Rattle.prelude.specs.Owned.{of}
 use Rattle.model.specs.Runs.{World, Run, Answer, taken, actions}
 use Rattle.model.specs.AutomataTable.{Automata, edge}
@@ -8,10 +9,7 @@ use Rattle.model.specs.Automata.{literal_holds, reads, opens, the_one, leaving, 
 use Rattle.answers.specs.Answers.{reason_of}
 use Rattle.automata_steps.specs.declared.edges.Tally.{Tally}
 use Rattle.automata_steps.specs.declared.edges.Tally.TheVariants.{Nothing, One, Many}
-use Rattle.automata_steps.specs.declared.edges.Counted as declared-counted
-use Rattle.automata_steps.specs.declared.edges.Choice as declared-choice
-use Rattle.automata_steps.specs.declared.steps.Stepped.{Stepped}
-use Rattle.automata_steps.specs.declared.steps.Stepped.TheVariants.{Taken, Fault}
+use Rattle.answers.specs.declared.Reason.{Reason}
 use Rattle.machines.specs.Worlds.{Moment, moment, run_in}
 
 -- ---- open edges
@@ -33,17 +31,15 @@ tally_of Many es = fault many_open
 abbrev pub one_open : (ℕ → Out Bool) → Tally → List ℕ → Out ℕ
 one_open isOpen t es = opens isOpen es >>= tally_of t
 
-abbrev pub counted_of : (ℕ → Out Bool) → declared-counted.Counted → List ℕ → Out ℕ
-counted_of isOpen (declared-counted.TheVariants.Now t) es = one_open isOpen t es
-counted_of isOpen (declared-counted.TheVariants.Fault w) es = fault (reason_of w)
+abbrev pub counted_of : (ℕ → Out Bool) → Result Tally Reason → List ℕ → Out ℕ
+counted_of isOpen r es = out_of reason_of r >>= λ t. one_open isOpen t es
 
 -- the one open edge of those that leave a location
 abbrev pub the_open : Automata → Run → ℕ → ℕ → Out ℕ
 the_open au r automaton location = opens (edge_open au r) (leaving au automaton location) >>= the_one
 
-abbrev pub choice_of : declared-choice.Choice → Out ℕ
-choice_of (declared-choice.TheVariants.Chosen e) = val e
-choice_of (declared-choice.TheVariants.Failed w) = fault (reason_of w)
+abbrev pub choice_of : Result ℕ Reason → Out ℕ
+choice_of r = out_of reason_of r
 
 -- one of so many edges
 abbrev pub TallyIn : ℕ → Tally → Type 0
@@ -51,13 +47,13 @@ TallyIn edges Nothing = Unit
 TallyIn edges (One e) = e < edges
 TallyIn edges Many = Unit
 
-abbrev pub CountedIn : ℕ → declared-counted.Counted → Type 0
-CountedIn edges (declared-counted.TheVariants.Now t) = TallyIn edges t
-CountedIn edges (declared-counted.TheVariants.Fault w) = Unit
+abbrev pub CountedIn : ℕ → Result Tally Reason → Type 0
+CountedIn edges (Ok t) = TallyIn edges t
+CountedIn edges (Err w) = Unit
 
-abbrev pub ChoiceIn : ℕ → declared-choice.Choice → Type 0
-ChoiceIn edges (declared-choice.TheVariants.Chosen e) = e < edges
-ChoiceIn edges (declared-choice.TheVariants.Failed w) = Unit
+abbrev pub ChoiceIn : ℕ → Result ℕ Reason → Type 0
+ChoiceIn edges (Ok e) = e < edges
+ChoiceIn edges (Err w) = Unit
 
 -- ---- an automaton's turn
 
@@ -71,11 +67,11 @@ take_edge au automaton r e =
     >>= λ w. val (taken e, entered r automaton (edge au e).target (reset (of e au.resets) r.timers) w)
 
 -- A fault leaves locations and clocks as they were. The variables may have values of the updates before it: nothing is said of them.
-abbrev pub FaultKeeps : Stepped → List ℕ → List ℕ → List ℕ → List ℕ → Type 0
-FaultKeeps (Taken e events) at₀ clocks₀ at clocks = Unit
-FaultKeeps (Fault w) at₀ clocks₀ at clocks = (at ≡ at₀) × (clocks ≡ clocks₀)
+abbrev pub FaultKeeps : Result (ℕ × ℕ) Reason → List ℕ → List ℕ → List ℕ → List ℕ → Type 0
+FaultKeeps (Ok x) at₀ clocks₀ at clocks = Unit
+FaultKeeps (Err w) at₀ clocks₀ at clocks = (at ≡ at₀) × (clocks ≡ clocks₀)
 
--- the turn by what is in the places after it; it leaves the moment as it is
-abbrev pub stepped_of : Stepped → List ℕ → List ℕ → List ℤ → Moment → Out (Answer × Run)
-stepped_of (Taken e events) at clocks vars m = val (taken e, run_in at clocks vars events m)
-stepped_of (Fault w) at clocks vars m = fault (reason_of w)
+-- the turn, as the edge taken and the events after it, by what is in the places then; it leaves the moment as it is
+abbrev pub stepped_of : Result (ℕ × ℕ) Reason → List ℕ → List ℕ → List ℤ → Moment → Out (Answer × Run)
+stepped_of (Ok x) at clocks vars m = val (taken x.0, run_in at clocks vars x.1 m)
+stepped_of (Err w) at clocks vars m = fault (reason_of w)

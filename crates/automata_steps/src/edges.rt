@@ -13,7 +13,6 @@ use super::fields::{automaton_of, first_edge};
 use super::literals::literal_holds;
 use answers::Reason;
 use automata_records::Shape;
-use expressions::outcomes::Truth;
 use records::sizes::{Clocks, LITERAL_KEYS, TableHeads, Variables};
 
 // What the edges read so far come to.
@@ -22,18 +21,6 @@ pub enum Tally {
     Nothing,
     One(u16),
     Many,
-}
-
-#[derive(Clone, Copy)]
-pub enum Counted {
-    Now(Tally),
-    Fault(Reason),
-}
-
-#[derive(Clone, Copy)]
-pub enum Choice {
-    Chosen(u16),
-    Failed(Reason),
 }
 
 fn read_fault(w: expressions::outcomes::Reason) -> Reason
@@ -55,24 +42,18 @@ fn edge_open(
     vars: &Variables,
     events: u32,
     e: u16,
-) -> Truth
+) -> Result<bool, expressions::outcomes::Reason>
     requires { Accepted s.now shape × HasIndex s.now shape first.now next.now × (e < shape.edges) }
     ensures { truth_of result ≡ edge_open (read_automata s.now) (bare_run clocks.now vars.now events) e }
 {
     let mut n = first[(LITERAL_KEYS + e) as usize];
     while n != 65535 {
-        match literal_holds(s, shape, clocks, vars, events, n) {
-            Truth::Fault(w) => return Truth::Fault(w),
-            Truth::Value(holding) => {
-                if holding {
-                    n = next[n as usize];
-                } else {
-                    return Truth::Value(false);
-                }
-            }
+        if !literal_holds(s, shape, clocks, vars, events, n)? {
+            return Ok(false);
         }
+        n = next[n as usize];
     }
-    Truth::Value(true)
+    Ok(true)
 }
 
 // One edge more.
@@ -99,34 +80,29 @@ fn count_edge(
     automaton: u16,
     e: u16,
     tally: Tally,
-) -> Counted
+) -> Result<Tally, Reason>
     requires { Accepted s.now shape × HasIndex s.now shape first.now next.now × (e < shape.edges) × TallyIn shape.edges tally }
     ensures by_index { (es : List ℕ) → counted_of (edge_open (read_automata s.now) (bare_run clocks.now vars.now events)) result es ≡ one_open (edge_open (read_automata s.now) (bare_run clocks.now vars.now events)) tally (cond (eqb (edge_at s.now shape e).automaton automaton) (e ∷ es) es) }
     ensures counted_in { CountedIn shape.edges result }
 {
     if (automaton_of(s, shape, e) as u16) != automaton {
-        return Counted::Now(tally);
+        return Ok(tally);
     }
     match edge_open(s, shape, first, next, clocks, vars, events, e) {
-        Truth::Fault(w) => Counted::Fault(read_fault(w)),
-        Truth::Value(open) => {
-            if open {
-                Counted::Now(with_open(tally, e))
-            } else {
-                Counted::Now(tally)
-            }
-        }
+        Err(w) => Err(read_fault(w)),
+        Ok(true) => Ok(with_open(tally, e)),
+        Ok(false) => Ok(tally),
     }
 }
 
-fn choice_for(tally: Tally) -> Choice
+fn choice_for(tally: Tally) -> Result<u16, Reason>
     ensures result_value { choice_of result ≡ tally_of tally [] }
     ensures by_index { (edges : ℕ) → TallyIn edges tally → ChoiceIn edges result }
 {
     match tally {
-        Tally::Nothing => Choice::Failed(Reason::NoneOpen),
-        Tally::One(e) => Choice::Chosen(e),
-        Tally::Many => Choice::Failed(Reason::ManyOpen),
+        Tally::Nothing => Err(Reason::NoneOpen),
+        Tally::One(e) => Ok(e),
+        Tally::Many => Err(Reason::ManyOpen),
     }
 }
 
@@ -142,19 +118,19 @@ pub fn open_edge(
     events: u32,
     automaton: u16,
     location: u16,
-) -> Choice
+) -> Result<u16, Reason>
     requires { Accepted s.now shape × HasIndex s.now shape first.now next.now }
     ensures result_value { choice_of result ≡ the_open (read_automata s.now) (bare_run clocks.now vars.now events) automaton location }
     ensures choice_in { ChoiceIn shape.edges result }
 {
     if shape.locations <= location {
-        return Choice::Failed(Reason::NoneOpen);
+        return Err(Reason::NoneOpen);
     }
     let start = first_edge(shape);
     let mut tally = Tally::Nothing;
     let mut n = first[location as usize];
     while n != 65535 {
-        match count_edge(
+        tally = count_edge(
             s,
             shape,
             first,
@@ -165,12 +141,7 @@ pub fn open_edge(
             automaton,
             n - start,
             tally,
-        ) {
-            Counted::Fault(w) => return Choice::Failed(w),
-            Counted::Now(t) => {
-                tally = t;
-            }
-        }
+        )?;
         n = next[n as usize];
     }
     choice_for(tally)

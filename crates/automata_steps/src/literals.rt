@@ -10,7 +10,7 @@ ghost use Rattle.automata_steps.specs.StepOf.{bare_run};
 use super::fields::{byte_of, must_hold, ticks_of, two_of};
 use super::values::values_of;
 use automata_records::Shape;
-use expressions::outcomes::Truth;
+use expressions::outcomes::Reason;
 use machines::deeds::present;
 use machines::values::guard_holds;
 use records::sizes::{Clocks, Variables};
@@ -40,14 +40,14 @@ fn condition_holds(
     vars: &Variables,
     events: u32,
     n: u16,
-) -> Truth
+) -> Result<bool, Reason>
     requires { Accepted s.now shape × (first_literal shape ≤ n) × (n < first_clock shape) }
     ensures { truth_of result ≡ condition_holds (read_automata s.now) (bare_run clocks.now vars.now events) (literal_in s.now n).1 }
 {
     if trigger_holds(s, shape, clocks, events, n) {
         guard_holds(s, values_of(shape), vars, two_of(s, n, 8))
     } else {
-        Truth::Value(false)
+        Ok(false)
     }
 }
 
@@ -59,19 +59,11 @@ pub fn literal_holds(
     vars: &Variables,
     events: u32,
     n: u16,
-) -> Truth
+) -> Result<bool, Reason>
     requires { Accepted s.now shape × (first_literal shape ≤ n) × (n < first_clock shape) }
     ensures { truth_of result ≡ literal_holds (read_automata s.now) (bare_run clocks.now vars.now events) (literal_in s.now n).1 }
 {
     let must = must_hold(s, n);
-    match condition_holds(s, shape, clocks, vars, events, n) {
-        Truth::Fault(w) => Truth::Fault(w),
-        Truth::Value(holding) => {
-            if must {
-                Truth::Value(holding)
-            } else {
-                Truth::Value(!holding)
-            }
-        }
-    }
+    let holding = condition_holds(s, shape, clocks, vars, events, n)?;
+    Ok(holding == must)
 }

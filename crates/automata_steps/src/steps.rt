@@ -11,23 +11,16 @@ ghost use Rattle.automata_records.specs.Accepted.{Accepted};
 ghost use Rattle.automata_steps.specs.Index.{owned_by, NextOf, HasIndex, RoomFor};
 ghost use Rattle.automata_steps.specs.StepOf.{take_edge, stepped_of, FaultKeeps};
 
-use super::edges::{Choice, open_edge};
+use super::edges::open_edge;
 use super::fields::{byte_of, first_reset, target_of, two_of};
 use super::values::values_of;
 use answers::Reason;
 use automata_records::Shape;
-use machines::deeds::{Done, do_guarded, done_by};
+use machines::deeds::{do_guarded, done_by};
 use records::sizes::{Clocks, EFFECT_KEYS, Places, TableHeads, Variables};
 
-// The edge taken and the events after it, or why none is taken.
-#[derive(Clone, Copy)]
-pub enum Stepped {
-    Taken(u16, u32),
-    Fault(Reason),
-}
-
 // The update that is record n, if its guard holds.
-fn do_update(s: &[u8], shape: Shape, n: u16, vars: &mut Variables, events: u32) -> Done
+fn do_update(s: &[u8], shape: Shape, n: u16, vars: &mut Variables, events: u32) -> Result<u32, Reason>
     requires { Accepted s.now shape × (first_update shape ≤ n) × (n < first_reset shape) }
     ensures { (m : Moment) → world_after result vars.new m ≡ action (read_automata s.now).nodes (read_automata s.now).variables (update_in s.now n).1 (world_in vars.old events m) }
 {
@@ -59,7 +52,7 @@ fn reset_clocks(s: &[u8], shape: Shape, next: &[u16], start: u16, e: u16, clocks
     }
 }
 
-// An edge's updates, in file order, each seeing the last; then its resets, which stand behind them.
+// An edge's updates, in file order, each seeing the last; then its resets, which stand behind them. The edge and the events after it.
 fn take_edge(
     s: &[u8],
     shape: Shape,
@@ -71,7 +64,7 @@ fn take_edge(
     vars: &mut Variables,
     events: u32,
     e: u16,
-) -> Stepped
+) -> Result<(u16, u32), Reason>
     requires { Accepted s.now shape × HasIndex s.now shape first.now next.now × (automaton < 8) × (e < shape.edges) }
     ensures m_after { (m : Moment) → stepped_of result locations.new clocks.new vars.new m ≡ take_edge (read_automata s.now) automaton (run_in locations.old clocks.old vars.old events m) e }
     ensures clocks_len_unchanged { length clocks.new ≡ length clocks.old }
@@ -81,21 +74,16 @@ fn take_edge(
     let mut raised = events;
     let mut n = first[(EFFECT_KEYS + e) as usize];
     while n < reset {
-        match do_update(s, shape, n, vars, raised) {
-            Done::Fault(w) => return Stepped::Fault(w),
-            Done::Events(x) => {
-                raised = x;
-            }
-        }
+        raised = do_update(s, shape, n, vars, raised)?;
         n = next[n as usize];
     }
     reset_clocks(s, shape, next, n, e, clocks);
     let i = automaton as usize;
     locations[i] = target_of(s, shape, e);
-    Stepped::Taken(e, raised)
+    Ok((e, raised))
 }
 
-// In place. After a fault the variables are of no use; locations and clocks are as they were.
+// In place: the edge taken and the events after it. After a fault the variables are of no use; locations and clocks are as they were.
 pub fn edge_step(
     s: &[u8],
     shape: Shape,
@@ -106,7 +94,7 @@ pub fn edge_step(
     clocks: &mut Clocks,
     vars: &mut Variables,
     events: u32,
-) -> Stepped
+) -> Result<(u16, u32), Reason>
     requires accepted { Accepted s.now shape }
     requires has_index { HasIndex s.now shape first.now next.now }
     requires automaton_lt_automata { automaton < shape.automata }
@@ -116,12 +104,10 @@ pub fn edge_step(
 {
     let i = automaton as usize;
     let location = locations[i];
-    match open_edge(
+    let e = open_edge(
         s, shape, first, next, clocks, vars, events, automaton, location,
-    ) {
-        Choice::Chosen(e) => take_edge(
-            s, shape, first, next, automaton, locations, clocks, vars, events, e,
-        ),
-        Choice::Failed(w) => Stepped::Fault(w),
-    }
+    )?;
+    take_edge(
+        s, shape, first, next, automaton, locations, clocks, vars, events, e,
+    )
 }
