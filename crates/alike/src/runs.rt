@@ -6,48 +6,28 @@ ghost use Rattle.automata_records.specs.Accepted.{Accepted};
 ghost use Rattle.timings.specs.Growth.{timing_if};
 ghost use Rattle.automata.specs.RunOf as automata-run;
 ghost use Rattle.chart_runs.specs.RunOf as charts-run;
-ghost use Rattle.alike.specs.Alike.{values_alike, variables_alike, places_alike, clock_alike, literal_alike, timers_alike, runs_alike};
+ghost use Rattle.alike.specs.Alike.{variables_alike, places_alike, clock_alike, literal_alike, timers_alike, runs_alike};
 
 use automata_records::Shape;
 use automata_records::fields::{
     LiteralTrigger, automaton_of, literal_edge, literal_trigger_of, source_of,
 };
 use automata_steps::fields::{is_after, ticks_of};
-use records::sizes::{Ages, Clocks, Places, VARIABLES, Variables};
+use records::sizes::{Ages, Clocks, Places, Variables};
 use timings::top;
-
-fn values_alike(a: i16, b: i16) -> bool
-    ensures { result ≡ values_alike a b }
-{
-    (a <= b) & (b <= a)
-}
 
 fn variables_alike(variables: Variables, others: Variables) -> bool
     ensures { result ≡ variables_alike variables others }
 {
-    let mut v: usize = 0;
-    while v < VARIABLES {
-        if !values_alike(variables[v], others[v]) {
-            return false;
-        }
-        v += 1;
-    }
-    true
+    variables == others
 }
 
 fn places_alike(charts: u16, states: Places, locations: Places) -> bool
     requires { charts ≤ most_charts }
     ensures { result ≡ places_alike charts states locations }
 {
-    let mut c: u16 = 0;
-    while c < charts {
-        let i = c as usize;
-        if states[i] != locations[i] {
-            return false;
-        }
-        c += 1;
-    }
-    true
+    let n = charts as usize;
+    states[..n] == locations[..n]
 }
 
 // Where a clock stands by the age of its state.
@@ -56,8 +36,7 @@ fn clock_for(after: bool, ticks: u16, age: u32) -> u32
     ensures { result ≡ clock_for (timing_if after) ticks age }
 {
     if after {
-        let top = top(ticks) as u32;
-        return if age <= top { age } else { top };
+        return age.min(top(ticks) as u32);
     }
     if age == 0 {
         return 0;
@@ -92,8 +71,7 @@ fn literal_alike(
         return true;
     }
     match literal_trigger_of(t, shape, l) {
-        LiteralTrigger::Always => true,
-        LiteralTrigger::Event(_) => true,
+        LiteralTrigger::Always | LiteralTrigger::Event(_) => true,
         LiteralTrigger::Clock(k) => clock_alike(t, shape, clocks, ages[a], k),
     }
 }
@@ -102,14 +80,7 @@ fn timers_alike(t: &[u8], shape: Shape, ages: Ages, locations: Places, clocks: C
     requires { Accepted t.now shape }
     ensures { result ≡ timers_alike t.now shape ages locations clocks }
 {
-    let mut l: u16 = 0;
-    while l < shape.literals {
-        if !literal_alike(t, shape, ages, locations, clocks, l) {
-            return false;
-        }
-        l += 1;
-    }
-    true
+    (0..shape.literals).all(|l| literal_alike(t, shape, ages, locations, clocks, l))
 }
 
 pub fn runs_alike(t: &[u8], shape: Shape, run: chart_runs::Run, twin: automata::runs::Run) -> bool

@@ -99,9 +99,5 @@ pub fn call_both(
 pub fn is_turn(kinds: &[u8], k: usize) -> bool
     ensures { result ≡ is_turn kinds.now k }
 {
-    if k < kinds.len() {
-        kinds[k] == 0
-    } else {
-        false
-    }
+    k < kinds.len() && kinds[k] == 0
 }

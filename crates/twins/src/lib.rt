@@ -17,7 +17,6 @@ use alike::runs::runs_alike;
 use both::{call_both, is_turn};
 use records::refusals::Refusal;
 use records::sizes::{CHARTS, CLOCKS, VARIABLES};
-use translation::Translated;
 
 // All of so many calls were alike; why there was nothing to compare; the first call that was not alike.
 #[derive(Clone, Copy)]
@@ -72,11 +71,9 @@ fn calls_compared(
             twin,
         };
     }
-    let mut k: usize = 0;
-    while k < masks.len() {
+    for (k, events) in masks.iter().enumerate() {
         let turn = is_turn(kinds, k);
-        let events = masks[k];
-        let both = call_both(s, shape, t, table, run, twin, turn, events);
+        let both = call_both(s, shape, t, table, run, twin, turn, *events);
         if !both.alike {
             return Compared {
                 verdict: Verdict::Differ(k),
@@ -88,10 +85,9 @@ fn calls_compared(
         let twin_left = both.twin;
         run = left;
         twin = twin_left;
-        k += 1;
     }
     Compared {
-        verdict: Verdict::Alike(k),
+        verdict: Verdict::Alike(masks.len()),
         run,
         twin,
     }
@@ -116,18 +112,15 @@ fn plays_compared(
     let reply = other.answer;
     let left = played.run;
     let twin_left = other.run;
-    if counts_alike(count, reply) & runs_alike(t, table, left, twin_left) {
-        Compared {
-            verdict: Verdict::Alike(masks.len()),
-            run: left,
-            twin: twin_left,
-        }
+    let verdict = if counts_alike(count, reply) & runs_alike(t, table, left, twin_left) {
+        Verdict::Alike(masks.len())
     } else {
-        Compared {
-            verdict: Verdict::Differ(0),
-            run: left,
-            twin: twin_left,
-        }
+        Verdict::Differ(0)
+    };
+    Compared {
+        verdict,
+        run: left,
+        twin: twin_left,
     }
 }
 
@@ -164,10 +157,8 @@ fn twin_compared(
     ensures { comparison_of result ≡ moved_both s.now t.now masks.now plays kinds.now }
 {
     match automata_files::check(t) {
-        automata_files::Checked::Refused(w) => nothing_compared(w),
-        automata_files::Checked::Accepted(table) => {
-            table_compared(s, shape, t, table, plays, kinds, masks)
-        }
+        Err(w) => nothing_compared(w),
+        Ok(table) => table_compared(s, shape, t, table, plays, kinds, masks),
     }
 }
 
@@ -183,8 +174,8 @@ fn set_compared(
     ensures { (comparison_of result ≡ compared (translation s.now twin.old).answer (moved_both s.now (twin_bytes s.now) masks.now plays kinds.now)) × (twin.new ≡ (translation s.now twin.old).lent) }
 {
     match translation::translate(s, shape, twin) {
-        Translated::Refused(w) => nothing_compared(w),
-        Translated::Written(n) => twin_compared(s, shape, &twin[..n], plays, kinds, masks),
+        Err(w) => nothing_compared(w),
+        Ok(n) => twin_compared(s, shape, &twin[..n], plays, kinds, masks),
     }
 }
 
@@ -192,8 +183,8 @@ fn file_compared(s: &[u8], plays: bool, kinds: &[u8], masks: &[u32], twin: &mut 
     ensures { (comparison_of result ≡ compared (translation s.now twin.old).answer (moved_both s.now (twin_bytes s.now) masks.now plays kinds.now)) × (twin.new ≡ (translation s.now twin.old).lent) }
 {
     match chart_files::check(s) {
-        chart_files::Checked::Refused(w) => nothing_compared(w),
-        chart_files::Checked::Accepted(shape) => set_compared(s, shape, plays, kinds, masks, twin),
+        Err(w) => nothing_compared(w),
+        Ok(shape) => set_compared(s, shape, plays, kinds, masks, twin),
     }
 }
 
