@@ -1,5 +1,5 @@
 -- Of the code: nodes written one behind the other, and trees that were read. Assumes nothing: these are definitions.
-use Rattle.std.specs.Prelude.{◌≡◌, Bool, true, false, cond, ◌&&◌, List, [], ◌∷◌, ◌++◌, ℕ, ◌+◌, ◌*◌, ◌-◌, ◌/◌, ◌%◌, ◌≤◌, ◌<◌, leb, eqb, length, drop}
+use Rattle.std.specs.Prelude.{◌≡◌, Bool, true, false, cond, ◌&&◌, Option, Some, None, List, [], ◌∷◌, ◌++◌, ℕ, ◌+◌, ◌*◌, ◌-◌, ◌/◌, ◌%◌, ◌≤◌, ◌<◌, leb, eqb, length, drop}
 use Prim.Native.Char.{code}
 use Rattle.std.proofs.lemmas.List.Edits.{sets}
 use Rattle.prelude.specs.Lists.{case_of}
@@ -8,8 +8,6 @@ use Rattle.records.specs.Refusal.{Out}
 use Rattle.guards.specs.Trees.{Tree, is_truth, fits, pair_fits, node_count, nodes_from, records_of}
 use Rattle.guards.specs.Grammar.{Read, read, outside, read_variable, read_negative, read_positive}
 use Rattle.guard_reader.specs.declared.trees.Part.{Part}
-use Rattle.guard_reader.specs.declared.rules.Parsed.{Parsed}
-use Rattle.guard_reader.specs.declared.rules.Parsed.TheVariants as parsed
 
 -- ---- a node written behind those of its operands, and the tree that it makes
 
@@ -72,16 +70,16 @@ pub record ReadTree (text : List ℕ) (at size : ℕ) (before after : List ℕ) 
   pub same : (d : ℕ) → least ≤ d → rule d ≡ read tree (drop p.next text)
   pub has : HasTree text at size before after tree p
 
-abbrev pub ReadsAs : List ℕ → ℕ → ℕ → List ℕ → List ℕ → ℕ → (ℕ → Out (Read Tree)) → Parsed → Type 0
-ReadsAs text at size before after least rule (parsed.Tree p) = ReadTree text at size before after least rule p
-ReadsAs text at size before after least rule parsed.Outside = (d : ℕ) → least ≤ d → rule d ≡ outside
+abbrev pub ReadsAs : List ℕ → ℕ → ℕ → List ℕ → List ℕ → ℕ → (ℕ → Out (Read Tree)) → Option Part → Type 0
+ReadsAs text at size before after least rule (Some p) = ReadTree text at size before after least rule p
+ReadsAs text at size before after least rule None = (d : ℕ) → least ≤ d → rule d ≡ outside
 
 -- what a rule came to, from the one number that it answers
 abbrev pub flag : Bool → ℕ
 flag b = cond b 1 0
 
-unfoldable pub parsed_of : ℕ → Parsed
-parsed_of r = cond (eqb r 0) parsed.Outside (parsed.Tree (record { next = r % 512; size = r / 512 % 512; fits = eqb (r / 262144 % 2) 1; truth = eqb (r / 524288 % 2) 1 }))
+unfoldable pub parsed_of : ℕ → Option Part
+parsed_of r = cond (eqb r 0) None (Some (record { next = r % 512; size = r / 512 % 512; fits = eqb (r / 262144 % 2) 1; truth = eqb (r / 524288 % 2) 1 }))
 
 abbrev pub Reads : List ℕ → ℕ → ℕ → List ℕ → List ℕ → ℕ → (ℕ → Out (Read Tree)) → ℕ → Type 0
 Reads text at size before after least rule r = ReadsAs text at size before after least rule (parsed_of r)

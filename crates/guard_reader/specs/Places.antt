@@ -1,16 +1,12 @@
 -- Of the code: places in a text, and what begins there, as the grammar has it. Assumes nothing: these are definitions.
-use Rattle.std.specs.Prelude.{◌≡◌, Bool, true, false, List, ℕ, ◌+◌, ◌≤◌, ◌<◌, eqb, length, drop}
-use Rattle.std.proofs.Math.Option.{Option, some, none}
+use Rattle.std.specs.Prelude.{◌≡◌, Bool, true, false, Option, Some, None, List, ℕ, ◌+◌, ◌≤◌, ◌<◌, eqb, length, drop}
+use Rattle.std.proofs.Math.Option as Opt
 use Rattle.records.specs.Bytes.{byte}
 use Rattle.records.specs.Refusal.{Out}
 use Rattle.arithmetic.specs.Operators.{arithmetic_code, comparison_code}
 use Rattle.guards.specs.Trees.{Binary, arithmetic, comparison, both, either, binary_level}
 use Rattle.guards.specs.Grammar.{Read, read, outside, unspaced, is_digit}
-use Rattle.guard_reader.specs.declared.lexemes.Numeral.{Numeral}
-use Rattle.guard_reader.specs.declared.lexemes.Numeral.TheVariants.{Value, Outside}
 use Rattle.guard_reader.specs.declared.lexemes.Sign.{Sign}
-use Rattle.guard_reader.specs.declared.lexemes.Place.{Place}
-use Rattle.guard_reader.specs.declared.lexemes.Place.TheVariants.{At, Missing}
 
 -- `next` is the first place from `at` on that has no space
 pub record Skipped (text : List ℕ) (at next : ℕ) : Type 0 where
@@ -28,9 +24,9 @@ pub record MarkAt (text : List ℕ) (at mark next : ℕ) : Type 0 where
   pub onward : at < next
   pub inside : next ≤ length text
 
-abbrev pub FindsMark : List ℕ → ℕ → ℕ → Place → Type 0
-FindsMark text at mark (At next) = MarkAt text at mark next
-FindsMark text at mark Missing = marked text at mark ≡ false
+abbrev pub FindsMark : List ℕ → ℕ → ℕ → Option ℕ → Type 0
+FindsMark text at mark (Some next) = MarkAt text at mark next
+FindsMark text at mark None = marked text at mark ≡ false
 
 -- a number that was read, and the place behind it
 pub record ReadNumber (text : List ℕ) (at most : ℕ) (m : Out (Read ℕ)) (n next : ℕ) : Type 0 where
@@ -40,9 +36,9 @@ pub record ReadNumber (text : List ℕ) (at most : ℕ) (m : Out (Read ℕ)) (n 
   pub onward : at ≤ next
   pub inside : next ≤ length text
 
-abbrev pub ReadsNumber : List ℕ → ℕ → ℕ → Out (Read ℕ) → Numeral → Type 0
-ReadsNumber text at most m (Value n next) = ReadNumber text at most m n next
-ReadsNumber text at most m Outside = m ≡ outside
+abbrev pub ReadsNumber : List ℕ → ℕ → ℕ → Out (Read ℕ) → Option (ℕ × ℕ) → Type 0
+ReadsNumber text at most m (Some r) = ReadNumber text at most m r.0 r.1
+ReadsNumber text at most m None = m ≡ outside
 
 -- codes 3 to 7, 16 to 18, 20 and 21
 abbrev pub binary_code : Binary → ℕ
@@ -51,12 +47,12 @@ binary_code (comparison o) = comparison_code o
 binary_code both = 20
 binary_code either = 21
 
--- an operator of so many bytes that begins at a place, or none, whose level is above all
+-- an operator of so many bytes that begins at a place, or none
 pub record IsSign (o : Binary) (n at : ℕ) (s : Sign) : Type 0 where
   pub code : s.code ≡ binary_code o
   pub level : s.level ≡ binary_level o
   pub next : s.next ≡ at + n
 
-abbrev pub SignIs : Option (Binary × ℕ) → ℕ → Sign → Type 0
-SignIs none at s = s.level ≡ 255
-SignIs (some x) at s = IsSign x.0 x.1 at s
+abbrev pub SignIs : Opt.Option (Binary × ℕ) → ℕ → Option Sign → Type 0
+SignIs Opt.none at r = r ≡ None
+SignIs (Opt.some x) at r = (s : Sign) × (r ≡ Some s) × IsSign x.0 x.1 at s

@@ -11,10 +11,6 @@ use Rattle.guards.specs.Lists.{list_refusal, tree_of}
 use Rattle.guards.specs.Calls.{written_line}
 use Rattle.guard_writer.specs.Operands.{operand_tree}
 
--- more than the line of any accepted list has
-abbrev pub no_tree : ℕ
-no_tree = 65536
-
 unfoldable pub total : (ℕ → ℕ) → List ℕ → ℕ
 total f [] = 0
 total f (x ∷ xs) = f x + total f xs
@@ -27,20 +23,20 @@ module _ (node : ℕ → Node) where
   abbrev pub text_length : ℕ → ℕ
   text_length n = length (text_of (tree_of node n))
 
-  -- what operand a of node n takes beyond its own text, in a place that takes levels up to k; so many bytes that it is no such operand say so
+  -- what operand a of node n takes beyond its own text, in a place that takes levels up to k
   pub record Around (n k a : ℕ) (sort : Sort) (bytes : ℕ) : Type 0 where
-    pub few : bytes ≤ no_tree
+    pub few : bytes ≤ 2
     pub enough : length (text_in k (operand_tree node n a)) ≤ bytes + cut text_length n a
-    pub fits : bytes < no_tree → operand_fits node n (a, sort) ≡ true
+    pub fits : operand_fits node n (a, sort) ≡ true
 
   -- what node n takes beyond the texts of its operands
   pub record Own (n bytes : ℕ) : Type 0 where
-    pub few : bytes ≤ 4 * no_tree
+    pub few : bytes ≤ 11
     pub enough : text_length n ≤ bytes + total (cut text_length n) (operand_numbers (node n))
 
   -- the same of the first nodes together
   pub record OwnAll (size bytes : ℕ) : Type 0 where
-    pub few : bytes ≤ 4 * no_tree * size
+    pub few : bytes ≤ 11 * size
     pub enough : (b : ℕ) → size ≤ suc b → total text_length (upto size) ≤ bytes + total (cut text_length b) (all_operands node size)
 
   -- node n by itself passes the tests of a list

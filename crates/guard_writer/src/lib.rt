@@ -10,44 +10,31 @@ pub mod measures;
 pub mod operators;
 pub mod trees;
 
-use lists::{Listed, list_refusal};
-use measures::{NO_TREE, tree_bytes};
+use lists::list_refusal;
+use measures::tree_bytes;
 use records::refusals::Refusal;
 use trees::put_tree;
 
-// The length of the line, or why there is none.
-#[derive(Clone, Copy)]
-pub enum Written {
-    Line(usize),
-    Refused(Refusal),
-}
-
 // Tests the list anew, for its refusal, and counts the line, over a buffer of one byte.
-fn write_counted(nodes: &[u8], text: &mut [u8]) -> Written
+fn write_counted(nodes: &[u8], text: &mut [u8]) -> Result<usize, Refusal>
     ensures { written_of result text.new ≡ write_guard nodes.now text.old }
 {
-    let listed = list_refusal(nodes);
-    match listed {
-        Listed::Refused(w) => Written::Refused(w),
-        Listed::Tree(root) => {
-            let mut counted = [0u8; 1];
-            let size = put_tree(nodes, root, &mut counted, 0);
-            if text.len() < size {
-                return Written::Refused(Refusal::ShortSpace);
-            }
-            Written::Line(put_tree(nodes, root, text, 0))
-        }
+    let root = list_refusal(nodes)?;
+    let mut counted = [0u8; 1];
+    let size = put_tree(nodes, root, &mut counted, 0);
+    if text.len() < size {
+        return Err(Refusal::ShortSpace);
     }
+    Ok(put_tree(nodes, root, text, 0))
 }
 
-// At once where the list is one tree and its line has room.
-pub fn write_guard(nodes: &[u8], text: &mut [u8]) -> Written
+// The length of the line. At once where the list is one tree and its line has room.
+pub fn write_guard(nodes: &[u8], text: &mut [u8]) -> Result<usize, Refusal>
     ensures { written_of result text.new ≡ write_guard nodes.now text.old }
 {
-    let bytes = tree_bytes(nodes);
-    if bytes < NO_TREE {
+    if let Some(bytes) = tree_bytes(nodes) {
         if bytes <= text.len() {
-            return Written::Line(put_tree(nodes, (nodes.len() / 16 - 1) as u16, text, 0));
+            return Ok(put_tree(nodes, (nodes.len() / 16 - 1) as u16, text, 0));
         }
     }
     write_counted(nodes, text)

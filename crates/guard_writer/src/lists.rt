@@ -2,35 +2,21 @@
 ghost use Rattle.std.specs.Prelude.{◌≡◌, cond, suc, ◌≤◌, ◌/◌, eqb, length, get_or, replicate};
 ghost use Rattle.prelude.specs.Lists.{all, upto};
 ghost use Rattle.expressions.specs.Nodes.{node_at};
+ghost use Rattle.expressions.specs.Sorts.{operands_fit};
 ghost use Rattle.expressions.specs.Uses.{all_operands, add_uses};
-ghost use Rattle.expressions.specs.Verdicts.{verdict_of};
-ghost use Rattle.model.specs.Limits.{most_nodes, most_variables};
+ghost use Rattle.model.specs.Limits.{most_nodes};
 ghost use Rattle.guards.specs.Lists.{is_known, is_one_tree};
 ghost use Rattle.guard_writer.specs.Answers.{IsListed};
 
-use expressions::sorts::{is_number, is_truth, says_fit, says_named, test_nodes};
+use expressions::sorts::{is_number, is_truth, test_nodes};
 use records::refusals::Refusal;
 use records::sizes::{NODES, VARIABLES};
-
-// The number of the root, or why the list is no guard.
-#[derive(Clone, Copy)]
-pub enum Listed {
-    Tree(u16),
-    Refused(Refusal),
-}
 
 // 5
 fn all_known(nodes: &[u8], size: u16) -> bool
     ensures { result ≡ all (is_known (node_at nodes.now) size) (upto size) }
 {
-    let mut n = 0;
-    while n < size {
-        if !(is_number(nodes, n) | is_truth(nodes, n)) {
-            return false;
-        }
-        n += 1;
-    }
-    true
+    (0..size).all(|n| is_number(nodes, n) | is_truth(nodes, n))
 }
 
 // How often node k of `size` is to be used: the last not at all, the others once.
@@ -45,45 +31,39 @@ fn all_due(uses: &[u8], size: u16) -> bool
     requires { size ≤ length uses.now }
     ensures { result ≡ all (λ k. eqb (get_or uses.now k 0) (cond (eqb (suc k) size) 0 1)) (upto size) }
 {
-    let mut k: u16 = 0;
-    while k < size {
-        if uses[k as usize] != due(k, size) {
-            return false;
-        }
-        k += 1;
-    }
-    true
+    (0..size).all(|k| uses[k as usize] == due(k, size))
 }
 
-// 8, by what `test_nodes` found of the nodes.
-pub fn one_tree(nodes: &[u8], size: u16, found: u8, uses: &[u8]) -> bool
-    requires { (size ≤ most_nodes) × (found ≡ verdict_of (node_at nodes.now) size most_variables) × (uses.now ≡ add_uses (replicate most_nodes 0) (all_operands (node_at nodes.now) size)) }
+// 8, by what `test_nodes` told of the operands.
+pub fn one_tree(nodes: &[u8], size: u16, fit: bool, uses: &[u8]) -> bool
+    requires { (size ≤ most_nodes) × (fit ≡ operands_fit (node_at nodes.now) size) × (uses.now ≡ add_uses (replicate most_nodes 0) (all_operands (node_at nodes.now) size)) }
     ensures { result ≡ is_one_tree (node_at nodes.now) size }
 {
     if size == 0 {
         return false;
     }
-    says_fit(found) & is_truth(nodes, size - 1) & all_due(uses, size)
+    fit & is_truth(nodes, size - 1) & all_due(uses, size)
 }
 
-pub fn list_refusal(nodes: &[u8]) -> Listed
+// The number of the root.
+pub fn list_refusal(nodes: &[u8]) -> Result<u16, Refusal>
     ensures { IsListed nodes.now result }
 {
     let whole = nodes.len() / 16;
     if NODES < whole {
-        return Listed::Refused(Refusal::WrongAmounts);
+        return Err(Refusal::WrongAmounts);
     }
     let size = whole as u16;
     if !all_known(nodes, size) {
-        return Listed::Refused(Refusal::BrokenCode);
+        return Err(Refusal::BrokenCode);
     }
     let mut uses = [0u8; NODES];
     let found = test_nodes(nodes, size, VARIABLES as u16, &mut uses);
-    if !says_named(found) {
-        return Listed::Refused(Refusal::DanglingNumber);
+    if !found.named {
+        return Err(Refusal::DanglingNumber);
     }
-    if !one_tree(nodes, size, found, &uses) {
-        return Listed::Refused(Refusal::BrokenNode);
+    if !one_tree(nodes, size, found.fit, &uses) {
+        return Err(Refusal::BrokenNode);
     }
-    Listed::Tree(size - 1)
+    Ok(size - 1)
 }

@@ -1,5 +1,5 @@
-// Whether a list is one tree, and how many bytes are enough for its line, in one pass and without the tree. What is no tree is not told apart here.
-ghost use Rattle.std.specs.Prelude.{◌≡◌, cond, ◌&&◌, ℕ, ◌*◌, ◌≤◌, ◌<◌, leb, length};
+// How many bytes are enough for the line of a list that is one tree, in one pass and without the tree. Why a list is no tree is not told here.
+ghost use Rattle.std.specs.Prelude.{◌≡◌, cond, ◌&&◌, ℕ, ◌*◌, ◌≤◌, ◌<◌, leb, length, IfSome};
 ghost use Rattle.model.specs.Replay.{decimal};
 ghost use Rattle.expressions.specs.Nodes.{node_at};
 ghost use Rattle.expressions.specs.Sorts.{a_truth, a_number};
@@ -8,7 +8,7 @@ ghost use Rattle.guards.specs.Trees.{constant, level as levelOf};
 ghost use Rattle.guards.specs.Texts.{sign, text_of};
 ghost use Rattle.guards.specs.Lists.{tree_of};
 ghost use Rattle.guard_writer.specs.Codes.{code_binary};
-ghost use Rattle.guard_writer.specs.Measures.{no_tree, Around, Own, OwnAll, Passes, Fits};
+ghost use Rattle.guard_writer.specs.Measures.{Around, Own, OwnAll, Passes, Fits};
 
 use super::lists::one_tree;
 use super::operators::{level, second_byte};
@@ -16,9 +16,6 @@ use expressions::nodes::fields_at;
 use expressions::sorts::add_use;
 use records::sizes::NODES;
 use records::{byte_at, i32_at, u16_at, unsigned32};
-
-// More bytes than any line has.
-pub const NO_TREE: usize = 65536;
 
 fn digits(n: u32) -> usize
     ensures { (result ≤ 10) × (length (decimal n) ≤ result) }
@@ -65,23 +62,23 @@ fn constant_bytes(z: i32) -> usize
 }
 
 // A variable past the last, and an unknown operator, are no part of a tree.
-fn leaf_bytes(nodes: &[u8], n: u16) -> usize
+fn leaf_bytes(nodes: &[u8], n: u16) -> Option<usize>
     requires { levelOf (tree_of (node_at nodes.now) n) ≡ 0 }
-    ensures { Own (node_at nodes.now) n result × (result < no_tree → Passes (node_at nodes.now) n) }
+    ensures { IfSome result (λ b. Own (node_at nodes.now) n b × Passes (node_at nodes.now) n) }
 {
     let place = 16 * (n as usize);
     let code = byte_at(nodes, place + 1);
     if code == 2 {
         let v = u16_at(nodes, place + 2);
         if 63 < v {
-            return NO_TREE;
+            return None;
         }
-        return 1 + digits(v as u32);
+        return Some(1 + digits(v as u32));
     }
     if code == 1 {
-        return constant_bytes(i32_at(nodes, place + 8));
+        return Some(constant_bytes(i32_at(nodes, place + 8)));
     }
-    NO_TREE
+    None
 }
 
 fn sign_bytes(code: u8) -> usize
@@ -101,23 +98,23 @@ fn is_sort(code: u8, truth: bool) -> bool
 }
 
 // Operand a of node n, which must be a truth or a number.
-fn operand_bytes(nodes: &[u8], n: u16, k: u8, a: u16, truth: bool) -> usize
+fn operand_bytes(nodes: &[u8], n: u16, k: u8, a: u16, truth: bool) -> Option<usize>
     requires { 16 * n ≤ length nodes.now }
-    ensures { Around (node_at nodes.now) n k a (cond truth a_truth a_number) result }
+    ensures { IfSome result (λ b. Around (node_at nodes.now) n k a (cond truth a_truth a_number) b) }
 {
     if n <= a {
-        return NO_TREE;
+        return None;
     }
     let code = nodes[16 * (a as usize) + 1];
     if !is_sort(code, truth) {
-        return NO_TREE;
+        return None;
     }
-    if level(code) <= k { 0 } else { 2 }
+    Some(if level(code) <= k { 0 } else { 2 })
 }
 
-fn node_bytes(nodes: &[u8], n: u16, uses: &mut [u8]) -> usize
+fn node_bytes(nodes: &[u8], n: u16, uses: &mut [u8]) -> Option<usize>
     requires { 16 * n ≤ length nodes.now }
-    ensures { Own (node_at nodes.now) n result × (result < no_tree → Passes (node_at nodes.now) n) × (uses.new ≡ add_uses uses.old (operand_numbers (node_at nodes.now n))) }
+    ensures { IfSome result (λ b. Own (node_at nodes.now) n b × Passes (node_at nodes.now) n × (uses.new ≡ add_uses uses.old (operand_numbers (node_at nodes.now n)))) }
 {
     let f = fields_at(nodes, n);
     let code = f.code;
@@ -127,56 +124,54 @@ fn node_bytes(nodes: &[u8], n: u16, uses: &mut [u8]) -> usize
     }
     if k == 1 {
         add_use(uses, f.a);
-        return 1 + operand_bytes(nodes, n, 1, f.a, true);
+        return Some(1 + operand_bytes(nodes, n, 1, f.a, true)?);
     }
     if k == 7 {
         add_use(uses, f.a);
         add_use(uses, f.b);
         add_use(uses, f.c);
-        return 2
-            + operand_bytes(nodes, n, 6, f.a, true)
-            + operand_bytes(nodes, n, 7, f.b, false)
-            + operand_bytes(nodes, n, 7, f.c, false);
+        return Some(
+            2 + operand_bytes(nodes, n, 6, f.a, true)?
+                + operand_bytes(nodes, n, 7, f.b, false)?
+                + operand_bytes(nodes, n, 7, f.c, false)?,
+        );
     }
     add_use(uses, f.a);
     add_use(uses, f.b);
     let truths = 19 < code;
-    sign_bytes(code)
-        + operand_bytes(nodes, n, k, f.a, truths)
-        + operand_bytes(nodes, n, k - 1, f.b, truths)
+    Some(
+        sign_bytes(code)
+            + operand_bytes(nodes, n, k, f.a, truths)?
+            + operand_bytes(nodes, n, k - 1, f.b, truths)?,
+    )
 }
 
 // One pass: each node is tested by itself, and its operands are counted as uses.
-fn all_bytes(nodes: &[u8], size: u16, uses: &mut [u8]) -> usize
+fn all_bytes(nodes: &[u8], size: u16, uses: &mut [u8]) -> Option<usize>
     requires { 16 * size ≤ length nodes.now }
-    ensures { OwnAll (node_at nodes.now) size result × (result < no_tree → (n : ℕ) → n < size → Passes (node_at nodes.now) n) × (uses.new ≡ add_uses uses.old (all_operands (node_at nodes.now) size)) }
+    ensures { IfSome result (λ b. OwnAll (node_at nodes.now) size b × ((n : ℕ) → n < size → Passes (node_at nodes.now) n) × (uses.new ≡ add_uses uses.old (all_operands (node_at nodes.now) size))) }
 {
     let mut bytes: usize = 0;
-    let mut n: u16 = 0;
-    while n < size {
-        bytes += node_bytes(nodes, n, uses);
-        n += 1;
+    for n in 0..size {
+        bytes += node_bytes(nodes, n, uses)?;
     }
-    bytes
+    Some(bytes)
 }
 
-// Bytes that are enough for the line of a list that is one tree; else NO_TREE.
-pub fn tree_bytes(nodes: &[u8]) -> usize
-    ensures { result < no_tree → Fits nodes.now result }
+// Bytes that are enough for the line of a list that is one tree.
+pub fn tree_bytes(nodes: &[u8]) -> Option<usize>
+    ensures { IfSome result (λ b. Fits nodes.now b) }
 {
     let whole = nodes.len() / 16;
     if NODES < whole {
-        return NO_TREE;
+        return None;
     }
     let size = whole as u16;
     let mut uses = [0u8; NODES];
-    let bytes = all_bytes(nodes, size, &mut uses);
-    if NO_TREE <= bytes {
-        return NO_TREE;
-    }
-    if one_tree(nodes, size, 3, &uses) {
-        bytes
+    let bytes = all_bytes(nodes, size, &mut uses)?;
+    if one_tree(nodes, size, true, &uses) {
+        Some(bytes)
     } else {
-        NO_TREE
+        None
     }
 }

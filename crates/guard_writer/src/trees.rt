@@ -85,7 +85,7 @@ fn put_leaf(nodes: &[u8], n: u16, out: &mut [u8], at: usize) -> usize
 }
 
 // Operand a of node n, in a place that takes levels up to k; one that is not lower is 0. `nodes` is lent anew to each call, which keeps it in registers.
-#[cycle(put_binary_put_choice_put_negation_put_node_put_operand)]
+#[cycle(tree)]
 fn put_operand(nodes: &[u8], n: u16, k: u8, a: u16, out: &mut [u8], at: usize) -> usize
     requires { Near at (text_in k (operand_tree (node_at nodes.now) n a)) }
     ensures { Wrote out.old at (text_in k (operand_tree (node_at nodes.now) n a)) out.new result }
@@ -116,7 +116,7 @@ fn is_negation(nodes: &[u8], n: u16, a: u16) -> bool
 }
 
 // Negations alone nest in as many levels as there are nodes, so that one of another takes no frames of `put_node` and `put_operand`.
-#[cycle(put_binary_put_choice_put_negation_put_node_put_operand)]
+#[cycle(tree)]
 fn put_negation(nodes: &[u8], n: u16, a: u16, out: &mut [u8], at: usize) -> usize
     requires { Near at (text_of (negation (operand_tree (node_at nodes.now) n a))) }
     ensures { Wrote out.old at (text_of (negation (operand_tree (node_at nodes.now) n a))) out.new result }
@@ -129,7 +129,7 @@ fn put_negation(nodes: &[u8], n: u16, a: u16, out: &mut [u8], at: usize) -> usiz
 }
 
 // Equal levels group to the left, so the right operand binds tighter than its operator.
-#[cycle(put_binary_put_choice_put_negation_put_node_put_operand)]
+#[cycle(tree)]
 fn put_binary(
     nodes: &[u8],
     n: u16,
@@ -149,7 +149,7 @@ fn put_binary(
 }
 
 // A choice stands bare between `?` and `:`, and behind it.
-#[cycle(put_binary_put_choice_put_negation_put_node_put_operand)]
+#[cycle(tree)]
 fn put_choice(nodes: &[u8], n: u16, t: u16, a: u16, b: u16, out: &mut [u8], at: usize) -> usize
     requires { Near at (text_of (choice (operand_tree (node_at nodes.now) n t) (operand_tree (node_at nodes.now) n a) (operand_tree (node_at nodes.now) n b))) }
     ensures { Wrote out.old at (text_of (choice (operand_tree (node_at nodes.now) n t) (operand_tree (node_at nodes.now) n a) (operand_tree (node_at nodes.now) n b))) out.new result }
@@ -162,7 +162,7 @@ fn put_choice(nodes: &[u8], n: u16, t: u16, a: u16, b: u16, out: &mut [u8], at: 
 }
 
 // A node that has an operator, of level k: 1 a negation, 7 a choice, and between them two operands.
-#[cycle(put_binary_put_choice_put_negation_put_node_put_operand)]
+#[cycle(tree)]
 fn put_node(nodes: &[u8], n: u16, k: u8, out: &mut [u8], at: usize) -> usize
     requires { (k ≡ levelOf (tree_of (node_at nodes.now) n)) × (1 ≤ k) × Near at (text_of (tree_of (node_at nodes.now) n)) }
     ensures { Wrote out.old at (text_of (tree_of (node_at nodes.now) n)) out.new result }

@@ -1,15 +1,13 @@
 -- The text of one replay line, and of the turns of any machine. Assumes nothing: these are definitions.
-use Rattle.std.specs.Prelude.{List, [], ◌∷◌, ◌++◌, ℕ, ◌-◌, length, get_or, take, ℤ}
+use Rattle.std.specs.Prelude.{Option, Some, None, List, [], ◌∷◌, ◌++◌, ℕ, ◌-◌, length, get_or, take, ℤ}
 use Rattle.prelude.specs.Lists.{gather}
 use Rattle.model.specs.Runs.{Run, Machine, Answer, taken, idle, time, Trace, done, stopped, turned}
 use Rattle.model.specs.Replay.{decimal, signed_decimal, chosen, space, feed}
-use Rattle.lines.specs.declared.Chosen.{Chosen}
-use Rattle.lines.specs.declared.Chosen.TheVariants.{Taken, Idle}
 
 -- a part's turn takes a transition or an edge, or idles; time has no line
-abbrev pub chosen_of : Chosen → Answer
-chosen_of (Taken t) = taken t
-chosen_of Idle = idle
+abbrev pub chosen_of : Option ℕ → Answer
+chosen_of (Some t) = taken t
+chosen_of None = idle
 
 abbrev pub variables_text : List ℤ → List ℕ
 variables_text vs = gather (λ v. space ∷ signed_decimal v) vs

@@ -8,12 +8,6 @@ ghost use Rattle.lines.specs.Text.{chosen_of, head_text, variables_text, line_te
 
 use records::put_byte;
 
-#[derive(Clone, Copy)]
-pub enum Chosen {
-    Taken(u16),
-    Idle,
-}
-
 // Answers the place behind what it wrote, as all of these do.
 fn put_char(out: &mut [u8], at: usize, b: u8) -> usize
     requires { at < 2 ^ 63 }
@@ -27,12 +21,10 @@ pub fn put_text(out: &mut [u8], at: usize, text: &[u8]) -> usize
     requires { at + length text.now < 2 ^ 62 }
     ensures { Wrote out.old at text.now out.new result }
 {
-    let mut i: usize = 0;
-    while i < text.len() {
-        put_byte(out, at + i, text[i]);
-        i += 1;
+    for (i, b) in text.iter().enumerate() {
+        put_byte(out, at + i, *b);
     }
-    at + i
+    at + text.len()
 }
 
 // The higher digits stand first.
@@ -40,7 +32,7 @@ pub fn put_decimal(out: &mut [u8], at: usize, n: u32) -> usize
     requires { at < 2 ^ 62 }
     ensures { Wrote out.old at (decimal n) out.new result }
 {
-    let units = 48 + ((n % 10) as u8);
+    let units = b'0' + ((n % 10) as u8);
     if n < 10 {
         put_char(out, at, units)
     } else {
@@ -55,20 +47,21 @@ pub fn put_signed(out: &mut [u8], at: usize, z: i16) -> usize
     ensures { Wrote out.old at (signed_decimal z) out.new result }
 {
     if z < 0 {
-        let next = put_char(out, at, 45);
+        let next = put_char(out, at, b'-');
         put_decimal(out, next, (!z as u32) + 1)
     } else {
         put_decimal(out, at, z as u32)
     }
 }
 
-fn put_chosen(out: &mut [u8], at: usize, chosen: Chosen) -> usize
+// What a chart or automaton took; one that idles takes nothing.
+fn put_chosen(out: &mut [u8], at: usize, chosen: Option<u16>) -> usize
     requires { at < 2 ^ 61 }
     ensures { Wrote out.old at (chosenText (chosen_of chosen)) out.new result × (result ≤ at + 5) }
 {
     match chosen {
-        Chosen::Taken(t) => put_decimal(out, at, t as u32),
-        Chosen::Idle => put_char(out, at, 45),
+        Some(t) => put_decimal(out, at, t as u32),
+        None => put_char(out, at, b'-'),
     }
 }
 
@@ -77,7 +70,7 @@ fn put_field(out: &mut [u8], at: usize, n: u32) -> usize
     requires { at < 2 ^ 61 }
     ensures { Wrote out.old at (space ∷ decimal n) out.new result }
 {
-    let next = put_char(out, at, 32);
+    let next = put_char(out, at, b' ');
     put_decimal(out, next, n)
 }
 
@@ -85,12 +78,7 @@ fn put_field(out: &mut [u8], at: usize, n: u32) -> usize
 fn shown(variables: &[i16], count: u16) -> usize
     ensures { (result ≤ length variables.now) × (result ≤ count) × (take result variables.now ≡ take count variables.now) }
 {
-    let n = count as usize;
-    if n < variables.len() {
-        n
-    } else {
-        variables.len()
-    }
+    variables.len().min(count as usize)
 }
 
 // Each variable after its space, in 7 bytes at most.
@@ -98,25 +86,22 @@ fn put_variables(out: &mut [u8], at: usize, variables: &[i16], count: u16) -> us
     requires { at < 2 ^ 60 }
     ensures { Wrote out.old at (variables_text (take count variables.now)) out.new result × (result ≤ at + 7 * count) }
 {
-    let n = shown(variables, count);
     let mut next = at;
-    let mut v: usize = 0;
-    while v < n {
-        let spaced = put_char(out, next, 32);
-        next = put_signed(out, spaced, variables[v]);
-        v += 1;
+    for v in &variables[..shown(variables, count)] {
+        let spaced = put_char(out, next, b' ');
+        next = put_signed(out, spaced, *v);
     }
     next
 }
 
 // What stands before the variables, in 33 bytes at most.
-fn put_head(out: &mut [u8], at: usize, cycle: u32, chart: u32, chosen: Chosen, state: u16) -> usize
+fn put_head(out: &mut [u8], at: usize, cycle: u32, chart: u32, chosen: Option<u16>, state: u16) -> usize
     requires { at < 2 ^ 59 }
     ensures { Wrote out.old at (head_text cycle chart (chosen_of chosen) state) out.new result × (result ≤ at + 33) }
 {
     let chart_at = put_decimal(out, at, cycle);
     let space_at = put_field(out, chart_at, chart);
-    let chosen_at = put_char(out, space_at, 32);
+    let chosen_at = put_char(out, space_at, b' ');
     let state_at = put_chosen(out, chosen_at, chosen);
     put_field(out, state_at, state as u32)
 }
@@ -127,7 +112,7 @@ pub fn put_bounded_line(
     at: usize,
     cycle: u32,
     chart: u32,
-    chosen: Chosen,
+    chosen: Option<u16>,
     state: u16,
     variables: &[i16],
     count: u16,
@@ -137,7 +122,7 @@ pub fn put_bounded_line(
 {
     let variables_at = put_head(out, at, cycle, chart, chosen, state);
     let feed_at = put_variables(out, variables_at, variables, count);
-    put_char(out, feed_at, 10)
+    put_char(out, feed_at, b'\n')
 }
 
 // A line from `at` on.
@@ -146,7 +131,7 @@ pub fn put_line(
     at: usize,
     cycle: u32,
     chart: u32,
-    chosen: Chosen,
+    chosen: Option<u16>,
     state: u16,
     variables: &[i16],
     count: u16,
@@ -162,7 +147,7 @@ pub fn line_into(
     out: &mut [u8],
     cycle: u32,
     chart: u32,
-    chosen: Chosen,
+    chosen: Option<u16>,
     state: u16,
     variables: &[i16],
     count: u16,

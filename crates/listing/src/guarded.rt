@@ -8,12 +8,12 @@ ghost use Rattle.listing_parts.specs.Parts.{WroteNear};
 ghost use Rattle.listing.specs.Guards.{guard_of, guarded_text, longest_guard, line_room, beside_text, alone_text, Short};
 ghost use Rattle.listing.specs.Listing.{guard_text};
 
-use chart_records::fields::{Guard, guard_by, guard_by_plus_one};
+use chart_records::fields::{guard_by, guard_by_plus_one};
 use guard_writer::trees::put_tree;
 use listing_parts::texts::{put_named, put_word};
 use records::{byte_at, u16_at};
 
-fn guard_of(r: &[u8]) -> Guard
+fn guard_of(r: &[u8]) -> Option<u16>
     ensures { guard_for result ≡ guard_of r.now }
 {
     match byte_at(r, 0) {
@@ -21,7 +21,7 @@ fn guard_of(r: &[u8]) -> Guard
         6 => guard_by_plus_one(u16_at(r, 8)),
         36 => guard_by(u16_at(r, 8)),
         40 => guard_by_plus_one(u16_at(r, 8)),
-        _ => Guard::Free,
+        _ => None,
     }
 }
 
@@ -31,8 +31,8 @@ pub fn put_beside(out: &mut [u8], at: usize, nodes: &[u8], r: &[u8]) -> usize
     ensures { WroteNear (longest_guard + 3) out.old at (beside_text (node_at nodes.now) (guard_of r.now)) out.new result }
 {
     match guard_of(r) {
-        Guard::Free => at,
-        Guard::Node(g) => {
+        None => at,
+        Some(g) => {
             let line = put_word(out, at, b" (");
             let behind = put_tree(nodes, g, out, line);
             put_word(out, behind, b")")
@@ -69,7 +69,7 @@ pub fn put_alone(out: &mut [u8], nodes: &[u8], i: u32, r: &[u8]) -> usize
     ensures { Begins out.old (guard_text (node_at nodes.now) i r.now) out.new result × (result ≤ line_room) }
 {
     match guard_of(r) {
-        Guard::Free => 0,
-        Guard::Node(g) => put_guard_line(out, nodes, i, r, g),
+        None => 0,
+        Some(g) => put_guard_line(out, nodes, i, r, g),
     }
 }

@@ -8,7 +8,7 @@ ghost use Rattle.chart_records.specs.Parts.{deed_for};
 ghost use Rattle.listing_parts.specs.Parts.{WroteNear, guard_text, deed_text, condition_text, action_text, variable_text, operands_text, arithmetic_text, comparison_text, operator_text, node_text};
 
 use super::texts::{put_named, put_signed, put_word};
-use chart_records::fields::{Deed, Guard, guard_by, guard_by_plus_one};
+use chart_records::fields::{Deed, guard_by, guard_by_plus_one};
 use expressions::nodes::{Node, Operator, Relation, node_at};
 use records::{byte_at, u16_at, unsigned32};
 
@@ -29,8 +29,8 @@ pub fn put_guard(out: &mut [u8], at: usize, node: u16) -> usize
     ensures { WroteNear 32 out.old at (guard_text (read_guard node)) out.new result }
 {
     match guard_by(node) {
-        Guard::Free => put_word(out, at, b", no guard"),
-        Guard::Node(n) => put_named(out, at, b", guard node ", n as u32),
+        None => put_word(out, at, b", no guard"),
+        Some(n) => put_named(out, at, b", guard node ", n as u32),
     }
 }
 
@@ -52,8 +52,8 @@ fn put_condition(out: &mut [u8], at: usize, guard: u16) -> usize
     ensures { WroteNear 32 out.old at (condition_text (read_plus_one guard)) out.new result }
 {
     match guard_by_plus_one(guard) {
-        Guard::Free => at,
-        Guard::Node(n) => put_named(out, at, b", guard node ", n as u32),
+        None => at,
+        Some(n) => put_named(out, at, b", guard node ", n as u32),
     }
 }
 

@@ -8,7 +8,7 @@ use Rattle.guard_reader.proofs.PartTrees.{tree-positive, tree-few, tree-packs}
 use Rattle.guard_reader.proofs.PackedParts.{parsed_of-zero}
 use Rattle.guard_reader.proofs.GrammarSteps.{sign-found}
 use Rattle.guard_reader.proofs.Readings.{enclosed-outside, enclosed-open, enclosed-read, negated-outside, negated-read, leaf-read, first-outside, first_read, level-ends, right-outside, right-read, bare-outside, bare-read, second-outside, colon-missing, third-outside, third-read}
-use Rattle.guard_reader.proofs.rules.+binary_choice_operand.Goals as goal
+use Rattle.guard_reader.proofs.rules.+rules.Goals as goal
 
 pub binary-returns-in_default : goal.binary-returns-in_default
 binary-returns-in_default t c =

@@ -1,6 +1,6 @@
 -- Each member's measure comes from its node: an operand's is below it, and a member that writes operands of node n stands between node n and its operands.
 use Rattle.std.proofs.Common.{◌*◌, ◌+◌}
-use Rattle.guard_writer.proofs.trees.+put_binary_put_choice_put_negation_put_node_put_operand.Given as goal
+use Rattle.guard_writer.proofs.trees.+tree.Given as goal
 
 abbrev pub decreases-put_binary : goal.decreases-put_binary
 decreases-put_binary l = 3 * l.n + 1

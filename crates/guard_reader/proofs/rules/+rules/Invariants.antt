@@ -4,7 +4,7 @@ use mathlib.Core.List.{List}
 use Prim.Native.Nat.{ℕ, ◌+◌, ◌-◌, ◌*◌}
 use lib.ListN.{length}
 use Rattle.guard_reader.proofs.Readings.{Reading}
-use Rattle.guard_reader.proofs.rules.+binary_choice_operand.Given as goal
+use Rattle.guard_reader.proofs.rules.+rules.Given as goal
 
 abbrev pub decreases-operand : goal.decreases-operand
 decreases-operand l = 3 * (length l.text.now - l.at)

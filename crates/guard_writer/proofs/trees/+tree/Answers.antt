@@ -9,7 +9,7 @@ use Rattle.guard_writer.specs.Operands.{operand_tree}
 use Rattle.guard_writer.proofs.Texts.{near-left, near-then, near-as, wrote_as, level-most, anywhere, zero-text}
 use Rattle.guard_writer.proofs.Rules.{no_operand, enclosed-operand}
 use Rattle.guard_writer.proofs.Codes.{node-by-level, negated-operand}
-use Rattle.guard_writer.proofs.trees.+put_binary_put_choice_put_negation_put_node_put_operand.Goals as goal
+use Rattle.guard_writer.proofs.trees.+tree.Goals as goal
 
 pub put_binary-put_operand-sign_at-requires : goal.put_binary-put_operand-sign_at-requires
 unfolding text_of
