@@ -24,15 +24,15 @@ fn print_table(rt: &impl Host, shape: automata_records::Shape) {
 
 fn check_set(rt: &impl Host, s: &[u8]) {
     match chart_files::check(s) {
-        chart_files::Checked::Refused(w) => tell_set(rt, s, w),
-        chart_files::Checked::Accepted(shape) => print_set(rt, shape),
+        Err(w) => tell_set(rt, s, w),
+        Ok(shape) => print_set(rt, shape),
     }
 }
 
 fn check_table(rt: &impl Host, s: &[u8]) {
     match automata_files::check(s) {
-        automata_files::Checked::Refused(_) => tell_table(rt, s),
-        automata_files::Checked::Accepted(shape) => print_table(rt, shape),
+        Err(_) => tell_table(rt, s),
+        Ok(shape) => print_table(rt, shape),
     }
 }
 
@@ -46,11 +46,9 @@ fn check_bytes(rt: &impl Host, s: &[u8]) {
 
 fn check_named(rt: &impl Host, name: &[u8]) {
     let mut file = [0u8; FILE_ROOM];
-    let got = read_file(rt, name, &mut file, Form::Either);
-    if got.failed {
-        return;
-    }
-    let size = got.size;
+    let Some(size) = read_file(rt, name, &mut file, Form::Either) else {
+        return
+    };
     check_bytes(rt, &file[..size]);
 }
 
@@ -64,10 +62,8 @@ fn main(rt: HostRuntime) {
         return;
     }
     let mut name = [0u8; NAME_ROOM];
-    let got = argument(&rt, 1, &mut name);
-    if got.failed {
-        return;
-    }
-    let size = got.size;
+    let Some(size) = argument(&rt, 1, &mut name) else {
+        return
+    };
     check_named(&rt, &name[..size]);
 }

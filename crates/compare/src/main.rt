@@ -9,19 +9,13 @@ ghost use Rattle.compare.specs.Masks.{masks_in};
 use messages::files::refuse_set;
 use messages::host::Host;
 use messages::input::{Form, NAME_ROOM, argument, arguments, fill, read_file};
-use messages::words::{print, tell_failed};
+use messages::words::{or_tell, print};
 use records::sizes::{FILE_ROOM, LONGEST_TABLE};
 use twins::Verdict;
 
 // Whether it was written; else that is told.
 fn print_number(rt: &impl Host, n: usize) -> bool {
-    match rt.print(n) {
-        Ok(()) => true,
-        Err(why) => {
-            tell_failed(rt, b"standard output", why);
-            false
-        }
-    }
+    or_tell(rt, b"standard output", rt.print(n)).is_some()
 }
 
 // Whether they were alike: what was compared, and how many calls were made.
@@ -72,16 +66,11 @@ fn put_masks(bytes: &[u8], masks: &mut [u32]) -> usize
     ensures upper_bound { result ≤ length masks.new }
     ensures value { length bytes.now ≤ 4 * length masks.old → result ≡ length bytes.now / 4 }
 {
-    let whole = bytes.len() / 4;
-    let mut i: usize = 0;
-    while i < whole {
-        if masks.len() <= i {
-            return i;
-        }
+    let count = masks.len().min(bytes.len() / 4);
+    for i in 0..count {
         masks[i] = records::u32_at(bytes, 4 * i);
-        i += 1;
     }
-    i
+    count
 }
 
 fn compare_bytes(rt: &impl Host, s: &[u8], bytes: &[u8]) {
@@ -92,22 +81,17 @@ fn compare_bytes(rt: &impl Host, s: &[u8], bytes: &[u8]) {
 
 fn compare_file(rt: &impl Host, s: &[u8]) {
     let mut bytes = [0u8; 262144];
-    let got = fill(&mut rt.reader(), &mut bytes);
-    if let Some(why) = got.error {
-        tell_failed(rt, b"standard input", why);
-        return;
-    }
-    let size = got.size;
+    let Some(size) = or_tell(rt, b"standard input", fill(&mut rt.reader(), &mut bytes)) else {
+        return
+    };
     compare_bytes(rt, s, &bytes[..size]);
 }
 
 fn compare_named(rt: &impl Host, name: &[u8]) {
     let mut file = [0u8; FILE_ROOM];
-    let got = read_file(rt, name, &mut file, Form::Set);
-    if got.failed {
-        return;
-    }
-    let size = got.size;
+    let Some(size) = read_file(rt, name, &mut file, Form::Set) else {
+        return
+    };
     compare_file(rt, &file[..size]);
 }
 
@@ -121,10 +105,8 @@ fn main(rt: HostRuntime) {
         return;
     }
     let mut name = [0u8; NAME_ROOM];
-    let got = argument(&rt, 1, &mut name);
-    if got.failed {
-        return;
-    }
-    let size = got.size;
+    let Some(size) = argument(&rt, 1, &mut name) else {
+        return
+    };
     compare_named(&rt, &name[..size]);
 }

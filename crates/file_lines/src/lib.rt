@@ -46,17 +46,12 @@ fn print_records(rt: &impl Host, wanted: Wanted, s: &[u8], nodes: &[u8])
     requires { HasNodes s.now nodes.now }
 {
     let mut counts = [0u32; 256];
-    let mut n: usize = 0;
-    while n < TABLE_RECORDS {
-        if s.len() / 16 <= n {
-            return;
-        }
+    for n in 0..TABLE_RECORDS.min(s.len() / 16) {
         let kind = s[16 * n] as usize;
         if !print_record(rt, wanted, s, nodes, n, counts[kind]) {
             return;
         }
         counts[kind] += 1;
-        n += 1;
     }
 }
 
@@ -64,8 +59,8 @@ fn show_set(rt: &impl Host, wanted: Wanted, s: &[u8])
     requires { leb 33 (byte s.now 0) ≡ false }
 {
     match chart_files::check(s) {
-        chart_files::Checked::Refused(w) => tell_set(rt, s, w),
-        chart_files::Checked::Accepted(shape) => {
+        Err(w) => tell_set(rt, s, w),
+        Ok(shape) => {
             let nodes = chart_records::fields::node_records(s, shape);
             print_records(rt, wanted, s, nodes);
         }
@@ -76,8 +71,8 @@ fn show_table(rt: &impl Host, wanted: Wanted, s: &[u8])
     requires { leb 33 (byte s.now 0) ≡ true }
 {
     match automata_files::check(s) {
-        automata_files::Checked::Refused(_) => tell_table(rt, s),
-        automata_files::Checked::Accepted(shape) => {
+        Err(_) => tell_table(rt, s),
+        Ok(shape) => {
             let nodes = automata_records::fields::node_records(s, shape);
             print_records(rt, wanted, s, nodes);
         }
@@ -95,10 +90,8 @@ fn show_bytes(rt: &impl Host, wanted: Wanted, s: &[u8]) {
 // A file by its name; - is standard input.
 pub fn show_file(rt: &impl Host, wanted: Wanted, name: &[u8]) {
     let mut file = [0u8; FILE_ROOM];
-    let got = read_file(rt, name, &mut file, Form::Either);
-    if got.failed {
-        return;
-    }
-    let size = got.size;
+    let Some(size) = read_file(rt, name, &mut file, Form::Either) else {
+        return
+    };
     show_bytes(rt, wanted, &file[..size]);
 }

@@ -5,12 +5,11 @@
 ghost use Rattle.std.specs.Prelude.{◌+◌, ◌*◌, ◌≤◌, length};
 
 use file_lines::{Wanted, show_file};
-use guard_reader::{Guard, read_guard};
+use guard_reader::read_guard;
 use listing::node_into;
 use messages::host::Host;
 use messages::input::{NAME_ROOM, argument, argument_count, argument_or_empty};
 use messages::words::{print, tell_refusal};
-use records::byte_at;
 
 // Whether node k went to standard output.
 fn print_node(rt: &impl Host, nodes: &[u8], k: u16) -> bool
@@ -26,12 +25,10 @@ fn print_node(rt: &impl Host, nodes: &[u8], k: u16) -> bool
 fn print_nodes(rt: &impl Host, nodes: &[u8], count: u16)
     requires { 16 * count ≤ length nodes.now }
 {
-    let mut k: u16 = 0;
-    while k < count {
+    for k in 0..count {
         if !print_node(rt, nodes, k) {
             return;
         }
-        k += 1;
     }
 }
 
@@ -39,8 +36,8 @@ fn print_nodes(rt: &impl Host, nodes: &[u8], count: u16)
 fn read_line(rt: &impl Host, text: &[u8]) {
     let mut nodes = [0u8; NAME_ROOM];
     match read_guard(text, &mut nodes) {
-        Guard::Refused(w) => tell_refusal(rt, w),
-        Guard::Nodes(count) => print_nodes(rt, &nodes, count),
+        Err(w) => tell_refusal(rt, w),
+        Ok(count) => print_nodes(rt, &nodes, count),
     }
 }
 
@@ -53,17 +50,14 @@ fn read_argument(rt: &impl Host) {
 
 fn show_named(rt: &impl Host) {
     let mut name = [0u8; NAME_ROOM];
-    let got = argument(rt, 2, &mut name);
-    if got.failed {
-        return;
-    }
-    let size = got.size;
+    let Some(size) = argument(rt, 2, &mut name) else {
+        return
+    };
     show_file(rt, Wanted::Guards, &name[..size]);
 }
 
 fn is_of(word: &[u8]) -> bool {
-    let dashes = (byte_at(word, 0) == b'-') & (byte_at(word, 1) == b'-');
-    (word.len() == 4) & dashes & (byte_at(word, 2) == b'o') & (byte_at(word, 3) == b'f')
+    word == b"--of"
 }
 
 // Whether the first argument is --of.

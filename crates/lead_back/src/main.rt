@@ -10,8 +10,7 @@ use messages::files::refuse_set;
 use messages::host::Host;
 use messages::input::{Form, NAME_ROOM, argument, arguments, fill, open_input, read_file};
 use messages::texts::row_into;
-use messages::words::{print, tell_failed};
-use paths::Led;
+use messages::words::{or_tell, print};
 use records::sizes::FILE_ROOM;
 
 // Whether it was written.
@@ -24,20 +23,17 @@ fn print_row(rt: &impl Host, cycle: u32, chart: u32, transition: u32) -> bool {
 fn print_rows(rt: &impl Host, rows: &[u32], count: usize)
     requires { 3 * count ≤ length rows.now }
 {
-    let mut k: usize = 0;
-    while k < count {
-        let written = print_row(rt, rows[3 * k], rows[3 * k + 1], rows[3 * k + 2]);
-        if !written {
+    for k in 0..count {
+        if !print_row(rt, rows[3 * k], rows[3 * k + 1], rows[3 * k + 2]) {
             return;
         }
-        k += 1;
     }
 }
 
 fn lead(rt: &impl Host, s: &[u8], path: &[u16], rows: &mut [u32]) {
     match calls::sets::path_back(s, path, rows) {
-        Led::Refused(w) => refuse_set(rt, s, w),
-        Led::Rows(n) => print_rows(rt, rows, n),
+        Err(w) => refuse_set(rt, s, w),
+        Ok(n) => print_rows(rt, rows, n),
     }
 }
 
@@ -47,16 +43,11 @@ fn put_path(bytes: &[u8], path: &mut [u16]) -> usize
     ensures upper_bound { result ≤ length path.new }
     ensures value { length bytes.now ≤ 2 * length path.old → result ≡ length bytes.now / 2 }
 {
-    let pairs = bytes.len() / 2;
-    let mut i: usize = 0;
-    while i < pairs {
-        if path.len() <= i {
-            return i;
-        }
+    let count = path.len().min(bytes.len() / 2);
+    for i in 0..count {
         path[i] = records::u16_at(bytes, 2 * i);
-        i += 1;
     }
-    i
+    count
 }
 
 // A path has no more rows than steps, so there is room for all.
@@ -84,20 +75,13 @@ fn is_path(rt: &impl Host, name: &[u8], size: usize) -> bool {
 
 // One byte more than the longest path is asked for.
 fn lead_file(rt: &impl Host, s: &[u8], name: &[u8]) {
-    let mut input = match open_input(rt, name) {
-        Ok(input) => input,
-        Err(why) => {
-            tell_failed(rt, name, why);
-            return;
-        }
+    let Some(mut input) = or_tell(rt, name, open_input(rt, name)) else {
+        return
     };
     let mut bytes = [0u8; 262145];
-    let got = fill(&mut input, &mut bytes);
-    if let Some(why) = got.error {
-        tell_failed(rt, name, why);
-        return;
-    }
-    let size = got.size;
+    let Some(size) = or_tell(rt, name, fill(&mut input, &mut bytes)) else {
+        return
+    };
     if is_path(rt, name, size) {
         lead_path(rt, s, &bytes[..size]);
     }
@@ -105,11 +89,9 @@ fn lead_file(rt: &impl Host, s: &[u8], name: &[u8]) {
 
 fn lead_named(rt: &impl Host, set: &[u8], path: &[u8]) {
     let mut file = [0u8; FILE_ROOM];
-    let got = read_file(rt, set, &mut file, Form::Set);
-    if got.failed {
-        return;
-    }
-    let size = got.size;
+    let Some(size) = read_file(rt, set, &mut file, Form::Set) else {
+        return
+    };
     lead_file(rt, &file[..size], path);
 }
 
@@ -123,16 +105,12 @@ fn main(rt: HostRuntime) {
         return;
     }
     let mut set = [0u8; NAME_ROOM];
-    let got = argument(&rt, 1, &mut set);
-    if got.failed {
-        return;
-    }
-    let set_size = got.size;
+    let Some(set_size) = argument(&rt, 1, &mut set) else {
+        return
+    };
     let mut path = [0u8; NAME_ROOM];
-    let got = argument(&rt, 2, &mut path);
-    if got.failed {
-        return;
-    }
-    let path_size = got.size;
+    let Some(path_size) = argument(&rt, 2, &mut path) else {
+        return
+    };
     lead_named(&rt, &set[..set_size], &path[..path_size]);
 }

@@ -15,10 +15,8 @@ fn main(rt: HostRuntime) {
         return;
     }
     let mut name = [0u8; NAME_ROOM];
-    let got = argument(&rt, 1, &mut name);
-    if got.failed {
-        return;
-    }
-    let size = got.size;
+    let Some(size) = argument(&rt, 1, &mut name) else {
+        return
+    };
     show_file(&rt, Wanted::Records, &name[..size]);
 }

@@ -3,7 +3,7 @@ use crate::host::Host;
 use crate::input::Form;
 use crate::words::say;
 use file_kinds::{Seen, seen_as};
-use records::refusals::{Refusal, refusal_number};
+use records::refusals::Refusal;
 
 fn note_set(rt: &impl Host, form: Form) {
     match form {
@@ -38,7 +38,7 @@ pub fn note(rt: &impl Host, form: Form, seen: Seen) {
 }
 
 pub fn tell_file(rt: &impl Host, w: Refusal, form: Form, seen: Seen) {
-    say(rt, b"refusal ", refusal_number(w));
+    say(rt, w);
     note(rt, form, seen);
     rt.tell(b"\n");
 }

@@ -1,17 +1,17 @@
 // Arguments and files: a file named by an argument, - for standard input, read whole; one that is longer than any set or table is refused as it is read.
-ghost use Rattle.std.specs.Prelude.{◌≡◌, ◌≤◌};
+ghost use Rattle.std.specs.Prelude.{◌≡◌, ℕ, ◌≤◌};
 ghost use Rattle.messages.specs.Counts.{IsPrefixLen};
 
 use crate::files::tell_file;
 use crate::host::Host;
-use crate::words::tell_failed;
+use crate::words::or_tell;
 use file_kinds::{Seen, is_dash, is_table, last_kind, long_refusal, seen_as};
 use records::refusals::Refusal;
 use std::env::FillError;
 use std::io::{Error, Read};
 use std::{fs, io, str};
 
-// Holds any path.
+// Holds any path. Here and in the programs buffers have a fixed size: a file or name that is longer is refused as it is read, and nothing fails by memory.
 pub const NAME_ROOM: usize = 4096;
 
 // The system's numbers of errors that this layer finds itself.
@@ -20,20 +20,6 @@ const INVALID_ARGUMENT: i32 = 22;
 const NAME_TOO_LONG: i32 = 36;
 
 const NOT_TEXT: i32 = 84;
-
-// So many bytes were read; where a read failed there may be more.
-#[derive(Clone, Copy)]
-pub struct BytesRead {
-    pub failed: bool,
-    pub size: usize,
-}
-
-// So many bytes were read, and why there may be more where a read failed.
-#[derive(Clone, Copy)]
-pub struct Filled {
-    pub error: Option<Error>,
-    pub size: usize,
-}
 
 // What is read: a file that was opened, or standard input.
 #[derive(Drop)]
@@ -57,23 +43,6 @@ pub enum Form {
     Set,
     Table,
     Either,
-}
-
-// A part of a long file: how much of it there is, and the last kind up to its end.
-#[derive(Clone, Copy)]
-struct Part {
-    error: Option<Error>,
-    size: usize,
-    kind: u8,
-}
-
-fn nothing() -> BytesRead
-    ensures { result.size ≡ 0 }
-{
-    BytesRead {
-        failed: true,
-        size: 0,
-    }
 }
 
 // ---- arguments
@@ -109,24 +78,16 @@ pub fn arguments(rt: &impl Host, least: usize, most: usize, usage: &[u8]) -> boo
     true
 }
 
-// An argument at the start of `name`; one that does not fit is told.
-pub fn argument(rt: &impl Host, i: usize, name: &mut [u8]) -> BytesRead
-    ensures { IsPrefixLen result.size name.new }
+// The length of an argument, which is put at the start of `name`; None where it does not fit, which is told.
+pub fn argument(rt: &impl Host, i: usize, name: &mut [u8]) -> Option<usize>
+    ensures { (n : ℕ) → result ≡ Some n → IsPrefixLen n name.new }
 {
-    match rt.arg(i, name) {
-        Ok(size) => BytesRead {
-            failed: false,
-            size,
-        },
-        Err(why) => {
-            let number = match why {
-                FillError::NotPresent => INVALID_ARGUMENT,
-                FillError::TooLong => NAME_TOO_LONG,
-            };
-            tell_failed(rt, b"file name", Error::from_raw_os_error(number));
-            nothing()
-        }
-    }
+    let got = match rt.arg(i, name) {
+        Ok(size) => Ok(size),
+        Err(FillError::NotPresent) => Err(Error::from_raw_os_error(INVALID_ARGUMENT)),
+        Err(FillError::TooLong) => Err(Error::from_raw_os_error(NAME_TOO_LONG)),
+    };
+    or_tell(rt, b"file name", got)
 }
 
 // The length of an argument at the start of `word`; one that is missing or does not fit counts as empty.
@@ -141,37 +102,21 @@ pub fn argument_or_empty(rt: &impl Host, i: usize, word: &mut [u8]) -> usize
 
 // ---- reading
 
-// Reads until the buffer is full or the input ends. It tells a failed read from the end.
-pub fn fill(input: &mut impl Read, buf: &mut [u8]) -> Filled
-    ensures { IsPrefixLen result.size buf.new }
+// Reads until the buffer is full or the input ends; answers how many bytes there are.
+pub fn fill(input: &mut impl Read, buf: &mut [u8]) -> io::Result<usize>
+    ensures { (n : ℕ) → result ≡ Ok n → IsPrefixLen n buf.new }
 {
-    let mut size: usize = 0;
+    let mut size = 0;
     while size < buf.len() {
-        match input.read(&mut buf[size..]) {
-            Ok(0) => return Filled { error: None, size },
-            Ok(more) => size += more,
-            Err(why) => {
-                return Filled {
-                    error: Some(why),
-                    size,
-                };
-            }
+        match input.read(&mut buf[size..])? {
+            0 => return Ok(size),
+            more => size += more,
         }
     }
-    Filled { error: None, size }
+    Ok(size)
 }
 
 // ---- files that are longer than any set or table
-
-fn next_part(input: &mut impl Read, buf: &mut [u8], kind: u8) -> Part {
-    let got = fill(input, buf);
-    let size = got.size;
-    Part {
-        error: got.error,
-        size,
-        kind: last_kind(&buf[..size], kind),
-    }
-}
 
 // A set with more than the first part, which is more than the most of all kinds together: it is read on, as refusals 1 and 2 depend on its end.
 fn refuse_long(
@@ -183,19 +128,15 @@ fn refuse_long(
     buf: &mut [u8],
 ) {
     let mut kind = last_kind(buf, 1);
-    let mut left = u64::MAX;
-    while 0 < left {
-        let part = next_part(input, buf, kind);
-        if let Some(why) = part.error {
-            tell_failed(rt, name, why);
+    for _ in 0..u64::MAX {
+        let Some(size) = or_tell(rt, name, fill(input, buf)) else {
+            return
+        };
+        kind = last_kind(&buf[..size], kind);
+        if size < buf.len() {
+            tell_file(rt, long_refusal(size, kind), form, seen);
             return;
         }
-        kind = part.kind;
-        if part.size < buf.len() {
-            tell_file(rt, long_refusal(part.size, kind), form, seen);
-            return;
-        }
-        left -= 1;
     }
 }
 
@@ -216,10 +157,7 @@ fn refuse_full(rt: &impl Host, input: &mut impl Read, name: &[u8], buf: &mut [u8
 
 // A name as a path, which is text.
 pub fn path_of(name: &[u8]) -> io::Result<&str> {
-    match str::from_utf8(name) {
-        Ok(path) => Ok(path),
-        Err(_) => Err(Error::from_raw_os_error(NOT_TEXT)),
-    }
+    str::from_utf8(name).map_err(|_why| Error::from_raw_os_error(NOT_TEXT))
 }
 
 // Opens a file for reading, by its name; - is standard input.
@@ -230,29 +168,15 @@ pub fn open_input<R: Host>(rt: &R, name: &[u8]) -> io::Result<Source<R::File, R:
     Ok(Source::File(fs::open(rt, path_of(name)?)?))
 }
 
-// Reads a file into a buffer that is longer than any set or table. Where it is missing, unreadable or fills the buffer, that is told, and it counts as failed.
-pub fn read_file(rt: &impl Host, name: &[u8], buf: &mut [u8], form: Form) -> BytesRead
-    ensures { IsPrefixLen result.size buf.new }
+// Reads a file into a buffer that is longer than any set or table; answers how many bytes it has. None where it is missing, unreadable or fills the buffer, which is told.
+pub fn read_file(rt: &impl Host, name: &[u8], buf: &mut [u8], form: Form) -> Option<usize>
+    ensures { (n : ℕ) → result ≡ Some n → IsPrefixLen n buf.new }
 {
-    let mut input = match open_input(rt, name) {
-        Ok(input) => input,
-        Err(why) => {
-            tell_failed(rt, name, why);
-            return nothing();
-        }
-    };
-    let got = fill(&mut input, buf);
-    let size = got.size;
-    if let Some(why) = got.error {
-        tell_failed(rt, name, why);
-        return BytesRead { failed: true, size };
-    }
+    let mut input = or_tell(rt, name, open_input(rt, name))?;
+    let size = or_tell(rt, name, fill(&mut input, buf))?;
     if size < buf.len() {
-        return BytesRead {
-            failed: false,
-            size,
-        };
+        return Some(size);
     }
     refuse_full(rt, &mut input, name, buf, form);
-    nothing()
+    None
 }

@@ -1,79 +1,77 @@
 // Refusals and faults in words: a line of their number and meaning on standard error.
+ghost use Rattle.std.specs.Prelude.{◌≡◌, ◌↔◌};
+
 use crate::host::Host;
-use answers::{Reason, reason_number};
+use answers::{Reason, Stop, reason_number};
 use records::refusals::{Refusal, refusal_number};
 use std::fmt::InlineText;
+use std::io;
 use std::io::Error;
 
-// Of a chart file.
-fn file_meaning(rt: &impl Host, number: u8) {
-    match number {
-        1 => rt.tell(b": length no multiple of 16"),
-        2 => rt.tell(b": kind unknown or descending"),
-        3 => rt.tell(b": no chart, or too many of a kind"),
-        4 => rt.tell(b": an unnamed or unused byte not zero"),
-        5 => rt.tell(b": a code or range broken"),
-        6 => rt.tell(b": a number naming nothing"),
-        7 => rt.tell(b": broken structure of charts, initial states, priorities or actions"),
-        8 => rt.tell(b": a node of the wrong order or sort, or not used exactly once"),
-        9 => rt.tell(b": timing trigger of 0 ticks"),
-        _ => rt.tell(b": waiting actions of one state with different milliseconds"),
+fn refusal_meaning(w: Refusal) -> &'static [u8] {
+    match w {
+        Refusal::OddLength => b"length no multiple of 16",
+        Refusal::UnorderedKinds => b"kind unknown or descending",
+        Refusal::WrongAmounts => b"no chart, or too many of a kind",
+        Refusal::StrayByte => b"an unnamed or unused byte not zero",
+        Refusal::BrokenCode => b"a code or range broken",
+        Refusal::DanglingNumber => b"a number naming nothing",
+        Refusal::BrokenStructure =>
+            b"broken structure of charts, initial states, priorities or actions",
+        Refusal::BrokenNode => b"a node of the wrong order or sort, or not used exactly once",
+        Refusal::ZeroTicks => b"timing trigger of 0 ticks",
+        Refusal::ShortBuffer => b"result longer than the buffer",
+        Refusal::BadTable => b"automata table broken",
+        Refusal::ImpossibleRun => b"state impossible for the file",
+        Refusal::MisplacedEvents => b"events given elsewhere than at position 1",
+        Refusal::CyclesDone => b"1,000,000 cycles done",
+        Refusal::BrokenPath =>
+            b"the path names no edge, breaks turn order, goes on after 1,000,000 cycles, or an edge does not leave where its automaton stands",
+        Refusal::ShortRows => b"more rows than lent",
+        Refusal::BrokenLine => b"a line outside the grammar, or a constant outside 32 bits",
+        Refusal::WrongSort => b"an operand of the wrong sort, or a number as the whole line",
+        Refusal::ShortSpace => b"too little space for nodes or text",
+        Refusal::UnlikeWaits => b"waiting actions of one state with different milliseconds",
     }
 }
 
-// Of a call.
-fn call_meaning(rt: &impl Host, number: u8) {
-    match number {
-        10 => rt.tell(b": result longer than the buffer"),
-        11 => rt.tell(b": automata table broken"),
-        12 => rt.tell(b": state impossible for the file"),
-        13 => rt.tell(b": events given elsewhere than at position 1"),
-        14 => rt.tell(b": 1,000,000 cycles done"),
-        15 => rt.tell(b": number out of range"),
-        16 => rt.tell(b": zero divisor"),
-        17 => rt.tell(b": assigned value outside its variable"),
-        18 => rt.tell(b": no edge open"),
-        19 => rt.tell(b": two or more edges open"),
-        20 => rt.tell(
-            b": the path names no edge, breaks turn order, goes on after 1,000,000 cycles, or an edge does not leave where its automaton stands",
-        ),
-        _ => rt.tell(b": more rows than lent"),
+fn fault_meaning(w: Reason) -> &'static [u8] {
+    match w {
+        Reason::Range => b"number out of range",
+        Reason::Divisor => b"zero divisor",
+        Reason::Bounds => b"assigned value outside its variable",
+        Reason::NoneOpen => b"no edge open",
+        Reason::ManyOpen => b"two or more edges open",
     }
 }
 
-// Of a guard's line.
-fn line_meaning(rt: &impl Host, number: u8) {
-    match number {
-        22 => rt.tell(b": a line outside the grammar, or a constant outside 32 bits"),
-        23 => rt.tell(b": an operand of the wrong sort, or a number as the whole line"),
-        _ => rt.tell(b": too little space for nodes or text"),
-    }
-}
-
-// The number and its meaning, without the line's end.
-pub fn say(rt: &impl Host, word: &[u8], number: u8) {
+fn say_numbered(rt: &impl Host, word: &[u8], number: u8, meaning: &[u8]) {
     rt.tell(word);
     let _ = rt.eprint(number);
-    if (number < 10) | (number == 25) {
-        file_meaning(rt, number);
-    } else if number < 22 {
-        call_meaning(rt, number);
-    } else {
-        line_meaning(rt, number);
-    }
+    rt.tell(b": ");
+    rt.tell(meaning);
 }
 
-fn tell(rt: &impl Host, word: &[u8], number: u8) {
-    say(rt, word, number);
-    rt.tell(b"\n");
+// The refusal's number and meaning, without the line's end.
+pub fn say(rt: &impl Host, w: Refusal) {
+    say_numbered(rt, b"refusal ", refusal_number(w), refusal_meaning(w));
 }
 
 pub fn tell_refusal(rt: &impl Host, w: Refusal) {
-    tell(rt, b"refusal ", refusal_number(w));
+    say(rt, w);
+    rt.tell(b"\n");
 }
 
 pub fn tell_fault(rt: &impl Host, w: Reason) {
-    tell(rt, b"fault ", reason_number(w));
+    say_numbered(rt, b"fault ", reason_number(w), fault_meaning(w));
+    rt.tell(b"\n");
+}
+
+pub fn tell_stop(rt: &impl Host, why: Stop) {
+    match why {
+        Stop::Fault(w) => tell_fault(rt, w),
+        Stop::Refused(w) => tell_refusal(rt, w),
+    }
 }
 
 // A line: what failed, and why. Of an error of the system its text is said, and not its number, which `io::Error` has behind it.
@@ -90,13 +88,20 @@ pub fn tell_failed(rt: &impl Host, what: &[u8], why: Error) {
     rt.tell(b"\n");
 }
 
-// Whether a text went to standard output; else that is told.
-pub fn print(rt: &impl Host, text: &[u8]) -> bool {
-    match rt.write_all(text) {
-        Ok(()) => true,
+// The value; where there is none, why is told.
+pub fn or_tell<T>(rt: &impl Host, what: &[u8], answer: io::Result<T>) -> Option<T>
+    ensures { (x : T) → result ≡ Some x ↔ answer ≡ Ok x }
+{
+    match answer {
+        Ok(x) => Some(x),
         Err(why) => {
-            tell_failed(rt, b"standard output", why);
-            false
+            tell_failed(rt, what, why);
+            None
         }
     }
+}
+
+// Whether a text went to standard output; else that is told.
+pub fn print(rt: &impl Host, text: &[u8]) -> bool {
+    or_tell(rt, b"standard output", rt.write_all(text)).is_some()
 }

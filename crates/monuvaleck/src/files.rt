@@ -10,10 +10,7 @@ use answers::refused_code;
 pub extern "C" fn charts_check(s: &[u8]) -> i32
     ensures { result ≡ numbered done_code (check chart_sets s.now) }
 {
-    match chart_files::check(s) {
-        chart_files::Checked::Accepted(_) => 0,
-        chart_files::Checked::Refused(w) => refused_code(w),
-    }
+    chart_files::check(s).map_or_else(refused_code, |_shape| 0)
 }
 
 // 0 where a table of automata is accepted.
@@ -21,8 +18,5 @@ pub extern "C" fn charts_check(s: &[u8]) -> i32
 pub extern "C" fn automata_check(s: &[u8]) -> i32
     ensures { result ≡ numbered done_code (check automata_tables s.now) }
 {
-    match automata_files::check(s) {
-        automata_files::Checked::Accepted(_) => 0,
-        automata_files::Checked::Refused(w) => refused_code(w),
-    }
+    automata_files::check(s).map_or_else(refused_code, |_shape| 0)
 }

@@ -5,6 +5,7 @@
 pub mod files;
 pub mod guard_lines;
 pub mod sets;
+mod sizes;
 pub mod tables;
 pub mod traces;
 pub mod translations;

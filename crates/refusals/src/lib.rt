@@ -2,25 +2,21 @@
 #![tactic(auto)]
 
 use file_kinds::seen_as;
-use findings::{Found, Rule, find};
+use findings::{Rule, find};
 use messages::files::note;
 use messages::host::Host;
 use messages::input::Form;
 use messages::words::say;
-use records::refusals::{Refusal, refusal_number};
+use records::refusals::Refusal;
 
 // Whether there is such a record, of which it is told what is wrong.
 fn tell_record(rt: &impl Host, s: &[u8], rule: Rule, words: &[u8]) -> bool {
-    match find(rule, s) {
-        Found::Nowhere => false,
-        Found::At(n) => {
-            rt.tell(b" (record ");
-            let _ = rt.eprint(n);
-            rt.tell(words);
-            rt.tell(b")");
-            true
-        }
-    }
+    let Some(n) = find(rule, s) else { return false };
+    rt.tell(b" (record ");
+    let _ = rt.eprint(n);
+    rt.tell(words);
+    rt.tell(b")");
+    true
 }
 
 // The line's end, after what the file seems to be where that is neither.
@@ -31,7 +27,7 @@ fn end_line(rt: &impl Host, s: &[u8]) {
 }
 
 pub fn tell_set(rt: &impl Host, s: &[u8], w: Refusal) {
-    say(rt, b"refusal ", refusal_number(w));
+    say(rt, w);
     match w {
         Refusal::UnorderedKinds => tell_record(rt, s, Rule::SetKinds, b": unknown"),
         Refusal::StrayByte => tell_record(rt, s, Rule::SetBytes, b""),
@@ -44,7 +40,7 @@ pub fn tell_set(rt: &impl Host, s: &[u8], w: Refusal) {
 
 // What is told of 11 is the first of 2, 4 and 5 that a record breaks.
 pub fn tell_table(rt: &impl Host, s: &[u8]) {
-    say(rt, b"refusal ", refusal_number(Refusal::BadTable));
+    say(rt, Refusal::BadTable);
     if !tell_record(rt, s, Rule::TableKinds, b": kind unknown") {
         if !tell_record(
             rt,

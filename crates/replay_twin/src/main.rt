@@ -5,42 +5,19 @@
 
 ghost use Rattle.automata_steps.specs.Prepared.{Prepared};
 
-use answers::Ending;
 use automata::runs::{Run, start};
-use automata_files::{Checked, check};
+use automata_files::check;
 use automata_records::Shape;
 use automata_steps::index::index_of;
 use messages::files::refuse_table;
 use messages::host::Host;
 use messages::input::{Form, NAME_ROOM, argument, argument_count, arguments, fill, read_file};
-use messages::words::{print, tell_failed, tell_fault, tell_refusal};
+use messages::words::{or_tell, print, tell_stop};
 use records::sizes::{FILE_ROOM, TABLE_KEYS, TABLE_RECORDS, TableHeads};
 use replays::twins::cycle_into;
 use std::io::Read;
 
-// Whether to go on, and from which run.
-#[derive(Clone, Copy)]
-struct Played {
-    going: bool,
-    run: Run,
-}
-
-// How a cycle ended: whether there may be another.
-fn tell_ending(rt: &impl Host, answer: Ending) -> bool {
-    match answer {
-        Ending::Done => true,
-        Ending::Fault(w) => {
-            tell_fault(rt, w);
-            false
-        }
-        Ending::Refused(w) => {
-            tell_refusal(rt, w);
-            false
-        }
-    }
-}
-
-// A cycle for a mask: its lines go out, and then its refusal or fault, if it has one.
+// A cycle for a mask: its lines go out, and then its refusal or fault, if it has one. None where there is no further one.
 fn play_mask(
     rt: &impl Host,
     s: &[u8],
@@ -49,22 +26,22 @@ fn play_mask(
     next: &[u16],
     run: Run,
     mask: u32,
-) -> Played
+) -> Option<Run>
     requires { Prepared s.now shape first.now next.now }
 {
     let mut text = [0u8; NAME_ROOM];
     let lined = cycle_into(s, shape, first, next, run, mask, &mut text);
     let size = lined.size;
-    let answer = lined.answer;
-    let after = lined.run;
     if !print(rt, &text[..size]) {
-        return Played {
-            going: false,
-            run: after,
-        };
+        return None;
     }
-    let going = tell_ending(rt, answer);
-    Played { going, run: after }
+    match lined.answer {
+        Ok(()) => Some(lined.run),
+        Err(why) => {
+            tell_stop(rt, why);
+            None
+        }
+    }
 }
 
 fn play_next(
@@ -75,16 +52,13 @@ fn play_next(
     first: &TableHeads,
     next: &[u16],
     run: Run,
-) -> Played
+) -> Option<Run>
     requires { Prepared s.now shape first.now next.now }
 {
     let mut four = [0u8; 4];
-    let got = fill(input, &mut four);
-    if let Some(why) = got.error {
-        tell_failed(rt, b"standard input", why);
-    }
-    if got.size < 4 {
-        return Played { going: false, run };
+    let size = or_tell(rt, b"standard input", fill(input, &mut four))?;
+    if size < 4 {
+        return None;
     }
     let mask = records::u32_at(&four, 0);
     play_mask(rt, s, shape, first, next, run, mask)
@@ -96,23 +70,19 @@ fn play(rt: &impl Host, s: &[u8], shape: Shape, first: &TableHeads, next: &[u16]
 {
     let mut input = rt.reader();
     let mut run = start(s, shape);
-    let mut left = u64::MAX;
-    while 0 < left {
-        let played = play_next(rt, &mut input, s, shape, first, next, run);
-        if !played.going {
-            return;
-        }
-        let after = played.run;
+    for _ in 0..u64::MAX {
+        let Some(after) = play_next(rt, &mut input, s, shape, first, next, run) else {
+            return
+        };
         run = after;
-        left -= 1;
     }
 }
 
 // The file is checked once.
 fn play_file(rt: &impl Host, s: &[u8]) {
     match check(s) {
-        Checked::Refused(w) => refuse_table(rt, s, w),
-        Checked::Accepted(shape) => {
+        Err(w) => refuse_table(rt, s, w),
+        Ok(shape) => {
             let mut first = [65535u16; TABLE_KEYS];
             let mut next = [65535u16; TABLE_RECORDS];
             index_of(s, shape, &mut first, &mut next);
@@ -123,11 +93,9 @@ fn play_file(rt: &impl Host, s: &[u8]) {
 
 fn play_named(rt: &impl Host, name: &[u8]) {
     let mut file = [0u8; FILE_ROOM];
-    let got = read_file(rt, name, &mut file, Form::Table);
-    if got.failed {
-        return;
-    }
-    let size = got.size;
+    let Some(size) = read_file(rt, name, &mut file, Form::Table) else {
+        return
+    };
     play_file(rt, &file[..size]);
 }
 
@@ -145,10 +113,8 @@ fn main(rt: HostRuntime) {
         return;
     }
     let mut name = [0u8; NAME_ROOM];
-    let got = argument(&rt, 1, &mut name);
-    if got.failed {
-        return;
-    }
-    let size = got.size;
+    let Some(size) = argument(&rt, 1, &mut name) else {
+        return
+    };
     play_named(&rt, &name[..size]);
 }

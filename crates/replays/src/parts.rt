@@ -5,7 +5,7 @@ ghost use Rattle.records.specs.Wrote.{Wrote};
 ghost use Rattle.replays.specs.Played.{answer_text};
 
 use answers::Answer;
-use lines::{Chosen, put_bounded_line};
+use lines::put_bounded_line;
 use records::sizes::{Places, Variables};
 
 // Its line from `at` on, in 482 bytes at most. Time has none, nor has a turn that is not taken.
@@ -23,17 +23,10 @@ pub fn tell(
     ensures { Wrote out.old at (answer_text cycle part (answer_of answer) (get_or places.now part 0) (take count variables.now)) out.new result × (result ≤ at + 482) }
 {
     let place = places[part as usize];
-    match answer {
-        Answer::Taken(t) => {
-            let chosen = Chosen::Taken(t);
-            put_bounded_line(out, at, cycle, part, chosen, place, variables, count)
-        }
-        Answer::Idle => {
-            let chosen = Chosen::Idle;
-            put_bounded_line(out, at, cycle, part, chosen, place, variables, count)
-        }
-        Answer::Time => at,
-        Answer::Fault(_) => at,
-        Answer::Refused(_) => at,
-    }
+    let chosen = match answer {
+        Answer::Taken(t) => Some(t),
+        Answer::Idle => None,
+        Answer::Time | Answer::Fault(_) | Answer::Refused(_) => return at,
+    };
+    put_bounded_line(out, at, cycle, part, chosen, place, variables, count)
 }

@@ -11,7 +11,7 @@ ghost use Rattle.records.specs.Wrote.{Begins};
 ghost use Rattle.replays.specs.Sets.{replayed_cycle_of};
 
 use super::parts::tell;
-use answers::{Answer, Ending};
+use answers::{Answer, Stop};
 use chart_records::Shape;
 use chart_runs::Run;
 use charts::turns::turn;
@@ -21,7 +21,7 @@ use records::sizes::{ActionHeads, ActionLinks, Ends, Rows};
 #[derive(Clone, Copy)]
 pub struct ReplayedCycle {
     pub size: usize,
-    pub answer: Ending,
+    pub answer: Result<(), Stop>,
     pub run: Run,
 }
 
@@ -71,21 +71,21 @@ pub fn cycle_into(
             Answer::Time => {
                 return ReplayedCycle {
                     size,
-                    answer: Ending::Done,
+                    answer: Ok(()),
                     run: after,
                 };
             }
             Answer::Fault(w) => {
                 return ReplayedCycle {
                     size,
-                    answer: Ending::Fault(w),
+                    answer: Err(Stop::Fault(w)),
                     run,
                 };
             }
             Answer::Refused(w) => {
                 return ReplayedCycle {
                     size,
-                    answer: Ending::Refused(w),
+                    answer: Err(Stop::Refused(w)),
                     run,
                 };
             }

@@ -11,7 +11,7 @@ ghost use Rattle.lines.specs.Text.{trace_text};
 ghost use Rattle.replays.specs.Twins.{replayed_cycle_of};
 
 use super::parts::tell;
-use answers::{Answer, Ending};
+use answers::{Answer, Stop};
 use automata::runs::Run;
 use automata::turns::turn;
 use automata_records::Shape;
@@ -21,7 +21,7 @@ use records::sizes::TableHeads;
 #[derive(Clone, Copy)]
 pub struct ReplayedCycle {
     pub size: usize,
-    pub answer: Ending,
+    pub answer: Result<(), Stop>,
     pub run: Run,
 }
 
@@ -68,21 +68,21 @@ pub fn cycle_into(
             Answer::Time => {
                 return ReplayedCycle {
                     size,
-                    answer: Ending::Done,
+                    answer: Ok(()),
                     run: after,
                 };
             }
             Answer::Fault(w) => {
                 return ReplayedCycle {
                     size,
-                    answer: Ending::Fault(w),
+                    answer: Err(Stop::Fault(w)),
                     run,
                 };
             }
             Answer::Refused(w) => {
                 return ReplayedCycle {
                     size,
-                    answer: Ending::Refused(w),
+                    answer: Err(Stop::Refused(w)),
                     run,
                 };
             }

@@ -3,10 +3,11 @@
 // standard output, and nothing else does. A refusal's number and meaning go to standard error.
 #![tactic(auto)]
 
-ghost use Rattle.std.specs.Prelude.{◌≤◌, length};
+ghost use Rattle.std.specs.Prelude.{◌≡◌, ℕ, ◌≤◌, length};
 ghost use Rattle.model.specs.Limits.{longest_table};
+ghost use Rattle.messages.specs.Counts.{IsPrefixLen};
 
-use automata_files::{Checked, shape_of};
+use automata_files::shape_of;
 use automata_records::Shape;
 use file_kinds::is_dash;
 use messages::files::refuse_set;
@@ -15,11 +16,9 @@ use messages::input::{
     Form, NAME_ROOM, argument, argument_count, argument_or_empty, fill, path_of, read_file,
 };
 use messages::texts::written_into;
-use messages::words::{print, tell_failed};
-use records::byte_at;
+use messages::words::{or_tell, print};
 use records::sizes::{FILE_ROOM, LONGEST_TABLE};
 use std::{fs, io};
-use translation::Translated;
 
 fn print_written(rt: &impl Host, size: u32, shape: Shape) {
     let mut text = [0u8; NAME_ROOM];
@@ -33,39 +32,22 @@ fn put_file(rt: &impl Host, name: &[u8], bytes: &[u8]) -> io::Result<()> {
 
 // Whether all of it was written; else that is told.
 fn write_file(rt: &impl Host, name: &[u8], bytes: &[u8]) -> bool {
-    match put_file(rt, name, bytes) {
-        Ok(()) => true,
-        Err(why) => {
-            tell_failed(rt, name, why);
-            false
-        }
-    }
+    or_tell(rt, name, put_file(rt, name, bytes)).is_some()
 }
 
-fn is_set(s: &[u8]) -> bool {
-    match chart_files::check(s) {
-        chart_files::Checked::Refused(_) => false,
-        chart_files::Checked::Accepted(_) => true,
-    }
-}
-
-fn open_named<R: Host>(rt: &R, name: &[u8]) -> io::Result<R::File> {
-    fs::open(rt, path_of(name)?)
+fn fill_from(rt: &impl Host, name: &[u8], buf: &mut [u8]) -> io::Result<usize>
+    ensures { (n : ℕ) → result ≡ Ok n → IsPrefixLen n buf.new }
+{
+    fill(&mut fs::open(rt, path_of(name)?)?, buf)
 }
 
 // Whether the file of that name is there, can be read, and is an accepted set. No set fills the buffer.
 fn holds_set(rt: &impl Host, name: &[u8]) -> bool {
-    let mut input = match open_named(rt, name) {
-        Ok(input) => input,
-        Err(_) => return false,
-    };
     let mut file = [0u8; FILE_ROOM];
-    let got = fill(&mut input, &mut file);
-    if got.error.is_some() {
-        return false;
+    match fill_from(rt, name, &mut file) {
+        Ok(size) => chart_files::check(&file[..size]).is_ok(),
+        Err(_) => false,
     }
-    let size = got.size;
-    is_set(&file[..size])
 }
 
 // Whether the file may be written; else it is told why not.
@@ -94,9 +76,8 @@ fn write_twin(rt: &impl Host, name: &[u8], force: bool, twin: &[u8])
     if !write_file(rt, name, twin) {
         return;
     }
-    match shape_of(twin) {
-        Checked::Refused(_) => (),
-        Checked::Accepted(shape) => print_written(rt, twin.len() as u32, shape),
+    if let Ok(shape) = shape_of(twin) {
+        print_written(rt, twin.len() as u32, shape);
     }
 }
 
@@ -105,8 +86,8 @@ fn translate_into(rt: &impl Host, s: &[u8], name: &[u8], force: bool, twin: &mut
     requires { length twin.old ≤ longest_table }
 {
     match calls::sets::translate(s, twin) {
-        Translated::Refused(w) => refuse_set(rt, s, w),
-        Translated::Written(n) => write_twin(rt, name, force, &twin[..n]),
+        Err(w) => refuse_set(rt, s, w),
+        Ok(n) => write_twin(rt, name, force, &twin[..n]),
     }
 }
 
@@ -117,39 +98,27 @@ fn translate_file(rt: &impl Host, s: &[u8], name: &[u8], force: bool) {
 
 fn translate_named(rt: &impl Host, set: &[u8], twin: &[u8], force: bool) {
     let mut file = [0u8; FILE_ROOM];
-    let got = read_file(rt, set, &mut file, Form::Set);
-    if got.failed {
-        return;
-    }
-    let size = got.size;
+    let Some(size) = read_file(rt, set, &mut file, Form::Set) else {
+        return
+    };
     translate_file(rt, &file[..size], twin, force);
 }
 
 // The names are the arguments of those numbers.
 fn translate_arguments(rt: &impl Host, set_at: usize, twin_at: usize, force: bool) {
     let mut set = [0u8; NAME_ROOM];
-    let got = argument(rt, set_at, &mut set);
-    if got.failed {
-        return;
-    }
-    let set_size = got.size;
+    let Some(set_size) = argument(rt, set_at, &mut set) else {
+        return
+    };
     let mut twin = [0u8; NAME_ROOM];
-    let got = argument(rt, twin_at, &mut twin);
-    if got.failed {
-        return;
-    }
-    let twin_size = got.size;
+    let Some(twin_size) = argument(rt, twin_at, &mut twin) else {
+        return
+    };
     translate_named(rt, &set[..set_size], &twin[..twin_size], force);
 }
 
 fn is_force(word: &[u8]) -> bool {
-    if word.len() != 7 {
-        return false;
-    }
-    let dashes = (byte_at(word, 0) == b'-') & (byte_at(word, 1) == b'-');
-    let start = (byte_at(word, 2) == b'f') & (byte_at(word, 3) == b'o');
-    let end = (byte_at(word, 4) == b'r') & (byte_at(word, 5) == b'c') & (byte_at(word, 6) == b'e');
-    dashes & start & end
+    word == b"--force"
 }
 
 // Whether the first argument is --force.
