@@ -124,6 +124,7 @@ pub fn literal_edge(s: &[u8], shape: Shape, l: u16) -> u16
     u16_in(s, literal_record(shape, l), 2)
 }
 
+#[tactic(auto, unfolding(prelude::specs::Lists::case_of))]
 fn literal_trigger_by(code: u8, event: u8, clock: u16) -> LiteralTrigger
     ensures { literal_trigger_for result ≡ literal_trigger_by code event clock }
 {

@@ -2,7 +2,7 @@
 ghost use Rattle.std.specs.Prelude.{◌≡◌, ◌+◌, ◌*◌, ◌<◌, ◌^◌};
 ghost use Rattle.records.specs.Bytes.{byte, two, four};
 ghost use Rattle.model.specs.ChartSet.{read_guard, read_plus_one, read_deed};
-ghost use Rattle.chart_records.specs.Places.{first_transition, first_variable, first_node, home_at, transition_at, place_at, action_at, wait_at, node_part};
+ghost use Rattle.chart_records.specs.Places.{first_transition, first_variable, first_node, first_action, home_at, transition_at, place_at, action_at, wait_at, node_part};
 ghost use Rattle.chart_records.specs.Shape.{IsShape};
 ghost use Rattle.chart_records.specs.Parts.{trigger_for, guard_for, deed_for};
 
@@ -34,13 +34,25 @@ pub fn first_transition(shape: Shape) -> usize
 pub fn first_variable(shape: Shape) -> usize
     ensures { result ≡ first_variable shape }
 {
-    (shape.charts as usize) + (shape.states as usize) + (shape.transitions as usize)
+    first_transition(shape) + (shape.transitions as usize)
 }
 
 pub fn first_node(shape: Shape) -> usize
     ensures { result ≡ first_node shape }
 {
     first_variable(shape) + (shape.variables as usize)
+}
+
+fn transition_record(shape: Shape, t: u16) -> usize
+    ensures { (result ≡ first_transition shape + t) × (result < 2 ^ 20) }
+{
+    first_transition(shape) + (t as usize)
+}
+
+fn action_record(shape: Shape, i: u16) -> usize
+    ensures { (result ≡ first_action shape + i) × (result < 2 ^ 20) }
+{
+    first_node(shape) + (shape.nodes as usize) + (i as usize)
 }
 
 // A field of record n, from its byte k on.
@@ -80,37 +92,26 @@ pub fn home_of(s: &[u8], shape: Shape, state: u16) -> u8
 pub fn priority_of(s: &[u8], shape: Shape, t: u16) -> u8
     ensures { result ≡ (transition_at s.now shape t).priority }
 {
-    byte_in(
-        s,
-        (shape.charts as usize) + (shape.states as usize) + (t as usize),
-        1,
-    )
+    byte_in(s, transition_record(shape, t), 1)
 }
 
 pub fn source_of(s: &[u8], shape: Shape, t: u16) -> u16
     ensures { result ≡ (transition_at s.now shape t).source }
 {
-    u16_in(
-        s,
-        (shape.charts as usize) + (shape.states as usize) + (t as usize),
-        2,
-    )
+    u16_in(s, transition_record(shape, t), 2)
 }
 
 pub fn target_of(s: &[u8], shape: Shape, t: u16) -> u16
     ensures { result ≡ (transition_at s.now shape t).target }
 {
-    u16_in(
-        s,
-        (shape.charts as usize) + (shape.states as usize) + (t as usize),
-        4,
-    )
+    u16_in(s, transition_record(shape, t), 4)
 }
 
+#[tactic(auto, unfolding(prelude::specs::Lists::case_of))]
 pub fn trigger_of(s: &[u8], shape: Shape, t: u16) -> Trigger
     ensures { trigger_for result ≡ (transition_at s.now shape t).trigger }
 {
-    let n = (shape.charts as usize) + (shape.states as usize) + (t as usize);
+    let n = transition_record(shape, t);
     match byte_in(s, n, 6) {
         1 => Trigger::Event(byte_in(s, n, 7)),
         2 => Trigger::After(u32_in(s, n, 8)),
@@ -136,45 +137,24 @@ pub fn guard_by_plus_one(field: u16) -> Option<u16>
 pub fn guard_of(s: &[u8], shape: Shape, t: u16) -> Option<u16>
     ensures { guard_for result ≡ (transition_at s.now shape t).guard }
 {
-    guard_by(u16_in(
-        s,
-        (shape.charts as usize) + (shape.states as usize) + (t as usize),
-        12,
-    ))
+    guard_by(u16_in(s, transition_record(shape, t), 12))
 }
 
 // The place of action i: 1 entry, 2 exit, 3 transition, 4 waiting.
 pub fn place_of(s: &[u8], shape: Shape, i: u16) -> u8
     ensures { result ≡ place_at s.now shape i }
 {
-    byte_in(
-        s,
-        (shape.charts as usize)
-            + (shape.states as usize)
-            + (shape.transitions as usize)
-            + (shape.variables as usize)
-            + (shape.nodes as usize)
-            + (i as usize),
-        1,
-    )
+    byte_in(s, action_record(shape, i), 1)
 }
 
 pub fn owner_of(s: &[u8], shape: Shape, i: u16) -> u16
     ensures { result ≡ (action_at s.now shape i).0 }
 {
-    u16_in(
-        s,
-        (shape.charts as usize)
-            + (shape.states as usize)
-            + (shape.transitions as usize)
-            + (shape.variables as usize)
-            + (shape.nodes as usize)
-            + (i as usize),
-        2,
-    )
+    u16_in(s, action_record(shape, i), 2)
 }
 
 // Code 2 raises, another assigns.
+#[tactic(auto, unfolding(prelude::specs::Lists::case_of))]
 pub fn deed_by(code: u8, x: u8, node: u16) -> Deed
     ensures { deed_for result ≡ read_deed code x node }
 {
@@ -188,12 +168,7 @@ pub fn deed_by(code: u8, x: u8, node: u16) -> Deed
 pub fn deed_of(s: &[u8], shape: Shape, i: u16) -> Deed
     ensures { deed_for result ≡ (action_at s.now shape i).1.deed }
 {
-    let n = (shape.charts as usize)
-        + (shape.states as usize)
-        + (shape.transitions as usize)
-        + (shape.variables as usize)
-        + (shape.nodes as usize)
-        + (i as usize);
+    let n = action_record(shape, i);
     deed_by(byte_in(s, n, 4), byte_in(s, n, 5), u16_in(s, n, 6))
 }
 
@@ -201,32 +176,14 @@ pub fn deed_of(s: &[u8], shape: Shape, i: u16) -> Deed
 pub fn condition_of(s: &[u8], shape: Shape, i: u16) -> Option<u16>
     ensures { guard_for result ≡ (action_at s.now shape i).1.guard }
 {
-    guard_by_plus_one(u16_in(
-        s,
-        (shape.charts as usize)
-            + (shape.states as usize)
-            + (shape.transitions as usize)
-            + (shape.variables as usize)
-            + (shape.nodes as usize)
-            + (i as usize),
-        8,
-    ))
+    guard_by_plus_one(u16_in(s, action_record(shape, i), 8))
 }
 
 // The milliseconds of waiting action i.
 pub fn wait_of(s: &[u8], shape: Shape, i: u16) -> u32
     ensures { result ≡ (wait_at s.now shape i).1 }
 {
-    u32_in(
-        s,
-        (shape.charts as usize)
-            + (shape.states as usize)
-            + (shape.transitions as usize)
-            + (shape.variables as usize)
-            + (shape.nodes as usize)
-            + (i as usize),
-        12,
-    )
+    u32_in(s, action_record(shape, i), 12)
 }
 
 // The part of a file that has the nodes' records, one after the other.
