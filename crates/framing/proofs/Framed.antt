@@ -12,11 +12,13 @@ use lib.ListN.{length, get_or, take, length-take}
 use lib.Seq.{get_or-take}
 use Rattle.prelude.specs.Lists.{all, any, count, keep, map_from, ascending}
 use Rattle.records.specs.Refusal.{odd_length, unordered_kinds, wrong_amounts, lowest}
+use Rattle.records.specs.RefusalOf.{refusal_of, error_of}
+use Rattle.records.specs.declared.refusals.Refusal.{Refusal}
 use Rattle.records.specs.Bytes.{records, kind, of_kind}
-use Rattle.framing.specs.Framing.{known, how_many, first_of, kinds, has_odd_length, has_unordered_kinds, has_wrong_amounts, framing, counts}
-use Rattle.framing.specs.Frame.{framing_of, blank_if_refused, IsFrame}
+use Rattle.framing.specs.Framing.{known, how_many, first_of, kinds, has_odd_length, has_unordered_kinds, has_wrong_amounts, framing}
+use Rattle.framing.specs.Frame.{IsFrame}
 use Rattle.framing.specs.declared.Frame.{Frame}
-use Rattle.framing.specs.declared.Framing.TheVariants.{Framed}
+use Rattle.std.specs.Prelude.{Result, Ok}
 use Rattle.records.proofs.Records.{record_at, get_or-records, length-records}
 use Rattle.prelude.proofs.Counts.{impossible, and-true, count-le, length-keep, below_next, get_or-upto}
 use Rattle.framing.proofs.FramingLaws.{all-ascending, all_known}
@@ -118,9 +120,9 @@ module _ (first : ℕ) (most s : List ℕ) (framed : framing first most s ≡ no
 
 -- ---- what `frame_of` answers of it
 
-module _ (first : ℕ) (most s : List ℕ) (r : Frame) (is : IsFrame first most s r) (answer : r.answer ≡ Framed) where
+module _ (first : ℕ) (most s : List ℕ) (r : Result Frame Refusal) (is : IsFrame first most s r) (f : Frame) (answer : r ≡ Ok f) where
   pub frame-framed : framing first most s ≡ none
-  frame-framed = sym is.answer ∙ ap framing_of answer
+  frame-framed = sym is.answer ∙ ap (error_of refusal_of) answer
 
-  pub frame-count : (j : ℕ) → j < 9 → get_or r.counts j 0 ≡ how_many (first + j) s
-  frame-count j h = ap (λ l. get_or l j 0) (is.counts ∙ ap (λ o. blank_if_refused o (counts first most s)) frame-framed) ∙ get_or-upto (λ j. how_many (first + j) s) 0 9 j h
+  pub frame-count : (j : ℕ) → j < 9 → get_or f.counts j 0 ≡ how_many (first + j) s
+  frame-count j h = ap (λ l. get_or l j 0) (is.counts f answer) ∙ get_or-upto (λ j. how_many (first + j) s) 0 9 j h

@@ -1,7 +1,7 @@
 -- Laws of framing: the tests of the kinds one record at a time, the counts, and where a kind's records stand. Assumes nothing.
 use mathlib.Core.Path.{◌≡◌, refl, sym, ap, ◌∙◌, subst}
 use mathlib.Core.Bool.{Bool, true, false, not, ◌&&◌, ◌||◌}
-use mathlib.Core.Option.{Option, some, none}
+use mathlib.Core.Option.{some, none}
 use mathlib.Core.List.{List, [], ◌∷◌, map}
 use Prim.Native.Nat.{ℕ, zero, suc, ◌+◌, ◌*◌, ◌/◌, ◌≤◌, ◌<◌, zero-le}
 use native.Mathlib.Nat.{add-zero, zero-add, le_refl}
@@ -15,9 +15,11 @@ use Rattle.prelude.specs.Lists.{all, any, count, upto, map_from, ascending}
 use Rattle.prelude.proofs.Counts.{impossible, and-true, count-le, below_next, length_from, get_or-upto, is-table}
 use Rattle.records.specs.Bytes.{byte, records, kind}
 use Rattle.framing.specs.Framing.{known, how_many, first_of, kinds, has_odd_length, has_unordered_kinds, has_wrong_amounts, framing, counts, firsts}
-use Rattle.records.specs.Refusal.{Refusal, odd_length, unordered_kinds, wrong_amounts, lowest}
-use Rattle.framing.specs.Frame.{framing_of, blank_if_refused, IsFrame, exceeds, sum_to}
-use Rattle.framing.specs.declared.Frame.{Frame}
+use Rattle.records.specs.Refusal.{odd_length, unordered_kinds, wrong_amounts, lowest}
+use Rattle.std.specs.Prelude.{Ok, Err}
+use Rattle.records.specs.RefusalOf.{refusal_of}
+use Rattle.records.specs.declared.refusals.Refusal as declared-refusal
+use Rattle.framing.specs.Frame.{IsFrame, exceeds, sum_to}
 use Rattle.records.proofs.Records.{record_at, byte-record, rest, rest-one, rest-none, length-records}
 
 -- ---- kinds, known and ascending
@@ -198,10 +200,8 @@ module _ (first : ℕ) (most s : List ℕ) where
   unfolding lowest
   is_none a b c = framing-tests false false false a b c
 
-  pub is-frame : (o : Option Refusal) (r : Frame) → framing first most s ≡ o → framing_of r.answer ≡ o →
-      r.counts ≡ blank_if_refused o (counts first most s) → r.firsts ≡ blank_if_refused o (firsts first most s) → IsFrame first most s r
-  is-frame o r f a c d = record {
-    answer = a ∙ sym f;
-    counts = c ∙ ap (λ p. blank_if_refused p (counts first most s)) (sym f);
-    firsts = d ∙ ap (λ p. blank_if_refused p (firsts first most s)) (sym f);
-  }
+  pub refused-frame : (w : declared-refusal.Refusal) → framing first most s ≡ some (refusal_of w) → IsFrame first most s (Err w)
+  refused-frame w e = record { answer = sym e; counts = λ f q. cc; firsts = λ f q. cc }
+
+  pub accepted-frame : (ns fs : List ℕ) → framing first most s ≡ none → ns ≡ counts first most s → fs ≡ firsts first most s → IsFrame first most s (Ok record { counts = ns; firsts = fs })
+  accepted-frame ns fs e n f = record { answer = sym e; counts = λ g q. cc; firsts = λ g q. cc }

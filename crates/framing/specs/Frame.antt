@@ -21,10 +21,9 @@ pub record IsRun (s : List ℕ) (start k end : ℕ) : Type 0 where
   pub other : end < length s / 16 → byte s (16 * end) ≡ k → ⊥
 
 -- One pass over the kinds: refusal 2, or how many of each.
-pub record IsTally (first : ℕ) (most s : List ℕ) (r : Option (List ℕ)) : Type 0 where
-  pub unordered : r ≡ None → F.has_unordered_kinds first most s ≡ true
-  pub ordered : (counts : List ℕ) → r ≡ Some counts → F.has_unordered_kinds first most s ≡ false
-  pub counts : (counts : List ℕ) → r ≡ Some counts → counts ≡ F.counts first most s
+abbrev pub IsTally : ℕ → List ℕ → List ℕ → Option (List ℕ) → Type 0
+IsTally first most s None = F.has_unordered_kinds first most s ≡ true
+IsTally first most s (Some ns) = (F.has_unordered_kinds first most s ≡ false) × (ns ≡ F.counts first most s)
 
 -- Refusal 3, of counts: none of the first kind, or one above its limit.
 abbrev pub exceeds : List ℕ → List ℕ → Bool

@@ -45,11 +45,7 @@ fn tally_of(s: &[u8], first: u8, most: &[u16]) -> Option<[usize; 9]>
         counts[k] = end - i;
         i = end;
     }
-    if i < s.len() / 16 {
-        None
-    } else {
-        Some(counts)
-    }
+    if i < s.len() / 16 { None } else { Some(counts) }
 }
 
 // A file must have one of its first kind, and of each kind at most its limit.

@@ -20,15 +20,15 @@ pub returns-then-most-k : goal.returns-then-most-k
 returns-then-most-k c =
     let a = c.args in
     let l = c.loop-k in
-    sym (l.invariant.1 ∙ one a.counts a.most.now l.k (omega arith) ∙ rw (lt-ltb (get_or a.most.now l.k 0) (get_or a.counts l.k 0) c.if-most-k.true))
+    sym (l.invariant ∙ one a.counts a.most.now l.k (omega arith) ∙ rw (lt-ltb (get_or a.most.now l.k 0) (get_or a.counts l.k 0) c.if-most-k.true))
 
 pub loop-k-preserved : goal.loop-k-preserved
 loop-k-preserved c =
     let a = c.args in
     let l = c.loop-k in
-    (omega arith, l.invariant.1 ∙ one a.counts a.most.now l.k (omega arith) ∙ rw (le-ltb (get_or a.most.now l.k 0) (get_or a.counts l.k 0) c.if-most-k.false))
+    l.invariant ∙ one a.counts a.most.now l.k (omega arith) ∙ rw (le-ltb (get_or a.most.now l.k 0) (get_or a.counts l.k 0) c.if-most-k.false)
 
 pub returns : goal.returns
 returns c =
     let a = c.args in
-    sym (c.loop-k.invariant.1 ∙ over_none (λ j m. ltb m (get_or a.counts j 0)) c.loop-k.k (take 9 a.most.now) (omega arith))
+    sym (c.loop-k.invariant ∙ over_none (λ j m. ltb m (get_or a.counts j 0)) c.loop-k.k (take 9 a.most.now) (omega arith))
