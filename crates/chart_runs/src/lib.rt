@@ -36,28 +36,13 @@ fn ages_possible(charts: u16, ages: Ages, cycles: u32) -> bool
     requires { charts ≤ most_charts }
     ensures { result ≡ all (λ k. leb (get_or ages k 0) cycles) (upto charts) }
 {
-    let mut k: u16 = 0;
-    while k < charts {
-        let i = k as usize;
-        if cycles < ages[i] {
-            return false;
-        }
-        k += 1;
-    }
-    true
+    ages.iter().take(charts as usize).all(|age| *age <= cycles)
 }
 
 fn ages_unused(charts: u16, ages: Ages) -> bool
     ensures { result ≡ rest_zero charts ages }
 {
-    let mut k = charts as usize;
-    while k < CHARTS {
-        if ages[k] != 0 {
-            return false;
-        }
-        k += 1;
-    }
-    true
+    ages.iter().skip(charts as usize).all(|age| *age == 0)
 }
 
 // The fresh run of a set.
@@ -125,12 +110,8 @@ pub fn grow_ages(charts: u16, ages: &mut Ages)
     requires by_index { (k : ℕ) → k < charts → get_or ages.old k 0 < 4294967295 }
     ensures { ages.new ≡ map_from 0 (aged charts) ages.old }
 {
-    let mut k: u16 = 0;
-    while k < charts {
-        let i = k as usize;
-        let age = ages[i];
-        ages[i] = age + 1;
-        k += 1;
+    for k in 0..(charts as usize) {
+        ages[k] += 1;
     }
 }
 

@@ -56,18 +56,13 @@ fn first_that(
     }
     let i = state as usize;
     let end = ends[i] as usize;
-    let mut j: usize = 0;
-    while j < end {
+    for j in 0..end {
         let t = slot_of(s, shape, rows, state, j);
         match slot_holds(s, shape, vars, events, age, t) {
             Err(w) => return fault_code(w),
-            Ok(holding) => {
-                if holding {
-                    return t as u64;
-                }
-            }
+            Ok(true) => return t as u64,
+            Ok(false) => {}
         }
-        j += 1;
     }
     65535
 }
@@ -220,8 +215,7 @@ pub fn turns_in_place(
         ≡ chart_turns (read_charts s.now) from (to - from) (answer_by chosen.old, run_in states.old ages.old vars.old events m)) × IsCode result }
 {
     let mut present = events;
-    let mut chart = from;
-    while chart < to {
+    for chart in from..to {
         let after = step_in_place(
             s, shape, rows, ends, first, next, chart, states, ages, vars, present, chosen,
         );
@@ -229,7 +223,6 @@ pub fn turns_in_place(
             return after;
         }
         present = after as u32;
-        chart += 1;
     }
     present as u64
 }

@@ -22,9 +22,7 @@ pub fn fill_rows(s: &[u8], shape: Shape, rows: &mut Rows, ends: &mut Ends)
     requires { Accepted s.now shape × (rows.old ≡ replicate most_states (replicate most_priorities 256)) × (ends.old ≡ replicate most_states 0) }
     ensures { HasRows (read_charts s.now) rows.new × HasEnds (read_charts s.now) rows.new ends.new }
 {
-    let mut t = shape.transitions;
-    while 0 < t {
-        t -= 1;
+    for t in (0..shape.transitions).rev() {
         let source = source_of(s, shape, t) as usize;
         let priority = priority_of(s, shape, t);
         let place = (priority - 1) as usize;
@@ -48,9 +46,7 @@ pub fn fill_actions(s: &[u8], shape: Shape, first: &mut ActionHeads, next: &mut 
     requires { Accepted s.now shape × (first.old ≡ replicate action_keys 65535) × (next.old ≡ replicate most_actions 65535) }
     ensures { HasActions s.now shape first.new next.new × (drop shape.actions next.new ≡ drop shape.actions next.old) }
 {
-    let mut a = shape.actions;
-    while 0 < a {
-        a -= 1;
+    for a in (0..shape.actions).rev() {
         let key = key_of(s, shape, a) as usize;
         let i = a as usize;
         next[i] = first[key];

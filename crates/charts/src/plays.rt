@@ -106,17 +106,15 @@ fn cycle_or_none(
     let states_before = *states;
     let ages_before = *ages;
     let vars_before = *vars;
-    match cycle_or_fault(
+    let cycle = cycle_or_fault(
         s, shape, rows, ends, first, next, states, ages, vars, events, 1, cycles,
-    ) {
-        Err(w) => {
-            *states = states_before;
-            *ages = ages_before;
-            *vars = vars_before;
-            Err(w)
-        }
-        Ok(()) => Ok(()),
+    );
+    if cycle.is_err() {
+        *states = states_before;
+        *ages = ages_before;
+        *vars = vars_before;
     }
+    cycle
 }
 
 // Cycles from a possible run at position 1, one for each mask, until one faults or none is left to do. Check 12 holds after each that is done, so it is not made again.
@@ -138,20 +136,17 @@ fn further_cycles(
         × ((played (machine (read_charts s.now)) masks.now (run_in states.old ages.old vars.old 0 (moment 1 cycles))).run ≡ run_in states.new ages.new vars.new 0 (moment 1 (cycles + result))) }
 {
     let mut done = cycles;
-    let mut k: usize = 0;
-    while k < masks.len() {
+    for mask in masks {
         if done == MOST_CYCLES {
             return done - cycles;
         }
-        match cycle_or_none(
-            s, shape, rows, ends, first, next, states, ages, vars, masks[k], done,
-        ) {
-            Err(_) => return done - cycles,
-            Ok(()) => {
-                done += 1;
-            }
+        let cycle = cycle_or_none(
+            s, shape, rows, ends, first, next, states, ages, vars, *mask, done,
+        );
+        if cycle.is_err() {
+            return done - cycles;
         }
-        k += 1;
+        done += 1;
     }
     done - cycles
 }

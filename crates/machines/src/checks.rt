@@ -50,14 +50,7 @@ fn counts_possible(parts: u16, events: u32, position: u32, cycles: u32) -> bool
 fn places_unused(parts: u16, at: Places) -> bool
     ensures { result ≡ rest_zero parts at }
 {
-    let mut k = parts as usize;
-    while k < CHARTS {
-        if at[k] != 0 {
-            return false;
-        }
-        k += 1;
-    }
-    true
+    at.iter().skip(parts as usize).all(|place| *place == 0)
 }
 
 // All are looked at, so that the compiler takes several at once.
@@ -65,10 +58,8 @@ fn variables_unused(count: u16, variables: Variables) -> bool
     ensures { result ≡ rest_zero_values count variables }
 {
     let mut unused = true;
-    let mut k = count as usize;
-    while k < VARIABLES {
+    for k in (count as usize)..VARIABLES {
         unused = unused & (variables[k] == 0);
-        k += 1;
     }
     unused
 }
@@ -85,15 +76,7 @@ fn places_possible(s: &[u8], parts: u16, places: u16, at: Places) -> bool
     requires { parts ≤ most_charts }
     ensures { result ≡ places_possible parts (homes_in s.now parts places) at }
 {
-    let mut c: u16 = 0;
-    while c < parts {
-        let i = c as usize;
-        if !place_possible(s, parts, places, c, at[i]) {
-            return false;
-        }
-        c += 1;
-    }
-    true
+    (0..parts).all(|c| place_possible(s, parts, places, c, at[c as usize]))
 }
 
 fn value_possible(s: &[u8], values: Values, v: u16, value: i16) -> bool
@@ -108,15 +91,7 @@ fn variables_possible(s: &[u8], values: Values, variables: Variables) -> bool
     requires { HasValues s.now values }
     ensures { result ≡ variables_possible (variables_in s.now values) variables }
 {
-    let mut v: u16 = 0;
-    while v < values.variables {
-        let i = v as usize;
-        if !value_possible(s, values, v, variables[i]) {
-            return false;
-        }
-        v += 1;
-    }
-    true
+    (0..values.variables).all(|v| value_possible(s, values, v, variables[v as usize]))
 }
 
 // Whether a run is possible for a file of so many parts and places, but for its timers.
@@ -176,11 +151,8 @@ pub fn initial_places(s: &[u8], parts: u16) -> Places
     ensures { result ≡ padded most_charts 0 (initials_in s.now parts) }
 {
     let mut at = [0u16; CHARTS];
-    let mut c: u16 = 0;
-    while c < parts {
-        let i = c as usize;
-        at[i] = u16_at(s, 16 * i + 2);
-        c += 1;
+    for c in 0..(parts as usize) {
+        at[c] = u16_at(s, 16 * c + 2);
     }
     at
 }

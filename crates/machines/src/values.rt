@@ -68,11 +68,8 @@ pub fn start_values(s: &[u8], values: Values) -> Variables
     ensures { result ≡ padded most_variables (pos 0) (map (λ v. (variable_in s.now values v).start) (upto values.variables)) }
 {
     let mut made = [0i16; VARIABLES];
-    let mut v: u16 = 0;
-    while v < values.variables {
-        let i = v as usize;
-        made[i] = start_of(s, values, v);
-        v += 1;
+    for v in 0..values.variables {
+        made[v as usize] = start_of(s, values, v);
     }
     made
 }

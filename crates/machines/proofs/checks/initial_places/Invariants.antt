@@ -5,7 +5,4 @@ use Rattle.prelude.proofs.Filled.{Filled}
 use Rattle.machines.proofs.checks.initial_places.Given as goal
 
 abbrev pub invariant-loop-c : goal.invariant-loop-c
-invariant-loop-c l = (l.c ≤ l.parts) × Filled (initial_in l.s) 0 (replicate 8 0) l.at l.c
-
-abbrev pub decreases-loop-c : goal.decreases-loop-c
-decreases-loop-c l = l.parts - l.c
+invariant-loop-c l = Filled (initial_in l.s) 0 (replicate 8 0) l.at l.c

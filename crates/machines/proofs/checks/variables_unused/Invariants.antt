@@ -8,6 +8,3 @@ use Rattle.machines.proofs.checks.variables_unused.Given as goal
 
 abbrev pub invariant-loop-k : goal.invariant-loop-k
 invariant-loop-k l = (length l.variables ≡ 64) × BehindBy is_zero (pos 0) l.count l.variables l.unused l.k
-
-abbrev pub decreases-loop-k : goal.decreases-loop-k
-decreases-loop-k l = 64 - l.k

@@ -11,7 +11,4 @@ abbrev pub first : List ℕ → Values → ℕ → ℤ
 first s values v = (variable_in s values v).start
 
 abbrev pub invariant-loop-v : goal.invariant-loop-v
-invariant-loop-v l = (l.v ≤ l.values.variables) × Filled (first l.s l.values) (pos 0) (replicate 64 (pos 0)) l.made l.v
-
-abbrev pub decreases-loop-v : goal.decreases-loop-v
-decreases-loop-v l = l.values.variables - l.v
+invariant-loop-v l = Filled (first l.s l.values) (pos 0) (replicate 64 (pos 0)) l.made l.v
