@@ -6,6 +6,7 @@ pub mod Sums
 pub mod Sorting
 pub mod Maps
 pub mod Loops
+pub mod Ranges
 pub mod Numbers
 pub mod Gathered
 pub mod Gathers
