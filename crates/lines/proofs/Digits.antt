@@ -57,6 +57,12 @@ length_digits (suc d) n = ending-length n d (ltb n 10) (digits d (n / 10)) (leng
 pub length-decimal : (d n : ℕ) → d < 20 → n < 10 ^ suc d → length (decimal n) ≤ suc d
 length-decimal d n l h = subst (λ t. length t ≤ suc d) (digits-enough (19 - d) d n h (omega arith)) (length_digits (suc d) n)
 
+pub decimal_of_32_bits : (n : ℕ) → n < 2 ^ 32 → length (decimal n) ≤ 10
+decimal_of_32_bits n h = length-decimal 9 n (omega arith) (omega arith)
+
+pub decimal_of_16_bits : (n : ℕ) → n < 2 ^ 16 → length (decimal n) ≤ 5
+decimal_of_16_bits n h = length-decimal 4 n (omega arith) (omega arith)
+
 pub fitting-field : (d n : ℕ) → d < 20 → n < 10 ^ suc d → length (space ∷ decimal n) ≤ suc (suc d)
 fitting-field d n l h = omega (arith, length-decimal d n l h)
 

@@ -95,7 +95,15 @@ fn put_variables(out: &mut [u8], at: usize, variables: &[i16], count: u16) -> us
 }
 
 // What stands before the variables, in 33 bytes at most.
-fn put_head(out: &mut [u8], at: usize, cycle: u32, chart: u32, chosen: Option<u16>, state: u16) -> usize
+#[tactic(auto, using(crate::proofs::Digits::decimal_of_32_bits, crate::proofs::Digits::decimal_of_16_bits))]
+fn put_head(
+    out: &mut [u8],
+    at: usize,
+    cycle: u32,
+    chart: u32,
+    chosen: Option<u16>,
+    state: u16,
+) -> usize
     requires { at < 2 ^ 59 }
     ensures { Wrote out.old at (head_text cycle chart (chosen_of chosen) state) out.new result × (result ≤ at + 33) }
 {

@@ -1,12 +1,9 @@
 use mathlib.Core.Path.{◌≡◌}
-use Prim.Native.Nat.{◌+◌, ◌-◌, ◌*◌, ◌≤◌}
+use Prim.Native.Nat.{◌+◌, ◌*◌, ◌≤◌}
 use lib.ListN.{length, take}
 use Rattle.records.specs.Wrote.{Wrote}
 use Rattle.lines.specs.Text.{variables_text}
 use Rattle.lines.proofs.put_variables.Given as goal
 
 abbrev pub invariant-loop-v : goal.invariant-loop-v
-invariant-loop-v l = (l.v ≤ l.n) × (l.next ≤ l.at + 7 * l.v) × (length l.out ≡ length l.initial.out) × Wrote l.initial.out l.at (variables_text (take l.v l.variables)) l.out l.next
-
-abbrev pub decreases-loop-v : goal.decreases-loop-v
-decreases-loop-v l = l.n - l.v
+invariant-loop-v l = (l.next ≤ l.at + 7 * l.v-index) × (length l.out ≡ length l.initial.out) × Wrote l.initial.out l.at (variables_text (take l.v-index l.v-items)) l.out l.next
