@@ -7,7 +7,6 @@ use Rattle.prelude.specs.Lists.{all}
 use Rattle.records.specs.Bytes.{four±}
 use Rattle.expressions.specs.Nodes.{node_at}
 use Rattle.expressions.specs.Sorts.{operands, variables_of, node_named, operand_fits, node_fits}
-use Rattle.expressions.specs.Verdicts.{verdict}
 use Rattle.expressions.specs.Uses.{add_uses}
 use Rattle.expressions.specs.Answers.{operands_for}
 use Rattle.expressions.proofs.Fields.{coded-at, operands-read}
@@ -27,8 +26,8 @@ loop-n-preserved c =
     let below = c.all_below.ensures ∙ ap (all (λ x. ltb x.0 k.size)) read in
     let variable = c.variable_below.ensures (four± s (16 * l.n + 8)) ∙ ap (λ x. all (λ v. ltb v k.variables) (variables_of x)) (coded-at s l.n f.result f.ensures) in (
       counted-more (node_at s) k.size k.uses.now l.uses _ l.n l.invariant.0 in-file (c.count_uses.ensures ∙ ap (λ x. add_uses l.uses (map (λ y. y.0) x)) read),
-      flagged-more (node_named (node_at s) k.size k.variables) k.size l.named l.n l.invariant.1 in-file (λ i. below i && variable i),
-      flagged-more (node_fits (node_at s)) k.size l.fit l.n l.invariant.2 in-file (c.all_fit-fit.ensures ∙ ap (all (operand_fits (node_at s) l.n)) read),
+      flagged-more (node_named (node_at s) k.size k.variables) k.size l.tests.named l.n l.invariant.1 in-file (λ i. below i && variable i),
+      flagged-more (node_fits (node_at s)) k.size l.tests.fit l.n l.invariant.2 in-file (c.all_fit.ensures ∙ ap (all (operand_fits (node_at s) l.n)) read),
     )
 
 pub returns : goal.returns
@@ -37,6 +36,8 @@ returns c =
     let s = k.nodes.now in
     let l = c.loop-n in
     let done = c.loop-n-test.false in
-    let named = flagged-all (node_named (node_at s) k.size k.variables) k.size l.named l.n l.invariant.1 done in
-    let fit = flagged-all (node_fits (node_at s)) k.size l.fit l.n l.invariant.2 done in
-    (c.verdict.ensures ∙ (λ i. verdict (named i) (fit i)), counted-all (node_at s) k.size k.uses.now l.uses l.n l.invariant.0 done)
+    record {
+      named = flagged-all (node_named (node_at s) k.size k.variables) k.size l.tests.named l.n l.invariant.1 done;
+      fit = flagged-all (node_fits (node_at s)) k.size l.tests.fit l.n l.invariant.2 done;
+      uses = counted-all (node_at s) k.size k.uses.now l.uses l.n l.invariant.0 done;
+    }
