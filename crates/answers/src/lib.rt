@@ -10,14 +10,14 @@ ghost use Rattle.answers.specs.declared.Stop.TheVariants.{Fault, Refused};
 
 use records::refusals::{Refusal, refusal_number};
 
-// Why a turn faults: a number out of 32 bits, a zero divisor, a number out of its variable's bounds; of automata also no edge open, two or more open.
+// Why a turn faults, each by its number in the refusal table: a number out of 32 bits, a zero divisor, a number out of its variable's bounds; of automata also no edge open, two or more open.
 #[derive(Clone, Copy, PartialEq, Eq)]
 pub enum Reason {
-    Range,
-    Divisor,
-    Bounds,
-    NoneOpen,
-    ManyOpen,
+    Range = 15,
+    Divisor = 16,
+    Bounds = 17,
+    NoneOpen = 18,
+    ManyOpen = 19,
 }
 
 // A turn's: the transition or edge taken, that the chart idled, that time passed, why it faulted, or why it was refused. Automata never idle.
@@ -57,13 +57,7 @@ impl From<Refusal> for Stop {
 pub fn reason_number(w: Reason) -> u8
     ensures { result ≡ refusal_number (reason_of w) }
 {
-    match w {
-        Reason::Range => 15,
-        Reason::Divisor => 16,
-        Reason::Bounds => 17,
-        Reason::NoneOpen => 18,
-        Reason::ManyOpen => 19,
-    }
+    w as u8
 }
 
 fn minus(n: u8) -> i32

@@ -1,56 +1,35 @@
-// The refusal table but for the faults in a turn, which have an enum of their own (`answers::Reason`): a case for each number.
+// The refusal table, each by its number, but for the faults in a turn, which have an enum of their own (`answers::Reason`).
 ghost use Rattle.std.specs.Prelude.{◌≡◌};
 ghost use Rattle.records.specs.Refusal.{refusal_number};
 ghost use Rattle.records.specs.RefusalOf.{refusal_of};
 
 #[derive(Clone, Copy, PartialEq, Eq)]
 pub enum Refusal {
-    OddLength,
-    UnorderedKinds,
-    WrongAmounts,
-    StrayByte,
-    BrokenCode,
-    DanglingNumber,
-    BrokenStructure,
-    BrokenNode,
-    ZeroTicks,
-    ShortBuffer,
-    BadTable,
-    ImpossibleRun,
-    MisplacedEvents,
-    CyclesDone,
-    BrokenPath,
-    ShortRows,
-    BrokenLine,
-    WrongSort,
-    ShortSpace,
-    UnlikeWaits,
+    OddLength = 1,
+    UnorderedKinds = 2,
+    WrongAmounts = 3,
+    StrayByte = 4,
+    BrokenCode = 5,
+    DanglingNumber = 6,
+    BrokenStructure = 7,
+    BrokenNode = 8,
+    ZeroTicks = 9,
+    ShortBuffer = 10,
+    BadTable = 11,
+    ImpossibleRun = 12,
+    MisplacedEvents = 13,
+    CyclesDone = 14,
+    BrokenPath = 20,
+    ShortRows = 21,
+    BrokenLine = 22,
+    WrongSort = 23,
+    ShortSpace = 24,
+    UnlikeWaits = 25,
 }
 
 // Its number in the table.
 pub fn refusal_number(w: Refusal) -> u8
     ensures { result ≡ refusal_number (refusal_of w) }
 {
-    match w {
-        Refusal::OddLength => 1,
-        Refusal::UnorderedKinds => 2,
-        Refusal::WrongAmounts => 3,
-        Refusal::StrayByte => 4,
-        Refusal::BrokenCode => 5,
-        Refusal::DanglingNumber => 6,
-        Refusal::BrokenStructure => 7,
-        Refusal::BrokenNode => 8,
-        Refusal::ZeroTicks => 9,
-        Refusal::ShortBuffer => 10,
-        Refusal::BadTable => 11,
-        Refusal::ImpossibleRun => 12,
-        Refusal::MisplacedEvents => 13,
-        Refusal::CyclesDone => 14,
-        Refusal::BrokenPath => 20,
-        Refusal::ShortRows => 21,
-        Refusal::BrokenLine => 22,
-        Refusal::WrongSort => 23,
-        Refusal::ShortSpace => 24,
-        Refusal::UnlikeWaits => 25,
-    }
+    w as u8
 }
