@@ -1,5 +1,6 @@
 // Arguments and files: a file named by an argument, - for standard input, read whole; one that is longer than any set or table is refused as it is read.
-ghost use Rattle.std.specs.Prelude.{◌≡◌, ℕ, ◌≤◌};
+ghost use Rattle.std.specs.Io.{ReadsAtMost};
+ghost use Rattle.std.specs.Prelude.{◌≤◌, IfSome};
 ghost use Rattle.messages.specs.Counts.{IsPrefixLen};
 
 use crate::files::tell_file;
@@ -78,33 +79,32 @@ pub fn arguments(rt: &impl Host, least: usize, most: usize, usage: &[u8]) -> boo
     true
 }
 
+fn argument_error(why: FillError) -> Error {
+    Error::from_raw_os_error(match why {
+        FillError::NotPresent => INVALID_ARGUMENT,
+        FillError::TooLong => NAME_TOO_LONG,
+    })
+}
+
 // The length of an argument, which is put at the start of `name`; None where it does not fit, which is told.
 pub fn argument(rt: &impl Host, i: usize, name: &mut [u8]) -> Option<usize>
-    ensures { (n : ℕ) → result ≡ Some n → IsPrefixLen n name.new }
+    ensures { IfSome result (λ n. IsPrefixLen n name.new) }
 {
-    let got = match rt.arg(i, name) {
-        Ok(size) => Ok(size),
-        Err(FillError::NotPresent) => Err(Error::from_raw_os_error(INVALID_ARGUMENT)),
-        Err(FillError::TooLong) => Err(Error::from_raw_os_error(NAME_TOO_LONG)),
-    };
-    or_tell(rt, b"file name", got)
+    or_tell(rt, b"file name", rt.arg(i, name).map_err(argument_error))
 }
 
 // The length of an argument at the start of `word`; one that is missing or does not fit counts as empty.
 pub fn argument_or_empty(rt: &impl Host, i: usize, word: &mut [u8]) -> usize
     ensures { IsPrefixLen result word.new }
 {
-    match rt.arg(i, word) {
-        Ok(size) => size,
-        Err(_) => 0,
-    }
+    rt.arg(i, word).unwrap_or(0)
 }
 
 // ---- reading
 
 // Reads until the buffer is full or the input ends; answers how many bytes there are.
 pub fn fill(input: &mut impl Read, buf: &mut [u8]) -> io::Result<usize>
-    ensures { (n : ℕ) → result ≡ Ok n → IsPrefixLen n buf.new }
+    ensures { ReadsAtMost result buf.new }
 {
     let mut size = 0;
     while size < buf.len() {
@@ -170,7 +170,7 @@ pub fn open_input<R: Host>(rt: &R, name: &[u8]) -> io::Result<Source<R::File, R:
 
 // Reads a file into a buffer that is longer than any set or table; answers how many bytes it has. None where it is missing, unreadable or fills the buffer, which is told.
 pub fn read_file(rt: &impl Host, name: &[u8], buf: &mut [u8], form: Form) -> Option<usize>
-    ensures { (n : ℕ) → result ≡ Some n → IsPrefixLen n buf.new }
+    ensures { IfSome result (λ n. IsPrefixLen n buf.new) }
 {
     let mut input = or_tell(rt, name, open_input(rt, name))?;
     let size = or_tell(rt, name, fill(&mut input, buf))?;

@@ -1,5 +1,6 @@
 // Refusals and faults in words: a line of their number and meaning on standard error.
-ghost use Rattle.std.specs.Prelude.{◌≡◌, ◌↔◌};
+ghost use Rattle.std.specs.Prelude.{◌≡◌};
+ghost use Rattle.std.specs.Result.{result_ok};
 
 use crate::host::Host;
 use answers::{Reason, Stop, reason_number};
@@ -90,7 +91,7 @@ pub fn tell_failed(rt: &impl Host, what: &[u8], why: Error) {
 
 // The value; where there is none, why is told.
 pub fn or_tell<T>(rt: &impl Host, what: &[u8], answer: io::Result<T>) -> Option<T>
-    ensures { (x : T) → result ≡ Some x ↔ answer ≡ Ok x }
+    ensures { result ≡ result_ok answer }
 {
     match answer {
         Ok(x) => Some(x),

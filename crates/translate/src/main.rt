@@ -3,9 +3,9 @@
 // standard output, and nothing else does. A refusal's number and meaning go to standard error.
 #![tactic(auto)]
 
-ghost use Rattle.std.specs.Prelude.{◌≡◌, ℕ, ◌≤◌, length};
+ghost use Rattle.std.specs.Io.{ReadsAtMost};
+ghost use Rattle.std.specs.Prelude.{◌≤◌, length};
 ghost use Rattle.model.specs.Limits.{longest_table};
-ghost use Rattle.messages.specs.Counts.{IsPrefixLen};
 
 use automata_files::shape_of;
 use automata_records::Shape;
@@ -36,7 +36,7 @@ fn write_file(rt: &impl Host, name: &[u8], bytes: &[u8]) -> bool {
 }
 
 fn fill_from(rt: &impl Host, name: &[u8], buf: &mut [u8]) -> io::Result<usize>
-    ensures { (n : ℕ) → result ≡ Ok n → IsPrefixLen n buf.new }
+    ensures { ReadsAtMost result buf.new }
 {
     fill(&mut fs::open(rt, path_of(name)?)?, buf)
 }

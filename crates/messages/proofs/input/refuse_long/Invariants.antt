@@ -1,9 +1,6 @@
--- The measure is the number of turns that are left.
+-- The buffer keeps its length.
 use Rattle.std.proofs.Common.{length, ◌≡◌}
 use Rattle.messages.proofs.input.refuse_long.Given as goal
 
-abbrev pub invariant-loop-left : goal.invariant-loop-left
-invariant-loop-left g l = length l.buf ≡ length l.initial.buf
-
-abbrev pub decreases-loop-left : goal.decreases-loop-left
-decreases-loop-left g l = l.left
+abbrev pub invariant-loop : goal.invariant-loop
+invariant-loop g l = length l.buf ≡ length l.initial.buf
