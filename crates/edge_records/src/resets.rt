@@ -28,12 +28,9 @@ pub fn fill_leaving(
     requires { Accepted s.now shape × (first.old ≡ replicate most_states 65535) × (next.old ≡ replicate most_transitions 65535) }
     ensures { HasLeaving (read_charts s.now) first.new next.new × (drop (transition_count (read_charts s.now)) next.new ≡ drop (transition_count (read_charts s.now)) next.old) }
 {
-    let mut t = shape.transitions;
-    while 0 < t {
-        t -= 1;
+    for t in (0..shape.transitions).rev() {
         let source = source_of(s, shape, t) as usize;
-        let i = t as usize;
-        next[i] = first[source];
+        next[t as usize] = first[source];
         first[source] = t;
     }
 }

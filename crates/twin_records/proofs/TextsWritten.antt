@@ -6,8 +6,10 @@ use Prim.Native.Nat.{ℕ, ◌+◌, ◌*◌, ◌^◌, ◌≤◌, ◌<◌}
 use native.Mathlib.Nat.{mul-add, mul-one}
 use native.Mathlib.Numerals.{add-one}
 use native.Mathlib.Omega.{arith}
-use lib.ListN.{length, get_or, take, set}
-use lib.Seq.{sets, take-suc, length-take-le}
+use borrow.Rule.Slice.PartMut.{put_mid}
+use lib.ListN.{length, get_or, take, drop}
+use lib.Seq.{sets, sets-eq, take-length}
+use Rattle.std.proofs.lemmas.Slice.{put_mid-paste}
 use Rattle.prelude.specs.Lists.{gather, keep, from, upto}
 use Rattle.records.specs.Wrote.{Wrote}
 use Rattle.records.proofs.Wrote.{sets-append, nothing-wrote, wrote_then}
@@ -16,13 +18,13 @@ use Rattle.machines.proofs.Chains.{At, chain-start, chain-all, chain_next, chain
 use Rattle.twin_records.specs.Texts.{Puts}
 use Rattle.prelude.proofs.Gathered.{gather_none, gather-cons, gather-more}
 
--- ---- byte after byte
+-- ---- a part of a buffer replaced
 
-pub sets_more : (l t : List ℕ) (i k : ℕ) → k < length t → sets l i (take (k + 1) t) ≡ set (sets l i (take k t)) (i + k) (get_or t k 0)
-sets_more l t i k h =
-    ap (sets l i) (ap (λ n. take n t) (add-one k) ∙ take-suc t k 0 h)
-    ∙ sets-append (take k t) (get_or t k 0 ∷ []) l i
-    ∙ ap (λ n. set (sets l i (take k t)) (i + n) (get_or t k 0)) (length-take-le k t (omega arith))
+pub sets-part : (out bytes part : List ℕ) (at k : ℕ) → part ≡ bytes → k ≡ length bytes → at + k ≤ length out → put_mid at k out part ≡ sets out at bytes
+sets-part out bytes part at k is long room =
+    put_mid-paste at k out part bytes (length bytes) is (sym long) refl
+    ∙ ap (λ t. take at out ++ t ++ drop (at + length bytes) out) (take-length bytes)
+    ∙ sym (sets-eq bytes out at (omega arith))
 
 -- ---- the texts of the numbers below n, one after the other
 

@@ -16,24 +16,20 @@ fn high(v: u16) -> u8
     (v / 256 % 256) as u8
 }
 
-// A record that goes past the end. The loop ends where the buffer does, so that the bytes stay in one place and a whole record is one copy.
+// A record that goes past the end: of its bytes those that have room.
 fn put_part(out: &mut [u8], at: usize, bytes: [u8; 16])
     requires { (at ≤ length out.old) × (length out.old ≤ at + 16) }
     ensures { out.new ≡ sets out.old at bytes }
 {
     let room = out.len() - at;
-    for k in 0..room {
-        out[at + k] = bytes[k];
-    }
+    out[at..].copy_from_slice(&bytes[..room]);
 }
 
 fn put_whole(out: &mut [u8], at: usize, bytes: [u8; 16])
     requires { at + 16 ≤ length out.old }
     ensures { out.new ≡ sets out.old at bytes }
 {
-    for k in 0..16 {
-        out[at + k] = bytes[k];
-    }
+    out[at..at + 16].copy_from_slice(&bytes);
 }
 
 // Answers the place behind the record, as all of these do.

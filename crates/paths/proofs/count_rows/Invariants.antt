@@ -8,6 +8,3 @@ use Rattle.paths.proofs.count_rows.Given as goal
 abbrev pub invariant-loop-i : goal.invariant-loop-i
 invariant-loop-i l =
     Followed (read_charts l.s) l.path l.i (walk_in l.shape.charts l.locations l.position l.cycles) l.rows
-
-abbrev pub decreases-loop-i : goal.decreases-loop-i
-decreases-loop-i l = length l.path - l.i

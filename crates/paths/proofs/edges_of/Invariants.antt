@@ -4,6 +4,3 @@ use Rattle.paths.proofs.edges_of.Given as goal
 
 abbrev pub invariant-loop-e : goal.invariant-loop-e
 invariant-loop-e l = Held l.s l.shape.charts l.e l.automata l.sources l.targets × (l.e ≤ l.edges)
-
-abbrev pub decreases-loop-e : goal.decreases-loop-e
-decreases-loop-e l = l.edges - l.e

@@ -4,6 +4,3 @@ use Rattle.paths.proofs.idling_of.Given as goal
 
 abbrev pub invariant-loop-state : goal.invariant-loop-state
 invariant-loop-state l = Idles l.s l.shape l.state l.edges l.states
-
-abbrev pub decreases-loop-state : goal.decreases-loop-state
-decreases-loop-state l = l.shape.states - l.state

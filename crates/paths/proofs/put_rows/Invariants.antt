@@ -13,6 +13,3 @@ invariant-loop-i l =
     × (l.position ≡ (walk_along (read_charts l.s) (take l.i l.path) (walk_start (read_charts l.s))).position)
     × (l.cycles ≡ (walk_along (read_charts l.s) (take l.i l.path) (walk_start (read_charts l.s))).cycles)
     × (l.rows ≡ written (read_charts l.s) l.path l.initial.rows l.i)
-
-abbrev pub decreases-loop-i : goal.decreases-loop-i
-decreases-loop-i l = length l.path - l.i

@@ -7,6 +7,3 @@ use Rattle.edge_records.proofs.literals.put_literals.Given as goal
 
 abbrev pub invariant-loop-t : goal.invariant-loop-t
 invariant-loop-t l = Texts (λ i. literal_texts i (literals_of (read_charts l.s) (from_transition i))) l.shape.transitions (2 ^ 22) l.initial.out l.at l.out l.next l.t
-
-abbrev pub decreases-loop-t : goal.decreases-loop-t
-decreases-loop-t l = l.shape.transitions - l.t

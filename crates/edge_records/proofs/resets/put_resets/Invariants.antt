@@ -7,6 +7,3 @@ use Rattle.edge_records.proofs.resets.put_resets.Given as goal
 
 abbrev pub invariant-loop-t : goal.invariant-loop-t
 invariant-loop-t l = Texts (λ i. resets_text (read_charts l.s) (from_transition i)) l.shape.transitions (2 ^ 21) l.initial.out l.at l.out l.place l.t
-
-abbrev pub decreases-loop-t : goal.decreases-loop-t
-decreases-loop-t l = l.shape.transitions - l.t

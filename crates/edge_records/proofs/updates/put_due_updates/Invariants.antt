@@ -9,6 +9,3 @@ use Rattle.edge_records.proofs.updates.put_due_updates.Given as goal
 
 abbrev pub invariant-loop-state : goal.invariant-loop-state
 invariant-loop-state l = Texts (λ i. gather (updates_text (read_charts l.s)) (idle_origins (read_charts l.s) i)) l.shape.states (2 ^ 20) l.initial.out l.at l.out l.place l.state × (l.edge ≡ first_idle (read_charts l.s) l.state)
-
-abbrev pub decreases-loop-state : goal.decreases-loop-state
-decreases-loop-state l = l.shape.states - l.state

@@ -5,6 +5,3 @@ use Rattle.translation.proofs.lengths.count_actions.Given as goal
 
 abbrev pub invariant-loop-a : goal.invariant-loop-a
 invariant-loop-a l = (l.a ≤ l.shape.actions) × Added (key_at l.s l.shape) (λ i. 1) 641 l.counts l.a
-
-abbrev pub decreases-loop-a : goal.decreases-loop-a
-decreases-loop-a l = l.shape.actions - l.a

@@ -7,6 +7,3 @@ use Rattle.translation.proofs.lengths.count_effects.Given as goal
 
 abbrev pub invariant-loop-t : goal.invariant-loop-t
 invariant-loop-t l = (l.t ≤ l.shape.transitions) × (l.n ≡ sum_from (effects_of (read_charts l.s)) 0 l.t) × (l.n ≤ 41 * l.t)
-
-abbrev pub decreases-loop-t : goal.decreases-loop-t
-decreases-loop-t l = l.shape.transitions - l.t

@@ -14,6 +14,3 @@ invariant-loop-state l = (l.state ≤ l.shape.states)
     × ((st : ℕ) → st < l.state → get_or l.clocks st 0 ≡ length (clocks_of_state (read_charts l.s) st))
     × ((st : ℕ) → l.state ≤ st → st < 128 → get_or l.clocks st 0 ≡ length (clocks_leaving (read_charts l.s) st))
     × (length l.clocks ≡ 128)
-
-abbrev pub decreases-loop-state : goal.decreases-loop-state
-decreases-loop-state l = l.shape.states - l.state

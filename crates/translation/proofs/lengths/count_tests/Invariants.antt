@@ -13,6 +13,3 @@ invariant-loop-t l = (l.t ≤ l.shape.transitions)
     × (l.n ≤ 300 * l.t)
     × Added (source_of (read_charts l.s)) (λ u. 1) 128 l.leaving l.t
     × Added (source_of (read_charts l.s)) (clocks_at (read_charts l.s)) 128 l.clocks l.t
-
-abbrev pub decreases-loop-t : goal.decreases-loop-t
-decreases-loop-t l = l.shape.transitions - l.t

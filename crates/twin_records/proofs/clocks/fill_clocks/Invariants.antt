@@ -8,6 +8,3 @@ use Rattle.twin_records.proofs.clocks.fill_clocks.Given as goal
 
 abbrev pub invariant-loop-t : goal.invariant-loop-t
 invariant-loop-t l = (l.t ≤ l.shape.transitions) × (l.count ≤ l.t) × (l.count ≡ clock_of (read_charts l.s) l.t) × Filled (clock_of (read_charts l.s)) 0 l.initial.clocks l.clocks l.t × (length l.initial.clocks ≡ 256)
-
-abbrev pub decreases-loop-t : goal.decreases-loop-t
-decreases-loop-t l = l.shape.transitions - l.t

@@ -8,7 +8,4 @@ use Rattle.twin_records.specs.Tables.{waiting_place}
 use Rattle.twin_records.proofs.clocks.fill_waiting.Given as goal
 
 abbrev pub invariant-loop-state : goal.invariant-loop-state
-invariant-loop-state l = (l.state ≤ l.shape.states) × (l.count ≡ waiting_clock (read_charts l.s) l.state) × Filled (waiting_place (read_charts l.s)) 65535 l.initial.waiting l.waiting l.state × (length l.initial.waiting ≡ 128)
-
-abbrev pub decreases-loop-state : goal.decreases-loop-state
-decreases-loop-state l = l.shape.states - l.state
+invariant-loop-state l = (l.state ≤ l.fn.shape.states) × (l.count ≡ waiting_clock (read_charts l.s) l.state) × Filled (waiting_place (read_charts l.s)) 65535 l.initial.waiting l.waiting l.state × (length l.initial.waiting ≡ 128)

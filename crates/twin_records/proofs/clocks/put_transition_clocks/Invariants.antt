@@ -9,6 +9,3 @@ use Rattle.twin_records.proofs.clocks.put_transition_clocks.Given as goal
 
 abbrev pub invariant-loop-t : goal.invariant-loop-t
 invariant-loop-t l = Texts (λ i. section 37 (map write_clock (clocks_of (transition_at l.s l.shape i).trigger))) l.shape.transitions 16 l.initial.out l.at l.out l.next l.t
-
-abbrev pub decreases-loop-t : goal.decreases-loop-t
-decreases-loop-t l = l.shape.transitions - l.t

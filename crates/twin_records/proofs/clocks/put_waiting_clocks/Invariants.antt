@@ -9,6 +9,3 @@ use Rattle.twin_records.proofs.clocks.put_waiting_clocks.Given as goal
 
 abbrev pub invariant-loop-state : goal.invariant-loop-state
 invariant-loop-state l = Texts (λ i. section 37 (map write_clock (waiting_clocks (read_charts l.s) i))) l.shape.states 16 l.initial.out l.at l.out l.next l.state
-
-abbrev pub decreases-loop-state : goal.decreases-loop-state
-decreases-loop-state l = l.shape.states - l.state

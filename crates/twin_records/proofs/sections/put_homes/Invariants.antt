@@ -7,6 +7,3 @@ use Rattle.twin_records.proofs.sections.put_homes.Given as goal
 
 abbrev pub invariant-loop-state : goal.invariant-loop-state
 invariant-loop-state l = Texts (λ i. record_text 34 (home_at l.s l.shape i ∷ [])) l.shape.states 16 l.initial.out l.at l.out l.next l.state
-
-abbrev pub decreases-loop-state : goal.decreases-loop-state
-decreases-loop-state l = l.shape.states - l.state

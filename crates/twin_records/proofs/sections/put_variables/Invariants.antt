@@ -7,6 +7,3 @@ use Rattle.twin_records.proofs.sections.put_variables.Given as goal
 
 abbrev pub invariant-loop-v : goal.invariant-loop-v
 invariant-loop-v l = Texts (λ i. record_text 38 (write_variable (variable_at l.s l.shape i))) l.shape.variables 16 l.initial.out l.at l.out l.next l.v
-
-abbrev pub decreases-loop-v : goal.decreases-loop-v
-decreases-loop-v l = l.shape.variables - l.v
