@@ -1,14 +1,20 @@
 use mathlib.Core.Path.{◌≡◌, refl, sym, ◌∙◌, subst}
+use mathlib.Core.List.{List}
 use Prim.Native.Nat.{ℕ, ◌+◌, ◌-◌, ◌<◌}
 use native.Mathlib.Omega.{arith}
 use lib.ListN.{drop, replicate}
 use lib.Seq.{drop-set-lt}
+use Rattle.chart_records.specs.declared.Shape.{Shape}
+use Rattle.chart_records.specs.Accepted.{Accepted}
 use Rattle.chart_records.proofs.PlacesRead.{length-transitions, most-states, most-transitions}
 use Rattle.machines.proofs.Chains.{Chains, chains-none, chains-more, chains-made}
 use Rattle.chart_steps.proofs.TablesRow.{source_at}
 use Rattle.chart_steps.proofs.Accepted.{source_known}
 use Rattle.edge_records.proofs.TextsEdges.{leaving-are}
 use Rattle.edge_records.proofs.resets.fill_leaving.Goals as goal
+
+source-few : (s : List ℕ) (sh : Shape) → Accepted s sh → (t source : ℕ) → t < sh.transitions → source ≡ source_at s sh t → source < 128
+source-few s sh ok t source h e = omega (arith, source_known s sh ok t h, most-states s sh ok.shape)
 
 pub loop-t-init : goal.loop-t-init
 loop-t-init c =
@@ -18,41 +24,27 @@ loop-t-init c =
       refl,
     )
 
-pub overflow_sub-t : goal.overflow_sub-t
-overflow_sub-t c =
-    omega arith
-
 pub bounds-first-source : goal.bounds-first-source
 bounds-first-source c =
-    let in-states : c.source_of-source.result < 128 = let x = c.args in
-    let h : c.loop-t.t - 1 < x.shape.transitions = omega (arith, c.loop-t.invariant.0.bound, c.loop-t-test.true) in
-    omega (arith, c.source_of-source.ensures, source_known x.s.now x.shape c.requires.0 (c.loop-t.t - 1) h, most-states x.s.now x.shape c.requires.0.shape) in
-    in-states
-
-pub bounds-next-i : goal.bounds-next-i
-bounds-next-i c =
-    let in-file : c.loop-t.t - 1 < 256 = let x = c.args in
-    omega (arith, c.loop-t.invariant.0.bound, most-transitions x.s.now x.shape c.requires.0.shape, c.loop-t-test.true) in
-    in-file
+    source-few c.args.s.now c.args.shape c.requires.0 (c.loop-t.t - 1) c.source_of-source.result (omega arith) c.source_of-source.ensures
 
 pub bounds-first-source-in-loop-t : goal.bounds-first-source-in-loop-t
 bounds-first-source-in-loop-t c =
-    let in-states : c.source_of-source.result < 128 = let x = c.args in
-    let h : c.loop-t.t - 1 < x.shape.transitions = omega (arith, c.loop-t.invariant.0.bound, c.loop-t-test.true) in
-    omega (arith, c.source_of-source.ensures, source_known x.s.now x.shape c.requires.0 (c.loop-t.t - 1) h, most-states x.s.now x.shape c.requires.0.shape) in
-    in-states
+    source-few c.args.s.now c.args.shape c.requires.0 (c.loop-t.t - 1) c.source_of-source.result (omega arith) c.source_of-source.ensures
+
+pub bounds-next-t : goal.bounds-next-t
+bounds-next-t c =
+    omega (arith, most-transitions c.args.s.now c.args.shape c.requires.0.shape)
 
 pub loop-t-preserved : goal.loop-t-preserved
 loop-t-preserved c =
-    let in-states : c.source_of-source.result < 128 = let x = c.args in
-    let h : c.loop-t.t - 1 < x.shape.transitions = omega (arith, c.loop-t.invariant.0.bound, c.loop-t-test.true) in
-    omega (arith, c.source_of-source.ensures, source_known x.s.now x.shape c.requires.0 (c.loop-t.t - 1) h, most-states x.s.now x.shape c.requires.0.shape) in
     let x = c.args in
     let l = c.loop-t in
-    let e : l.t ≡ l.t - 1 + 1 = omega (arith, c.loop-t-test.true) in (
+    let e : l.t ≡ l.t - 1 + 1 = omega (arith, c.loop-t-test.true) in
+    let few = source-few x.s.now x.shape c.requires.0 (l.t - 1) c.source_of-source.result (omega arith) c.source_of-source.ensures in (
       chains-more (source_at x.s.now x.shape) 128 256 x.shape.transitions l.first l.next (l.t - 1) c.source_of-source.result
           (subst (Chains (source_at x.s.now x.shape) 128 256 x.shape.transitions l.first l.next) e l.invariant.0)
-          (omega (arith, most-transitions x.s.now x.shape c.requires.0.shape)) (sym c.source_of-source.ensures) (omega (arith, in-states)),
+          (omega (arith, most-transitions x.s.now x.shape c.requires.0.shape)) (sym c.source_of-source.ensures) few,
       drop-set-lt x.shape.transitions l.next (l.t - 1) _ (omega (arith, l.invariant.0.bound, c.loop-t-test.true)) ∙ l.invariant.1,
     )
 
