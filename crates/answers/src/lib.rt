@@ -4,13 +4,16 @@
 ghost use Rattle.std.specs.Prelude.{◌≡◌, ℕ, ◌<◌, ◌^◌, pos, neg_ℤ};
 ghost use Rattle.records.specs.Refusal.{refusal_number, val};
 ghost use Rattle.records.specs.RefusalOf.{refusal_of};
+ghost use Rattle.expressions.specs.Answers.{value_reason_of};
 ghost use Rattle.model.specs.Calls.{numbered, answer_code};
 ghost use Rattle.answers.specs.Answers.{reason_of, refused_code, answer_of, stop_of, ending_of, cycles_of, done_code, count_code};
 ghost use Rattle.answers.specs.declared.Stop.TheVariants.{Fault, Refused};
 
+use expressions::outcomes;
 use records::refusals::{Refusal, refusal_number};
 
-// Why a turn faults, each by its number in the refusal table: a number out of 32 bits, a zero divisor, a number out of its variable's bounds; of automata also no edge open, two or more open.
+// Why a turn faults, each by its number in the refusal table: a number out of 32 bits, a zero divisor, a number out of its variable's bounds; of automata also no
+// edge open, two or more open.
 #[derive(Clone, Copy, PartialEq, Eq)]
 pub enum Reason {
     Range = 15,
@@ -20,7 +23,20 @@ pub enum Reason {
     ManyOpen = 19,
 }
 
-// A turn's: the transition or edge taken, that the chart idled, that time passed, why it faulted, or why it was refused. Automata never idle.
+// The faults of an expression are among those of a turn.
+impl From<outcomes::Reason> for Reason {
+    ghost from_gives = { λ w e. reason_of e ≡ value_reason_of w };
+
+    fn from(w: outcomes::Reason) -> Reason {
+        match w {
+            outcomes::Reason::Range => Reason::Range,
+            outcomes::Reason::Divisor => Reason::Divisor,
+        }
+    }
+}
+
+// A turn's: the transition or edge taken, that the chart idled, that time passed, why it faulted, or why it was refused. Automata never idle. One enum, and no Result
+// with `Stop`: document 01 names this form (docs/DECISIONS.md, "Forms that document 01 names").
 #[derive(Clone, Copy)]
 pub enum Answer {
     Taken(u16),
