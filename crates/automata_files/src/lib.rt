@@ -59,12 +59,10 @@ fn all_sound(s: &[u8]) -> bool
     ensures { result ≡ all (λ r. unused_are_zero (unused_in_table r) r && table_in_code r) (records s.now) }
 {
     let mut sound = true;
-    let mut i: usize = 0;
-    while i < s.len() / 16 {
+    for i in 0..s.len() / 16 {
         let at = 16 * i;
         let end = at + 16;
         sound = sound & record_sound(&s[at..end]);
-        i += 1;
     }
     sound
 }

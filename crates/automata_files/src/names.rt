@@ -26,15 +26,7 @@ fn initial_named(s: &[u8], shape: Shape, a: u16) -> bool
 fn initials_named(s: &[u8], shape: Shape) -> bool
     ensures { result ≡ all (initial_named s.now shape) (upto shape.automata) }
 {
-    let size = shape.automata;
-    let mut a = 0;
-    while a < size {
-        if !initial_named(s, shape, a) {
-            return false;
-        }
-        a += 1;
-    }
-    true
+    (0..shape.automata).all(|a| initial_named(s, shape, a))
 }
 
 fn home_named(s: &[u8], shape: Shape, n: u16) -> bool
@@ -46,15 +38,7 @@ fn home_named(s: &[u8], shape: Shape, n: u16) -> bool
 fn homes_named(s: &[u8], shape: Shape) -> bool
     ensures { result ≡ all (home_named s.now shape) (upto shape.locations) }
 {
-    let size = shape.locations;
-    let mut n = 0;
-    while n < size {
-        if !home_named(s, shape, n) {
-            return false;
-        }
-        n += 1;
-    }
-    true
+    (0..shape.locations).all(|n| home_named(s, shape, n))
 }
 
 fn edge_named(s: &[u8], shape: Shape, e: u16) -> bool
@@ -68,15 +52,7 @@ fn edge_named(s: &[u8], shape: Shape, e: u16) -> bool
 fn edges_named(s: &[u8], shape: Shape) -> bool
     ensures { result ≡ all (edge_named s.now shape) (upto shape.edges) }
 {
-    let size = shape.edges;
-    let mut e = 0;
-    while e < size {
-        if !edge_named(s, shape, e) {
-            return false;
-        }
-        e += 1;
-    }
-    true
+    (0..shape.edges).all(|e| edge_named(s, shape, e))
 }
 
 fn literal_trigger_named(trigger: LiteralTrigger, clocks: u16) -> bool
@@ -100,15 +76,7 @@ fn literal_named(s: &[u8], shape: Shape, l: u16) -> bool
 fn literals_named(s: &[u8], shape: Shape) -> bool
     ensures { result ≡ all (literal_named s.now shape) (upto shape.literals) }
 {
-    let size = shape.literals;
-    let mut l = 0;
-    while l < size {
-        if !literal_named(s, shape, l) {
-            return false;
-        }
-        l += 1;
-    }
-    true
+    (0..shape.literals).all(|l| literal_named(s, shape, l))
 }
 
 fn update_named(s: &[u8], shape: Shape, u: u16) -> bool
@@ -126,15 +94,7 @@ fn update_named(s: &[u8], shape: Shape, u: u16) -> bool
 fn updates_named(s: &[u8], shape: Shape) -> bool
     ensures { result ≡ all (update_named s.now shape) (upto shape.updates) }
 {
-    let size = shape.updates;
-    let mut u = 0;
-    while u < size {
-        if !update_named(s, shape, u) {
-            return false;
-        }
-        u += 1;
-    }
-    true
+    (0..shape.updates).all(|u| update_named(s, shape, u))
 }
 
 fn reset_named(s: &[u8], shape: Shape, r: u16) -> bool
@@ -146,15 +106,7 @@ fn reset_named(s: &[u8], shape: Shape, r: u16) -> bool
 fn resets_named(s: &[u8], shape: Shape) -> bool
     ensures { result ≡ all (reset_named s.now shape) (upto shape.resets) }
 {
-    let size = shape.resets;
-    let mut i = 0;
-    while i < size {
-        if !reset_named(s, shape, i) {
-            return false;
-        }
-        i += 1;
-    }
-    true
+    (0..shape.resets).all(|i| reset_named(s, shape, i))
 }
 
 // Of the nodes it is known by what `test_nodes` found.

@@ -20,15 +20,7 @@ fn guards_fit(s: &[u8], shape: Shape) -> bool
     ensures { result ≡ all (λ l. truths (node_at (node_part s.now shape)) (guard_at s.now shape l)) (upto shape.literals) }
 {
     let nodes = node_records(s, shape);
-    let n = shape.literals;
-    let mut l = 0;
-    while l < n {
-        if !guard_sorted(guard_of(s, shape, l), nodes) {
-            return false;
-        }
-        l += 1;
-    }
-    true
+    (0..shape.literals).all(|l| guard_sorted(guard_of(s, shape, l), nodes))
 }
 
 // An update's guard and its assigned node.
@@ -43,15 +35,7 @@ fn updates_fit(s: &[u8], shape: Shape) -> bool
     ensures { result ≡ all (λ u. truths (node_at (node_part s.now shape)) (condition_at s.now shape u) && numbers (node_at (node_part s.now shape)) (assigned_at s.now shape u)) (upto shape.updates) }
 {
     let nodes = node_records(s, shape);
-    let n = shape.updates;
-    let mut u = 0;
-    while u < n {
-        if !update_fits(s, shape, nodes, u) {
-            return false;
-        }
-        u += 1;
-    }
-    true
+    (0..shape.updates).all(|u| update_fits(s, shape, nodes, u))
 }
 
 // None of the first `size` nodes is used twice.
@@ -59,14 +43,7 @@ fn none_twice(uses: &[u8], size: u16) -> bool
     requires { size ≤ length uses.now }
     ensures { result ≡ all (λ n. leb (get_or uses.now n 0) 1) (upto size) }
 {
-    let mut n = 0;
-    while n < size {
-        if 1 < uses[n as usize] {
-            return false;
-        }
-        n += 1;
-    }
-    true
+    (0..size).all(|n| uses[n as usize] <= 1)
 }
 
 // By what `test_nodes` found of the nodes.

@@ -24,15 +24,7 @@ pub fn clocks_tick(s: &[u8], shape: Shape) -> bool
     requires { IsShape s.now shape }
     ensures { result ≡ clocks_tick (read_automata s.now) }
 {
-    let size = shape.clocks;
-    let mut k = 0;
-    while k < size {
-        if !clock_ticks(s, shape, k) {
-            return false;
-        }
-        k += 1;
-    }
-    true
+    (0..shape.clocks).all(|k| clock_ticks(s, shape, k))
 }
 
 // The automaton of a location; 0 of what is none.
@@ -61,15 +53,7 @@ fn edges_inside(s: &[u8], shape: Shape) -> bool
     requires { IsShape s.now shape }
     ensures { result ≡ all (edge_inside s.now shape) (upto shape.edges) }
 {
-    let size = shape.edges;
-    let mut e = 0;
-    while e < size {
-        if !edge_inside(s, shape, e) {
-            return false;
-        }
-        e += 1;
-    }
-    true
+    (0..shape.edges).all(|e| edge_inside(s, shape, e))
 }
 
 fn initial_inside(s: &[u8], shape: Shape, a: u16) -> bool
@@ -84,15 +68,7 @@ fn initials_inside(s: &[u8], shape: Shape) -> bool
     requires { IsShape s.now shape }
     ensures { result ≡ all (initial_inside s.now shape) (upto shape.automata) }
 {
-    let size = shape.automata;
-    let mut a = 0;
-    while a < size {
-        if !initial_inside(s, shape, a) {
-            return false;
-        }
-        a += 1;
-    }
-    true
+    (0..shape.automata).all(|a| initial_inside(s, shape, a))
 }
 
 pub fn inside_automata(s: &[u8], shape: Shape) -> bool
@@ -114,13 +90,5 @@ pub fn idle_edges_stay(s: &[u8], shape: Shape) -> bool
     requires { IsShape s.now shape }
     ensures { result ≡ idle_edges_stay (read_automata s.now) }
 {
-    let size = shape.edges;
-    let mut e = 0;
-    while e < size {
-        if !idle_stays(s, shape, e) {
-            return false;
-        }
-        e += 1;
-    }
-    true
+    (0..shape.edges).all(|e| idle_stays(s, shape, e))
 }

@@ -13,43 +13,26 @@ ghost use Rattle.chart_checks.specs.Names.{initial_named, home_named, transition
 
 use chart_records::Shape;
 use chart_records::fields::{
-    Deed, condition_of, deed_of, guard_of, home_of, initial_of, owner_of, place_of,
-    source_of, target_of,
+    Deed, condition_of, deed_of, guard_of, home_of, initial_of, owner_of, place_of, source_of,
+    target_of,
 };
 
 fn initials_named(s: &[u8], shape: Shape) -> bool
     ensures { result ≡ all (initial_named s.now shape) (upto shape.charts) }
 {
-    let mut c = 0;
-    while c < shape.charts {
-        if shape.states <= initial_of(s, c) {
-            return false;
-        }
-        c += 1;
-    }
-    true
+    (0..shape.charts).all(|c| initial_of(s, c) < shape.states)
 }
 
 fn homes_named(s: &[u8], shape: Shape) -> bool
     ensures { result ≡ all (home_named s.now shape) (upto shape.states) }
 {
-    let mut n = 0;
-    while n < shape.states {
-        if shape.charts <= (home_of(s, shape, n) as u16) {
-            return false;
-        }
-        n += 1;
-    }
-    true
+    (0..shape.states).all(|n| (home_of(s, shape, n) as u16) < shape.charts)
 }
 
 pub fn guard_named(guard: Option<u16>, nodes: u16) -> bool
     ensures { result ≡ guard_named nodes (guard_for guard) }
 {
-    match guard {
-        None => true,
-        Some(n) => n < nodes,
-    }
+    guard.is_none_or(|n| n < nodes)
 }
 
 fn transition_named(s: &[u8], shape: Shape, t: u16) -> bool
@@ -63,14 +46,7 @@ fn transition_named(s: &[u8], shape: Shape, t: u16) -> bool
 fn transitions_named(s: &[u8], shape: Shape) -> bool
     ensures { result ≡ all (transition_named s.now shape) (upto shape.transitions) }
 {
-    let mut t = 0;
-    while t < shape.transitions {
-        if !transition_named(s, shape, t) {
-            return false;
-        }
-        t += 1;
-    }
-    true
+    (0..shape.transitions).all(|t| transition_named(s, shape, t))
 }
 
 fn deed_named(deed: Deed, variables: u16, nodes: u16) -> bool
@@ -108,14 +84,7 @@ fn action_named(s: &[u8], shape: Shape, i: u16) -> bool
 fn actions_named(s: &[u8], shape: Shape) -> bool
     ensures { result ≡ all (action_named s.now shape) (upto shape.actions) }
 {
-    let mut i = 0;
-    while i < shape.actions {
-        if !action_named(s, shape, i) {
-            return false;
-        }
-        i += 1;
-    }
-    true
+    (0..shape.actions).all(|i| action_named(s, shape, i))
 }
 
 // Of the nodes it is known by what `test_nodes` found.

@@ -19,21 +19,19 @@ use chart_records::fields::{Deed, condition_of, deed_of, guard_of, node_records}
 use expressions::sorts::{add_use, is_number, is_truth};
 
 // A guard is a truth.
+#[tactic(auto, unfolding(prelude::specs::Lists::all))]
 pub fn guard_sorted(guard: Option<u16>, nodes: &[u8]) -> bool
     ensures { result ≡ truths (node_at nodes.now) (file.guard_nodes (guard_for guard)) }
 {
-    match guard {
-        None => true,
-        Some(n) => is_truth(nodes, n),
-    }
+    guard.is_none_or(|n| is_truth(nodes, n))
 }
 
+#[tactic(auto, unfolding(expressions::specs::Uses::add_uses))]
 fn count_guard(guard: Option<u16>, uses: &mut [u8])
     ensures { uses.new ≡ add_uses uses.old (file.guard_nodes (guard_for guard)) }
 {
-    match guard {
-        None => {}
-        Some(n) => add_use(uses, n),
+    if let Some(n) = guard {
+        add_use(uses, n);
     }
 }
 
@@ -51,17 +49,15 @@ fn guards_fit(s: &[u8], shape: Shape, uses: &mut [u8]) -> bool
     ensures { (result ≡ truths (node_of (read_charts s.now).nodes) (file.transition_guards (read_charts s.now))) × (uses.new ≡ add_uses uses.old (guard_use s.now shape)) }
 {
     let nodes = node_records(s, shape);
-    let n = shape.transitions;
     let mut fit = true;
-    let mut t = 0;
-    while t < n {
-        fit = fit & guard_fits(s, shape, nodes, t, uses);
-        t += 1;
+    for t in 0..shape.transitions {
+        fit &= guard_fits(s, shape, nodes, t, uses);
     }
     fit
 }
 
 // An assigned node is a number.
+#[tactic(auto, unfolding(prelude::specs::Lists::all))]
 pub fn deed_sorted(deed: Deed, nodes: &[u8]) -> bool
     ensures { result ≡ numbers (node_at nodes.now) (file.assigned_nodes (deed_for deed)) }
 {
@@ -71,12 +67,12 @@ pub fn deed_sorted(deed: Deed, nodes: &[u8]) -> bool
     }
 }
 
+#[tactic(auto, unfolding(expressions::specs::Uses::add_uses))]
 fn count_assigned(deed: Deed, uses: &mut [u8])
     ensures { uses.new ≡ add_uses uses.old (file.assigned_nodes (deed_for deed)) }
 {
-    match deed {
-        Deed::Assign(_, n) => add_use(uses, n),
-        Deed::Raise(_) => {}
+    if let Deed::Assign(_, n) = deed {
+        add_use(uses, n);
     }
 }
 
@@ -98,12 +94,9 @@ fn actions_fit(s: &[u8], shape: Shape, uses: &mut [u8]) -> bool
         × (uses.new ≡ add_uses uses.old (action_use s.now shape)) }
 {
     let nodes = node_records(s, shape);
-    let n = shape.actions;
     let mut fit = true;
-    let mut i = 0;
-    while i < n {
-        fit = fit & action_fits(s, shape, nodes, i, uses);
-        i += 1;
+    for i in 0..shape.actions {
+        fit &= action_fits(s, shape, nodes, i, uses);
     }
     fit
 }
@@ -113,14 +106,7 @@ fn all_once(uses: &[u8], size: u16) -> bool
     requires { size ≤ length uses.now }
     ensures { result ≡ all (λ n. eqb (get_or uses.now n 0) 1) (upto size) }
 {
-    let mut n = 0;
-    while n < size {
-        if uses[n as usize] != 1 {
-            return false;
-        }
-        n += 1;
-    }
-    true
+    (0..size).all(|n| uses[n as usize] == 1)
 }
 
 // Of a framed file whose codes and ranges are kept, by what `test_nodes` found of its nodes' operands; `uses` has those as operands.

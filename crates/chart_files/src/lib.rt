@@ -54,13 +54,11 @@ fn test_records(s: &[u8]) -> Tested
 {
     let mut clean = true;
     let mut coded = true;
-    let mut i: usize = 0;
-    while i < s.len() / 16 {
+    for i in 0..s.len() / 16 {
         let at = 16 * i;
         let end = at + 16;
         clean = clean & record_clean(&s[at..end]);
         coded = coded & in_code(&s[at..end]);
-        i += 1;
     }
     Tested {
         clean: clean,

@@ -15,8 +15,8 @@ ghost use Rattle.chart_files.specs.Structure.{inside_chart, is_free, transition_
 
 use chart_records::Shape;
 use chart_records::fields::{
-    Trigger, guard_of, home_of, initial_of, owner_of, place_of, priority_of, source_of,
-    target_of, trigger_of,
+    Trigger, guard_of, home_of, initial_of, owner_of, place_of, priority_of, source_of, target_of,
+    trigger_of,
 };
 use expressions::sorts::add_use;
 use records::byte_at;
@@ -48,15 +48,7 @@ fn inside_charts(s: &[u8], shape: Shape) -> bool
     requires { IsShape s.now shape }
     ensures { result ≡ file.inside_charts (read_charts s.now) }
 {
-    let n = shape.transitions;
-    let mut t = 0;
-    while t < n {
-        if !inside_chart(s, shape, t) {
-            return false;
-        }
-        t += 1;
-    }
-    true
+    (0..shape.transitions).all(|t| inside_chart(s, shape, t))
 }
 
 // No guard.
@@ -82,22 +74,16 @@ fn unconditional(s: &[u8], shape: Shape, t: u16) -> bool
 fn count_initials(s: &[u8], shape: Shape, initial: &mut [u8])
     ensures { initial.new ≡ add_uses initial.old (map (initial_at s.now shape) (upto shape.charts)) }
 {
-    let n = shape.charts;
-    let mut c = 0;
-    while c < n {
+    for c in 0..shape.charts {
         add_use(initial, initial_of(s, c));
-        c += 1;
     }
 }
 
 fn count_sources(s: &[u8], shape: Shape, left: &mut [u8])
     ensures { left.new ≡ add_uses left.old (map (source_at s.now shape) (upto shape.transitions)) }
 {
-    let n = shape.transitions;
-    let mut t = 0;
-    while t < n {
+    for t in 0..shape.transitions {
         add_use(left, source_of(s, shape, t));
-        t += 1;
     }
 }
 
@@ -115,15 +101,7 @@ fn all_left_once(s: &[u8], shape: Shape, left: &[u8]) -> bool
     requires { IsShape s.now shape }
     ensures { result ≡ all (left_once s.now shape left.now) (upto shape.charts) }
 {
-    let n = shape.charts;
-    let mut c = 0;
-    while c < n {
-        if !left_once(s, shape, left, c) {
-            return false;
-        }
-        c += 1;
-    }
-    true
+    (0..shape.charts).all(|c| left_once(s, shape, left, c))
 }
 
 // A transition does not enter an initial state, and leaves one, if it does, unconditionally.
@@ -138,15 +116,7 @@ fn transition_fits_initials(s: &[u8], shape: Shape, initial: &[u8], t: u16) -> b
 fn transitions_fit_initials(s: &[u8], shape: Shape, initial: &[u8]) -> bool
     ensures { result ≡ all (transition_fits_initials s.now shape initial.now) (upto shape.transitions) }
 {
-    let n = shape.transitions;
-    let mut t = 0;
-    while t < n {
-        if !transition_fits_initials(s, shape, initial, t) {
-            return false;
-        }
-        t += 1;
-    }
-    true
+    (0..shape.transitions).all(|t| transition_fits_initials(s, shape, initial, t))
 }
 
 // Action i is neither an entry nor an exit action of an initial state.
@@ -161,15 +131,7 @@ fn action_fits_initials(s: &[u8], shape: Shape, initial: &[u8], i: u16) -> bool
 fn actions_fit_initials(s: &[u8], shape: Shape, initial: &[u8]) -> bool
     ensures { result ≡ all (action_fits_initials s.now shape initial.now) (upto shape.actions) }
 {
-    let n = shape.actions;
-    let mut i = 0;
-    while i < n {
-        if !action_fits_initials(s, shape, initial, i) {
-            return false;
-        }
-        i += 1;
-    }
-    true
+    (0..shape.actions).all(|i| action_fits_initials(s, shape, initial, i))
 }
 
 // An initial state is one of its chart's, is left once and unconditionally, is never entered, and does nothing on entry or exit: all charts at once.
@@ -217,13 +179,10 @@ fn pairs_within(s: &[u8], shape: Shape, seen: &mut [u8]) -> bool
     requires { IsShape s.now shape × (all file.in_code (records s.now) ≡ true) }
     ensures { (result ≡ none_above 1 seen.old (map (pair_at s.now shape) (upto shape.transitions))) × (seen.new ≡ tally 1 seen.old (map (pair_at s.now shape) (upto shape.transitions))) }
 {
-    let n = shape.transitions;
-    let mut t = 0;
-    while t < n {
+    for t in 0..shape.transitions {
         if !count_within(seen, pair(s, shape, t), 1) {
             return false;
         }
-        t += 1;
     }
     true
 }
@@ -253,13 +212,10 @@ fn owner_at(s: &[u8], shape: Shape, i: u16) -> usize
 fn owners_within(s: &[u8], shape: Shape, counts: &mut [u8]) -> bool
     ensures { (result ≡ none_above most_owned counts.old (map (owner_at s.now shape) (upto shape.actions))) × (counts.new ≡ tally most_owned counts.old (map (owner_at s.now shape) (upto shape.actions))) }
 {
-    let n = shape.actions;
-    let mut i = 0;
-    while i < n {
+    for i in 0..shape.actions {
         if !count_within(counts, owner_at(s, shape, i), OWNED) {
             return false;
         }
-        i += 1;
     }
     true
 }

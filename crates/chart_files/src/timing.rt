@@ -27,14 +27,7 @@ fn triggers_tick(s: &[u8], shape: Shape) -> bool
     requires { IsShape s.now shape }
     ensures { result ≡ all (λ t. F.ticking t.trigger) (read_charts s.now).transitions }
 {
-    let mut t = 0;
-    while t < shape.transitions {
-        if !ticking(trigger_of(s, shape, t)) {
-            return false;
-        }
-        t += 1;
-    }
-    true
+    (0..shape.transitions).all(|t| ticking(trigger_of(s, shape, t)))
 }
 
 // An action of another place passes.
@@ -48,14 +41,7 @@ fn waits_tick(s: &[u8], shape: Shape) -> bool
     requires { IsShape s.now shape }
     ensures { result ≡ all (λ x. ltb 0 (charts.ticks x.1)) (read_charts s.now).waiting_times }
 {
-    let mut i = 0;
-    while i < shape.actions {
-        if !wait_ticks(s, shape, i) {
-            return false;
-        }
-        i += 1;
-    }
-    true
+    (0..shape.actions).all(|i| wait_ticks(s, shape, i))
 }
 
 pub fn all_ticking(s: &[u8], shape: Shape) -> bool

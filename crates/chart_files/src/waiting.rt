@@ -42,14 +42,11 @@ pub fn waits_alike(s: &[u8], shape: Shape) -> bool
     requires { IsShape s.now shape × (file.all_named (read_charts s.now) ≡ true) × (file.all_ticking (read_charts s.now) ≡ true) }
     ensures { result ≡ file.wait_alike (read_charts s.now) }
 {
-    let n = shape.actions;
     let mut first = [0u32; STATES];
-    let mut i = 0;
-    while i < n {
+    for i in 0..shape.actions {
         if !wait_fits(s, shape, i, &mut first) {
             return false;
         }
-        i += 1;
     }
     true
 }

@@ -12,6 +12,3 @@ isSound r = unused_are_zero (unused_in_table r) r && table_in_code r
 
 abbrev pub invariant-loop-i : goal.invariant-loop-i
 invariant-loop-i l = Flagged isSound l.s l.sound l.i
-
-abbrev pub decreases-loop-i : goal.decreases-loop-i
-decreases-loop-i l = length l.s / 16 - l.i

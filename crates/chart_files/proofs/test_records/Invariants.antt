@@ -11,6 +11,3 @@ isClean r = unused_are_zero (unused r) r
 
 abbrev pub invariant-loop-i : goal.invariant-loop-i
 invariant-loop-i l = Flagged isClean l.s l.clean l.i × Flagged in_code l.s l.coded l.i
-
-abbrev pub decreases-loop-i : goal.decreases-loop-i
-decreases-loop-i l = length l.s / 16 - l.i

@@ -1,22 +1,10 @@
+use Rattle.std.proofs.Common.{rules, tests, refl}
 use mathlib.Core.Path.{sym, ◌∙◌}
-use Rattle.prelude.proofs.Loops.{passed-more, passed-all, passed-not}
+use Rattle.prelude.proofs.Ranges.{all_upto}
 use Rattle.automata_records.specs.Names.{literal_named}
 use Rattle.automata_files.proofs.names.literals_named.Goals as goal
-
-pub returns-then-not-literal_named : goal.returns-then-not-literal_named
-returns-then-not-literal_named c =
-    let a = c.args in
-    let l = c.loop-l in
-    sym
-    (passed-not (literal_named a.s.now a.shape) a.shape.literals l.l l.invariant c.loop-l-test.true (sym c.literal_named.ensures ∙ c.if-not-literal_named.true))
-
-pub loop-l-preserved : goal.loop-l-preserved
-loop-l-preserved c =
-    let a = c.args in
-    let l = c.loop-l in
-    passed-more (literal_named a.s.now a.shape) a.shape.literals l.l l.invariant c.loop-l-test.true (sym c.literal_named.ensures ∙ c.if-not-literal_named.false)
 
 pub returns : goal.returns
 returns c =
     let a = c.args in
-    sym (passed-all (literal_named a.s.now a.shape) a.shape.literals c.loop-l.l c.loop-l.invariant c.loop-l-test.false)
+    all_upto (literal_named a.s.now a.shape) a.shape.literals _ _ _ c.all.ensures.ran refl (λ x b q k. search (rules, tests))

@@ -1,23 +1,11 @@
+use Rattle.std.proofs.Common.{rules, tests, refl}
 use mathlib.Core.Path.{sym, ◌∙◌}
-use Rattle.prelude.proofs.Loops.{passed-more, passed-all, passed-not}
+use Rattle.prelude.proofs.Ranges.{all_upto}
 use Rattle.automata_records.specs.Structure.{idle_stays}
 use Rattle.automata_files.proofs.StructureTests.{idle-is}
 use Rattle.automata_files.proofs.structure.idle_edges_stay.Goals as goal
 
-pub returns-then-not-idle_stays : goal.returns-then-not-idle_stays
-returns-then-not-idle_stays c =
-    let a = c.args in
-    let l = c.loop-e in
-    sym
-    (idle-is a.s.now a.shape c.requires ∙ passed-not (idle_stays a.s.now a.shape) a.shape.edges l.e l.invariant c.loop-e-test.true (sym c.idle_stays.ensures ∙ c.if-not-idle_stays.true))
-
-pub loop-e-preserved : goal.loop-e-preserved
-loop-e-preserved c =
-    let a = c.args in
-    let l = c.loop-e in
-    passed-more (idle_stays a.s.now a.shape) a.shape.edges l.e l.invariant c.loop-e-test.true (sym c.idle_stays.ensures ∙ c.if-not-idle_stays.false)
-
 pub returns : goal.returns
 returns c =
     let a = c.args in
-    sym (idle-is a.s.now a.shape c.requires ∙ passed-all (idle_stays a.s.now a.shape) a.shape.edges c.loop-e.e c.loop-e.invariant c.loop-e-test.false)
+    all_upto (idle_stays a.s.now a.shape) a.shape.edges _ _ _ c.all.ensures.ran refl (λ x b q k. search (rules, tests)) ∙ sym (idle-is a.s.now a.shape c.requires)

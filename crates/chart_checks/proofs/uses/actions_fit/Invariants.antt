@@ -19,6 +19,3 @@ abbrev pub invariant-loop-i : goal.invariant-loop-i
 invariant-loop-i l =
     Gathered (used l.s l.shape) l.shape.actions l.initial.uses l.uses l.i
     × Flagged (sorted l.s l.shape (node_part l.s l.shape)) l.shape.actions l.fit l.i
-
-abbrev pub decreases-loop-i : goal.decreases-loop-i
-decreases-loop-i l = l.shape.actions - l.i

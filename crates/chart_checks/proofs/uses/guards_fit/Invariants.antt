@@ -10,6 +10,3 @@ abbrev pub invariant-loop-t : goal.invariant-loop-t
 invariant-loop-t l =
     Gathered (guard_at l.s l.shape) l.shape.transitions l.initial.uses l.uses l.t
     × Flagged (λ t. truths (node_at (node_part l.s l.shape)) (guard_at l.s l.shape t)) l.shape.transitions l.fit l.t
-
-abbrev pub decreases-loop-t : goal.decreases-loop-t
-decreases-loop-t l = l.shape.transitions - l.t

@@ -5,10 +5,8 @@ use lib.Dec.{eqb}
 use lib.ListN.{length, get_or}
 use Rattle.prelude.specs.Lists.{all, upto}
 use Rattle.expressions.specs.Nodes.{node_of, node_at}
-use Rattle.expressions.specs.Sorts.{sort_of, is_truth, nodes_named, operands_fit}
-use Rattle.expressions.specs.Verdicts.{says_fit}
+use Rattle.expressions.specs.Sorts.{sort_of, is_truth, operands_fit}
 use Rattle.expressions.specs.Uses.{add_uses}
-use Rattle.expressions.proofs.Verdicts.{fit-said}
 use Rattle.model.specs.ChartSet.{read_charts}
 use Rattle.model.specs.ChartFile.{transition_guards, action_guards, assigned, uses}
 use Rattle.prelude.proofs.Numbers.{all_append}
@@ -42,9 +40,7 @@ returns c =
     ∙ ap (λ u. add_uses u (action_use s sh)) (c.guards_fit-guards.ensures.1 ∙ ap (λ u. add_uses u (guard_use s sh)) c.requires.3)
     in
     let operands =
-    c.says_fit.ensures
-    ∙ ap says_fit c.requires.2
-    ∙ fit-said (nodes_named (node_at (node_part s sh)) sh.nodes sh.variables) (operands_fit (node_at (node_part s sh)) sh.nodes)
+    c.requires.2
     ∙ (λ i. operands_fit (sym (lookup-is s sh c.requires.0) i) (sym (length-nodes s sh c.requires.0) i))
     in
     let once = c.all_once.ensures ∙ ap (λ l. all (λ n. eqb (get_or l n 0) 1) (upto sh.nodes)) held ∙ sym (used-is s sh c.requires.0 c.requires.1) in (

@@ -6,6 +6,3 @@ use Rattle.chart_files.proofs.structure.count_initials.Given as goal
 
 abbrev pub invariant-loop-c : goal.invariant-loop-c
 invariant-loop-c l = Gathered (λ c. two l.s (16 * c + 2) ∷ []) l.n l.initial.initial' l.initial' l.c
-
-abbrev pub decreases-loop-c : goal.decreases-loop-c
-decreases-loop-c l = l.n - l.c

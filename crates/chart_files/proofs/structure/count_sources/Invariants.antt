@@ -6,6 +6,3 @@ use Rattle.chart_files.proofs.structure.count_sources.Given as goal
 
 abbrev pub invariant-loop-t : goal.invariant-loop-t
 invariant-loop-t l = Gathered (λ t. source_at l.s l.shape t ∷ []) l.n l.initial.left l.left l.t
-
-abbrev pub decreases-loop-t : goal.decreases-loop-t
-decreases-loop-t l = l.n - l.t

@@ -1,9 +1,10 @@
+use Rattle.std.proofs.Common.{rules, tests, refl}
 use mathlib.Core.Path.{◌≡◌, sym, ap, ◌∙◌}
 use mathlib.Core.Bool.{Bool}
 use mathlib.Core.List.{List}
 use Prim.Native.Nat.{ℕ}
 use Rattle.prelude.specs.Lists.{all, upto}
-use Rattle.prelude.proofs.Loops.{passed-more, passed-all, passed-not}
+use Rattle.prelude.proofs.Ranges.{all_upto}
 use Rattle.model.specs.ChartSet.{read_charts}
 use Rattle.model.specs.ChartFile as F
 use Rattle.chart_records.specs.declared.Shape.{Shape}
@@ -19,21 +20,7 @@ test s sh t = F.ticking (transition_at s sh t).trigger
 by_number : (s : List ℕ) (sh : Shape) → IsShape s sh → all (λ t. F.ticking t.trigger) (read_charts s).transitions ≡ all (test s sh) (upto sh.transitions)
 by_number s sh is = ap (all (λ t. F.ticking t.trigger)) (transitions-are s sh is) ∙ all_map (transition_at s sh) (λ t. F.ticking t.trigger) (upto sh.transitions)
 
-pub returns-then-not-ticking : goal.returns-then-not-ticking
-returns-then-not-ticking c =
-    let a = c.args in
-    let l = c.loop-t in
-    sym
-    (by_number a.s.now a.shape c.requires
-    ∙ passed-not (test a.s.now a.shape) a.shape.transitions l.t l.invariant c.loop-t-test.true (sym (c.ticking.ensures ∙ ap F.ticking c.trigger_of.ensures) ∙ c.if-not-ticking.true))
-
-pub loop-t-preserved : goal.loop-t-preserved
-loop-t-preserved c =
-    let a = c.args in
-    let l = c.loop-t in
-    passed-more (test a.s.now a.shape) a.shape.transitions l.t l.invariant c.loop-t-test.true (sym (c.ticking.ensures ∙ ap F.ticking c.trigger_of.ensures) ∙ c.if-not-ticking.false)
-
 pub returns : goal.returns
 returns c =
     let a = c.args in
-    sym (by_number a.s.now a.shape c.requires ∙ passed-all (test a.s.now a.shape) a.shape.transitions c.loop-t.t c.loop-t.invariant c.loop-t-test.false)
+    all_upto (test a.s.now a.shape) a.shape.transitions _ _ _ c.all.ensures.ran refl (λ x b q k. search (rules, tests)) ∙ sym (by_number a.s.now a.shape c.requires)
