@@ -1,5 +1,4 @@
 use Rattle.std.proofs.Common.{rules, tests, refl}
-use mathlib.Core.Path.{sym, ◌∙◌}
 use Rattle.prelude.proofs.Ranges.{all_upto}
 use Rattle.chart_checks.specs.Names.{action_named}
 use Rattle.chart_checks.proofs.names.actions_named.Goals as goal

@@ -1,7 +1,4 @@
 use Rattle.std.proofs.Common.{rules, tests, refl}
-use mathlib.Core.Path.{sym, ap, ◌∙◌}
-use borrow.Author.Tests.{le-ltb, lt-ltb}
-use lib.Dec.{ltb}
 use Rattle.prelude.proofs.Ranges.{all_upto}
 use Rattle.chart_checks.specs.Names.{home_named}
 use Rattle.chart_checks.proofs.names.homes_named.Goals as goal

@@ -1,5 +1,4 @@
 use Rattle.std.proofs.Common.{rules, tests, refl}
-use mathlib.Core.Path.{sym, ◌∙◌}
 use Rattle.prelude.proofs.Ranges.{all_upto}
 use Rattle.chart_checks.specs.Names.{transition_named}
 use Rattle.chart_checks.proofs.names.transitions_named.Goals as goal

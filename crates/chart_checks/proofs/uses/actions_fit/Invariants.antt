@@ -1,6 +1,6 @@
 use mathlib.Core.Bool.{Bool, ◌&&◌}
 use mathlib.Core.List.{List, ◌++◌}
-use Prim.Native.Nat.{ℕ, ◌-◌}
+use Prim.Native.Nat.{ℕ}
 use Rattle.expressions.specs.Nodes.{node_at}
 use Rattle.prelude.proofs.Loops.{Flagged}
 use Rattle.chart_records.specs.declared.Shape.{Shape}

@@ -1,4 +1,3 @@
-use Prim.Native.Nat.{◌-◌}
 use Rattle.expressions.specs.Nodes.{node_at}
 use Rattle.prelude.proofs.Loops.{Flagged}
 use Rattle.chart_records.specs.Places.{node_part}

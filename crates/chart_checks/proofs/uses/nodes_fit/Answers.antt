@@ -4,13 +4,12 @@ use native.Mathlib.Omega.{arith}
 use lib.Dec.{eqb}
 use lib.ListN.{length, get_or}
 use Rattle.prelude.specs.Lists.{all, upto}
-use Rattle.expressions.specs.Nodes.{node_of, node_at}
+use Rattle.expressions.specs.Nodes.{node_of}
 use Rattle.expressions.specs.Sorts.{sort_of, is_truth, operands_fit}
 use Rattle.expressions.specs.Uses.{add_uses}
 use Rattle.model.specs.ChartSet.{read_charts}
 use Rattle.model.specs.ChartFile.{transition_guards, action_guards, assigned, uses}
 use Rattle.prelude.proofs.Numbers.{all_append}
-use Rattle.chart_records.specs.Places.{node_part}
 use Rattle.chart_checks.specs.Used.{guard_use, action_use, all_uses, truths, numbers}
 use Rattle.chart_records.proofs.PlacesRead.{lookup-is, length-nodes, most-nodes}
 use Rattle.chart_checks.proofs.Used.{length-uses, used-is}
