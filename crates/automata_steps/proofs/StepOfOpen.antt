@@ -2,9 +2,14 @@
 use mathlib.Core.Path.{◌≡◌, refl, sym, ap, ◌∙◌}
 use mathlib.Core.Bool.{Bool, true, false, not, cond}
 use mathlib.Core.List.{List, [], ◌∷◌, map}
+use Rattle.std.specs.Prelude.{Result, Ok, Err, MatchResult, IsErrAnd}
 use Prim.Native.Nat.{ℕ, ◌-◌}
 use Rattle.prelude.specs.Lists.{keep, from}
 use Rattle.records.specs.Refusal.{Refusal, Out, val, fault, ◌>>=◌, choose}
+use Rattle.records.specs.RefusalOf.{out_of}
+use Rattle.expressions.specs.declared.outcomes.Reason as of-values
+use Rattle.expressions.specs.Answers.{value_reason_of, truth_of}
+use Rattle.answers.specs.Answers.{reason_of}
 use Rattle.model.specs.Runs.{Run}
 use Rattle.model.specs.AutomataTable.{Literal, Automata, read_automata}
 use Rattle.model.specs.Automata.{condition_holds, literal_holds, reads, opens, the_one}
@@ -13,7 +18,7 @@ use Rattle.automata_records.specs.Shape.{IsShape}
 use Rattle.automata_records.specs.Places.{first_edge, first_literal}
 use Rattle.automata_steps.specs.declared.edges.Tally.{Tally}
 use Rattle.automata_steps.specs.declared.edges.Tally.TheVariants.{Nothing}
-use Rattle.automata_steps.specs.declared.edges.Counted as declared-counted
+use Rattle.answers.specs.declared.Reason.{Reason}
 use Rattle.automata_steps.specs.Index.{owned_by}
 use Rattle.automata_steps.specs.StepOf.{edge_open, tally_of, counted_of, the_open}
 use Rattle.automata_steps.proofs.IndexRecords.{own_edge, leaving-is}
@@ -63,6 +68,13 @@ module _ (holds : Literal → Out Bool) (g : ℕ → Literal) where
   unfolding reads
   read_none = refl
 
+-- an outcome of a turn that has the reason of an outcome of values
+pub reasons-mapped : (o : Result Bool of-values.Reason) (r : Result Bool Reason) →
+    MatchResult o (λ x. r ≡ Ok x) (λ e. IsErrAnd r (λ w. reason_of w ≡ value_reason_of e)) → out_of reason_of r ≡ truth_of o
+reasons-mapped (Ok x) r m = ap (out_of reason_of) m
+reasons-mapped (Err e) (Ok x) m = absurd m
+reasons-mapped (Err e) (Err w) m = ap fault m
+
 -- ---- the edges that leave a location
 
 module _ (isOpen : ℕ → Out Bool) where
@@ -101,7 +113,7 @@ module _ (isOpen : ℕ → Out Bool) where
     abbrev pub count_on : List ℕ → Tally → Out ℕ
     count_on ns t = opens isOpen (map (λ n. n - start) (keep mine ns)) >>= tally_of t
 
-    pub counted : (n : ℕ) (t : Tally) (c : declared-counted.Counted) →
+    pub counted : (n : ℕ) (t : Tally) (c : Result Tally Reason) →
         ((es : List ℕ) → counted_of isOpen c es ≡ (opens isOpen (cond (mine n) ((n - start) ∷ es) es) >>= tally_of t)) →
         (rest : List ℕ) → count_on (n ∷ rest) t ≡ counted_of isOpen c (map (λ n. n - start) (keep mine rest))
     unfolding keep

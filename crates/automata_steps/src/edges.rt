@@ -88,10 +88,11 @@ fn count_edge(
     if (automaton_of(s, shape, e) as u16) != automaton {
         return Ok(tally);
     }
-    match edge_open(s, shape, first, next, clocks, vars, events, e) {
-        Err(w) => Err(read_fault(w)),
-        Ok(true) => Ok(with_open(tally, e)),
-        Ok(false) => Ok(tally),
+    let open = edge_open(s, shape, first, next, clocks, vars, events, e).map_err(read_fault)?;
+    if open {
+        Ok(with_open(tally, e))
+    } else {
+        Ok(tally)
     }
 }
 

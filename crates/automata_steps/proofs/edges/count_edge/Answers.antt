@@ -4,33 +4,38 @@ use mathlib.Core.List.{List, ◌∷◌}
 use Prim.Native.Nat.{ℕ}
 use lib.Dec.{eqb}
 use borrow.Author.Tests.{eq-eqb}
-use Rattle.records.specs.Refusal.{Out, val, fault}
-use Rattle.expressions.specs.Answers.{value_reason_of}
+use Rattle.std.proofs.lemmas.Result.{err_from_is_err_and}
+use Rattle.records.specs.Refusal.{Out, val}
+use Rattle.records.specs.RefusalOf.{out_of}
+use Rattle.answers.specs.Answers.{reason_of}
 use Rattle.model.specs.AutomataTable.{read_automata}
 use Rattle.automata_steps.specs.declared.edges.Tally.{Tally}
 use Rattle.automata_steps.specs.StepOf.{bare_run, edge_open, one_open}
-use Rattle.automata_steps.proofs.StepOfOpen.{open-fault, open-not, open_more}
+use Rattle.automata_steps.proofs.StepOfOpen.{reasons-mapped, open-fault, open-not, open_more}
 use Rattle.automata_steps.proofs.edges.count_edge.Goals as goal
 
 -- the edge is the automaton's
 own : (isOpen : ℕ → Out Bool) (t : Tally) (k l automaton e : ℕ) → k ≡ automaton → k ≡ l → (es : List ℕ) → one_open isOpen t (e ∷ es) ≡ one_open isOpen t (cond (eqb l automaton) (e ∷ es) es)
 own isOpen t k l automaton e h q es = ap (λ b. one_open isOpen t (cond b (e ∷ es) es)) (sym (ap (λ j. eqb j automaton) (sym q) ∙ eq-eqb k automaton h))
 
-pub returns-in-Fault-clause-by_index : goal.returns-in-Fault-clause-by_index
-returns-in-Fault-clause-by_index c =
+pub returns-in_err-open-clause-by_index : goal.returns-in_err-open-clause-by_index
+returns-in_err-open-clause-by_index c =
     let x = c.args in
     let isOpen = edge_open (read_automata x.s.now) (bare_run x.clocks.now x.vars.now x.events) in
+    let w = c.in_err-open.field-0.0 in
+    let p = err_from_is_err_and c.from_residual.result c.from_residual.ensures.1 in
     λ es.
-    ap fault c.read_fault.ensures
-    ∙ open-fault isOpen x.e x.tally (value_reason_of c.in-Fault.w) c.in-Fault.ensures es
-    ∙ own isOpen x.tally _ _ x.automaton x.e c.if-automaton_of-automaton.false c.automaton_of.ensures es
+    rw (p.1, p.2)
+    (open-fault isOpen x.e x.tally (reason_of w) (ap (out_of reason_of) (sym c.in_err-open.was) ∙ reasons-mapped c.edge_open.result c.map_err.result c.map_err.ensures.cases ∙ c.edge_open.ensures) es
+    ∙ own isOpen x.tally _ _ x.automaton x.e c.if-automaton_of-automaton.false c.automaton_of.ensures es)
 
 pub returns-then-open-clause-by_index : goal.returns-then-open-clause-by_index
 returns-then-open-clause-by_index c =
     let x = c.args in
     let isOpen = edge_open (read_automata x.s.now) (bare_run x.clocks.now x.vars.now x.events) in
     λ es.
-    open_more isOpen x.e x.tally c.with_open.result c.with_open.ensures.by_index (ap val (sym c.if-open.true) ∙ c.in-Value.ensures) es
+    open_more isOpen x.e x.tally c.with_open.result c.with_open.ensures.by_index
+    (ap val (sym c.if-open.true) ∙ ap (out_of reason_of) (sym c.in_ok-open.was) ∙ reasons-mapped c.edge_open.result c.map_err.result c.map_err.ensures.cases ∙ c.edge_open.ensures) es
     ∙ own isOpen x.tally _ _ x.automaton x.e c.if-automaton_of-automaton.false c.automaton_of.ensures es
 
 pub returns-else-open-clause-by_index : goal.returns-else-open-clause-by_index
@@ -38,5 +43,6 @@ returns-else-open-clause-by_index c =
     let x = c.args in
     let isOpen = edge_open (read_automata x.s.now) (bare_run x.clocks.now x.vars.now x.events) in
     λ es.
-    open-not isOpen x.e x.tally (ap val (sym c.if-open.false) ∙ c.in-Value.ensures) es
+    open-not isOpen x.e x.tally
+    (ap val (sym c.if-open.false) ∙ ap (out_of reason_of) (sym c.in_ok-open.was) ∙ reasons-mapped c.edge_open.result c.map_err.result c.map_err.ensures.cases ∙ c.edge_open.ensures) es
     ∙ own isOpen x.tally _ _ x.automaton x.e c.if-automaton_of-automaton.false c.automaton_of.ensures es

@@ -2,6 +2,7 @@ use mathlib.Core.Path.{sym, ap, ◌∙◌}
 use mathlib.Core.Bool.{false}
 use Prim.Native.Nat.{◌≤◌, ◌<◌}
 use native.Mathlib.Omega.{arith}
+use Rattle.std.proofs.lemmas.Result.{err_from_is_err_and}
 use Rattle.model.specs.Limits.{most_edges, table_records}
 use Rattle.expressions.specs.Answers.{value_reason_of}
 use Rattle.records.specs.Refusal.{val, fault}
@@ -33,15 +34,17 @@ loop-n-init c =
     walk_from small tt _ (c.requires.1.literals.first_of x.e few-edges)
     (ap (reads (literal_holds (read_automata x.s.now) (bare_run x.clocks.now x.vars.now x.events))) (literals-of x.s.now x.shape c.requires.0.shape x.e))
 
-pub returns-in-Fault : goal.returns-in-Fault
-returns-in-Fault c =
+pub returns-in_err-literal_holds : goal.returns-in_err-literal_holds
+returns-in_err-literal_holds c =
     let small : first_clock c.args.shape ≤ table_records = let f = few-records c.args.s.now c.args.shape c.requires.0.shape in omega arith in
     let x = c.args in
     let r = bare_run x.clocks.now x.vars.now x.events in
-    sym
-    (walk_ends small c.loop-n.invariant c.loop-n-test.true (fault (value_reason_of c.in-Fault.w))
-    (read-fault (literal_holds (read_automata x.s.now) r) (λ m. (literal_in x.s.now m).1) c.loop-n.n (value_reason_of c.in-Fault.w)
-    c.in-Fault.ensures))
+    let p = err_from_is_err_and c.from_residual.result c.from_residual.ensures.1 in
+    rw (p.1, p.2)
+    (sym
+    (walk_ends small c.loop-n.invariant c.loop-n-test.true (fault (value_reason_of c.in_err-literal_holds.field-0.0))
+    (read-fault (literal_holds (read_automata x.s.now) r) (λ m. (literal_in x.s.now m).1) c.loop-n.n (value_reason_of c.in_err-literal_holds.field-0.0)
+    c.in_err-literal_holds.ensures)))
 
 pub loop-n-smaller : goal.loop-n-smaller
 loop-n-smaller c =
@@ -55,17 +58,17 @@ loop-n-preserved c =
     let r = bare_run x.clocks.now x.vars.now x.events in
     walk_more small c.loop-n.invariant c.loop-n-test.true c.args.next.now c.requires.1.literals.next_of tt
     (read-true (literal_holds (read_automata x.s.now) r) (λ m. (literal_in x.s.now m).1) c.loop-n.n
-    (ap val (sym c.if-holding.true) ∙ c.in-Value.ensures))
+    (ap val (sym c.if-not-branch.false) ∙ c.in_ok-literal_holds.ensures))
 
-pub returns-else-holding : goal.returns-else-holding
-returns-else-holding c =
+pub returns-then-not-branch : goal.returns-then-not-branch
+returns-then-not-branch c =
     let small : first_clock c.args.shape ≤ table_records = let f = few-records c.args.s.now c.args.shape c.requires.0.shape in omega arith in
     let x = c.args in
     let r = bare_run x.clocks.now x.vars.now x.events in
     sym
     (walk_ends small c.loop-n.invariant c.loop-n-test.true (val false)
     (read-false (literal_holds (read_automata x.s.now) r) (λ m. (literal_in x.s.now m).1) c.loop-n.n
-    (ap val (sym c.if-holding.false) ∙ c.in-Value.ensures)))
+    (ap val (sym c.if-not-branch.true) ∙ c.in_ok-literal_holds.ensures)))
 
 pub returns : goal.returns
 returns c =

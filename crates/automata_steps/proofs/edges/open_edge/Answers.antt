@@ -4,6 +4,7 @@ use mathlib.Core.List.{List, ◌∷◌, map}
 use Prim.Native.Nat.{ℕ, ◌+◌, ◌-◌, ◌≤◌, ◌<◌}
 use native.Mathlib.Nat.{zero-add}
 use native.Mathlib.Omega.{arith}
+use Rattle.std.proofs.lemmas.Result.{err_from_is_err_and}
 use lib.Dec.{eqb}
 use lib.ListN.{get_or}
 use Rattle.model.specs.Limits.{table_records}
@@ -17,8 +18,8 @@ use Rattle.automata_records.proofs.PlacesRead.{most-locations}
 use Rattle.answers.specs.Answers.{reason_of}
 use Rattle.automata_steps.specs.declared.edges.Tally.{Tally}
 use Rattle.automata_steps.specs.declared.edges.Tally.TheVariants.{Nothing}
-use Rattle.automata_steps.specs.declared.edges.Counted.{Counted}
-use Rattle.automata_steps.specs.declared.edges.Counted.TheVariants.{Now, Fault}
+use Rattle.answers.specs.declared.Reason.{Reason}
+use Rattle.std.specs.Prelude.{Result, Ok, Err}
 use Rattle.automata_steps.specs.StepOf.{bare_run, edge_open, one_open, counted_of}
 use Rattle.automata_steps.proofs.IndexWalk.{walk_from, walk_at, walk-rises, walk_more, walk_ends, walk-done}
 use Rattle.automata_steps.proofs.IndexRecords.{few-records, own_edge, leaving-none}
@@ -26,7 +27,7 @@ use Rattle.automata_steps.proofs.StepOfOpen.{count_on, counted, count_none, all-
 use Rattle.automata_steps.proofs.edges.open_edge.Goals as goal
 
 -- what the record at the walk counts, as the walk's step has it
-here-counted : (s : List ℕ) (sh : Shape) (isOpen : ℕ → Out Bool) (automaton n start : ℕ) (t : Tally) (c : Counted) → start ≡ first_edge sh → first_edge sh ≤ n →
+here-counted : (s : List ℕ) (sh : Shape) (isOpen : ℕ → Out Bool) (automaton n start : ℕ) (t : Tally) (c : Result Tally Reason) → start ≡ first_edge sh → first_edge sh ≤ n →
     ((es : List ℕ) → counted_of isOpen c es ≡ one_open isOpen t (cond (eqb (edge_at s sh (n - start)).automaton automaton) ((n - start) ∷ es) es)) → (rest : List ℕ) →
     count_on isOpen (first_edge sh) (own_edge s automaton) (n ∷ rest) t ≡ counted_of isOpen c (map (λ k. k - first_edge sh) (keep (own_edge s automaton) rest))
 here-counted s sh isOpen automaton n start t c q l h rest =
@@ -68,22 +69,24 @@ loop-n-preserved c =
     let l = c.loop-n in
     let small : first_literal x.shape ≤ table_records = let f = few-records x.s.now x.shape c.requires.0.shape in omega arith in
     let place = walk_at small l.invariant.1 c.loop-n-test.true in (
-      c.in-Now.ensures.counted_in,
-      walk_more small l.invariant.1 c.loop-n-test.true x.next.now c.requires.1.edges.next_of c.in-Now.t
-          (here-counted x.s.now x.shape (edge_open (read_automata x.s.now) (bare_run x.clocks.now x.vars.now x.events)) x.automaton l.n c.first_edge-start.result l.tally (Now c.in-Now.t)
-          c.first_edge-start.ensures place.0 c.in-Now.ensures.by_index),
+      c.in_ok-tally.ensures.counted_in,
+      walk_more small l.invariant.1 c.loop-n-test.true x.next.now c.requires.1.edges.next_of c.in_ok-tally.tally
+          (here-counted x.s.now x.shape (edge_open (read_automata x.s.now) (bare_run x.clocks.now x.vars.now x.events)) x.automaton l.n c.first_edge-start.result l.tally (Ok c.in_ok-tally.tally)
+          c.first_edge-start.ensures place.0 c.in_ok-tally.ensures.by_index),
     )
 
-pub returns-in-Fault-clause-result_value : goal.returns-in-Fault-clause-result_value
-returns-in-Fault-clause-result_value c =
+pub returns-in_err-tally-clause-result_value : goal.returns-in_err-tally-clause-result_value
+returns-in_err-tally-clause-result_value c =
     let x = c.args in
     let l = c.loop-n in
     let small : first_literal x.shape ≤ table_records = let f = few-records x.s.now x.shape c.requires.0.shape in omega arith in
     let place = walk_at small l.invariant.1 c.loop-n-test.true in
-    sym
-    (walk_ends small l.invariant.1 c.loop-n-test.true (fault (reason_of c.in-Fault.w))
-    (here-counted x.s.now x.shape (edge_open (read_automata x.s.now) (bare_run x.clocks.now x.vars.now x.events)) x.automaton l.n c.first_edge-start.result l.tally (Fault c.in-Fault.w)
-    c.first_edge-start.ensures place.0 c.in-Fault.ensures.by_index))
+    let p = err_from_is_err_and c.from_residual.result c.from_residual.ensures.1 in
+    rw (p.1, p.2)
+    (sym
+    (walk_ends small l.invariant.1 c.loop-n-test.true (fault (reason_of c.in_err-tally.field-0.0))
+    (here-counted x.s.now x.shape (edge_open (read_automata x.s.now) (bare_run x.clocks.now x.vars.now x.events)) x.automaton l.n c.first_edge-start.result l.tally (Err c.in_err-tally.field-0.0)
+    c.first_edge-start.ensures place.0 c.in_err-tally.ensures.by_index)))
 
 pub returns-then-shape-location-clause-result_value : goal.returns-then-shape-location-clause-result_value
 unfolding opens

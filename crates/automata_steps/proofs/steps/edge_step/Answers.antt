@@ -11,4 +11,4 @@ bounds-locations-i c =
 pub take_edge-requires : goal.take_edge-requires
 take_edge-requires c =
     let few-automata : c.args.automaton < 8 = omega (arith, c.requires.automaton_lt_automata, most-automata c.args.s.now c.args.shape c.requires.accepted.shape) in
-    (c.requires.accepted, c.requires.has_index, few-automata, c.in-Chosen.ensures.choice_in)
+    (c.requires.accepted, c.requires.has_index, few-automata, c.in_ok-e.ensures.choice_in)

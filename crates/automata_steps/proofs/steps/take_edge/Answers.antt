@@ -3,6 +3,7 @@ use mathlib.Core.List.{List}
 use mathlib.Core.Path.{◌≡◌, refl, sym, ap, ◌∙◌, subst}
 use Prim.Native.Nat.{ℕ, ◌+◌, ◌-◌, ◌≤◌, ◌<◌}
 use native.Mathlib.Omega.{arith}
+use Rattle.std.proofs.lemmas.Result.{err_from_is_err_and}
 use borrow.Author.Tests.{lt-ltb, le-ltb}
 use lib.ListN.{get_or}
 use Rattle.model.specs.Limits.{most_edges, table_records}
@@ -101,9 +102,9 @@ loop-n-preserved c =
     let l = c.loop-n in
     let h : Ahead (owned_by x.s.now x.e) (first_reset x.shape) (first_reset x.shape + x.shape.resets) (get_or x.next.now l.n 0)
     = record { since = l.n + 1; early = omega (arith, here); at = next-is } in (
-      walk-to (few-updates) walk some-record _ (seen (get_or x.next.now l.n 0) h) (world_in c.do_update.new.vars c.in-Events.x)
-          (do-more (read_automata x.s.now).nodes (read_automata x.s.now).variables (λ m. (update_in x.s.now m).1) l.n (world_in l.vars l.raised) (world_in c.do_update.new.vars c.in-Events.x)
-          c.in-Events.ensures),
+      walk-to (few-updates) walk some-record _ (seen (get_or x.next.now l.n 0) h) (world_in c.do_update.new.vars c.in_ok-raised.raised)
+          (do-more (read_automata x.s.now).nodes (read_automata x.s.now).variables (λ m. (update_in x.s.now m).1) l.n (world_in l.vars l.raised) (world_in c.do_update.new.vars c.in_ok-raised.raised)
+          c.in_ok-raised.ensures),
       h,
     )
 
@@ -118,17 +119,19 @@ reset_clocks-requires c =
       ahead-second (owned_by x.s.now x.e) (first_reset x.shape) (first_reset x.shape + x.shape.resets) (omega arith) (omega (arith, small)) c.loop-n.invariant.1 done,
     )
 
-pub returns-in-Fault-clause-m_after : goal.returns-in-Fault-clause-m_after
-returns-in-Fault-clause-m_after c =
+pub returns-in_err-raised-clause-m_after : goal.returns-in_err-raised-clause-m_after
+returns-in_err-raised-clause-m_after c =
     let here : c.loop-n.n < first_reset c.args.shape = omega (arith, c.loop-n-test.true, c.first_reset-reset.ensures) in
     let small : first_reset c.args.shape + c.args.shape.resets ≤ table_records = few-records c.args.s.now c.args.shape c.requires.0.shape in
     let few-updates : first_reset c.args.shape ≤ table_records = omega (arith, small) in
     let some-record : c.loop-n.n ≡ 65535 → ⊥ = λ q. omega (arith, here, few-updates) in
     let x = c.args in
     let l = c.loop-n in
-    let w = reason_of c.in-Fault.w in
+    let w = reason_of c.in_err-raised.field-0.0 in
+    let p = err_from_is_err_and c.from_residual.result c.from_residual.ensures.1 in
     λ m.
-    take-fault (read_automata x.s.now) x.automaton (run_in x.locations.now x.clocks.now x.vars.now x.events m) x.e w
+    rw (p.1, p.2)
+    (take-fault (read_automata x.s.now) x.automaton (run_in x.locations.now x.clocks.now x.vars.now x.events m) x.e w
     (ap (λ f. f m)
     (sym
     (walk_ends few-updates
@@ -136,7 +139,7 @@ returns-in-Fault-clause-m_after c =
     (ap (λ b. cond b l.n 65535) (lt-ltb l.n (first_reset x.shape) here))
     l.invariant.0)
     some-record (λ k. fault w)
-    (do-fault (read_automata x.s.now).nodes (read_automata x.s.now).variables (λ k. (update_in x.s.now k).1) l.n (world_in l.vars l.raised) w c.in-Fault.ensures))))
+    (do-fault (read_automata x.s.now).nodes (read_automata x.s.now).variables (λ k. (update_in x.s.now k).1) l.n (world_in l.vars l.raised) w c.in_err-raised.ensures)))))
 
 pub returns-clause-m_after : goal.returns-clause-m_after
 returns-clause-m_after c =
