@@ -1,5 +1,5 @@
 -- Answers as single numbers, for tests in other languages. Assumes nothing: these are definitions.
-use Rattle.std.specs.Prelude.{Bool, true, false, ℕ, ◌+◌, ◌^◌, ℤ, pos}
+use Rattle.std.specs.Prelude.{Bool, true, false, List, ℕ, ◌+◌, ◌^◌, ℤ, pos, replicate}
 use Rattle.std.proofs.Math.Option.{Option, some, none}
 use Rattle.records.specs.Refusal.{Refusal, refusal_number, Out, val, fault}
 
@@ -19,3 +19,8 @@ truth_code (fault w) = reason_code w
 abbrev pub refusal_code : Option Refusal → ℕ
 refusal_code none = 0
 refusal_code (some w) = refusal_number w
+
+-- nine numbers where nothing is refused, else zeros
+abbrev pub blank_if_refused : Option Refusal → List ℕ → List ℕ
+blank_if_refused none ns = ns
+blank_if_refused (some w) ns = replicate 9 0

@@ -10,11 +10,10 @@ ghost use Rattle.expressions.specs.Sorts.{sort_of, is_number, is_truth, nodes_na
 ghost use Rattle.expressions.specs.Uses.{add_uses, all_operands};
 ghost use Rattle.expressions.specs.Answers.{value_reason_of};
 ghost use Rattle.framing.specs.Framing.{framing as framingBy, counts as countsBy, firsts as firstsBy};
-ghost use Rattle.framing.specs.Frame.{framing_of, blank_if_refused};
-ghost use Rattle.comparison.specs.Codes.{number_code, truth_code, reason_code, refusal_code};
+ghost use Rattle.comparison.specs.Codes.{number_code, truth_code, reason_code, refusal_code, blank_if_refused};
 
-use expressions::outcomes::{Number, Reason, Truth};
-use framing::Framing;
+use expressions::outcomes::Reason;
+use records::refusals::refusal_number;
 use records::sizes::Variables;
 
 fn reason_code(w: Reason) -> i64
@@ -31,8 +30,8 @@ pub extern "C" fn expression_truth(nodes: &[u8], vars: &Variables, n: u16) -> i6
     ensures { result ≡ truth_code (truth (node_at nodes.now) vars.now n) }
 {
     match expressions::values::truth_of(nodes, vars, n) {
-        Truth::Value(t) => if t { 1 } else { 0 },
-        Truth::Fault(w) => reason_code(w),
+        Ok(t) => t as i64,
+        Err(w) => reason_code(w),
     }
 }
 
@@ -41,8 +40,8 @@ pub extern "C" fn expression_number(nodes: &[u8], vars: &Variables, n: u16) -> i
     ensures { result ≡ number_code (number (node_at nodes.now) vars.now n) }
 {
     match expressions::values::number_of(nodes, vars, n) {
-        Number::Value(z) => z as i64,
-        Number::Fault(w) => reason_code(w),
+        Ok(z) => z as i64,
+        Err(w) => reason_code(w),
     }
 }
 
@@ -144,18 +143,7 @@ pub extern "C" fn write_i32(s: &mut [u8], at: usize, v: i32)
     records::put_i32(s, at, v);
 }
 
-fn framing_number(answer: Framing) -> u8
-    ensures { result ≡ refusal_code (framing_of answer) }
-{
-    match answer {
-        Framing::Framed => 0,
-        Framing::OddLength => 1,
-        Framing::UnorderedKinds => 2,
-        Framing::WrongAmounts => 3,
-    }
-}
-
-// The refusal's number, or 0, and the nine counts and first records.
+// The refusal's number, or 0, and the nine counts and first records, all 0 where refused.
 #[unsafe(no_mangle)]
 pub extern "C" fn framing(
     s: &[u8],
@@ -168,11 +156,18 @@ pub extern "C" fn framing(
     ensures counts_after { counts.new ≡ blank_if_refused (framingBy first most.now s.now) (countsBy first most.now s.now) }
     ensures firsts_after { firsts.new ≡ blank_if_refused (framingBy first most.now s.now) (firstsBy first most.now s.now) }
 {
-    let f = framing::frame_of(s, first, most);
-    let c = f.counts;
-    *counts = c;
-    let d = f.firsts;
-    *firsts = d;
-    let a = f.answer;
-    framing_number(a)
+    match framing::frame_of(s, first, most) {
+        Ok(f) => {
+            let ns = f.counts;
+            *counts = ns;
+            let ns = f.firsts;
+            *firsts = ns;
+            0
+        }
+        Err(w) => {
+            *counts = [0; 9];
+            *firsts = [0; 9];
+            refusal_number(w)
+        }
+    }
 }
