@@ -1,6 +1,7 @@
 -- Laws that the proofs of several functions use, and that crates above cite.
 pub mod Bits
 pub mod Files
+pub mod Rests
 pub mod ChainsEarliest
 pub mod Chains
 pub mod WorldsCodes

@@ -118,12 +118,7 @@ pub fn shared_possible(
 }
 
 // What is checked before a turn, or a cycle: the run, where events are given, and that a cycle is left to do.
-pub fn decide(
-    possible: bool,
-    events: u32,
-    position: u32,
-    cycles: u32,
-) -> Result<(), Refusal>
+pub fn decide(possible: bool, events: u32, position: u32, cycles: u32) -> Result<(), Refusal>
     ensures { before_of result ≡ checked_by possible events position cycles }
 {
     if !possible {

@@ -1,7 +1,7 @@
 // Events, and deeds on variables and events.
-ghost use Rattle.std.specs.Prelude.{◌≡◌, true, ◌&&◌, List, ◌<◌, ◌^◌, ℤ, get_or};
+ghost use Rattle.std.specs.Prelude.{◌≡◌, true, ◌&&◌, List, ◌+◌, ◌<◌, ◌^◌, ℤ, get_or};
 ghost use Rattle.std.specs.Int.Signed.{le_z, mag};
-ghost use Rattle.records.specs.Refusal.{fault};
+ghost use Rattle.records.specs.Refusal.{refusal_number, fault};
 ghost use Rattle.expressions.specs.Answers as expressions-answers;
 ghost use Rattle.model.specs.Runs.{in_bounds, no_variable, present, raised, assign, deed, action};
 ghost use Rattle.model.specs.ChartSet.{read_deed, action_by};
@@ -11,7 +11,7 @@ ghost use Rattle.answers.specs.Answers.{reason_of};
 ghost use Rattle.machines.specs.Worlds.{Moment, world_in, world_after, coded_fault, coded, IsCode, world_by};
 
 use super::values::{Values, bound_within, number_at, plus_one_holds};
-use answers::Reason;
+use answers::{Reason, reason_number};
 use records::sizes::Variables;
 
 pub fn present(e: u8, events: u32) -> bool
@@ -57,14 +57,17 @@ fn is_within(s: &[u8], values: Values, v: u8, z: i32) -> bool
     )
 }
 
-// Answers as one number: events are below 2^32, and a fault is 2^32 and its number in the refusal table. It stays in a register, where an enum goes through memory.
+// Answers as one number: events are below 2^32, and a fault is 2^32 and its number in the refusal table. It stays in a register, where a Result goes through memory and a guard took up to four times as long (docs/DECISIONS.md, "Inner answers are one number").
+fn fault_number(w: Reason) -> u64
+    ensures { result ≡ 4_294_967_296 + refusal_number (reason_of w) }
+{
+    4294967296 + (reason_number(w) as u64)
+}
+
 pub fn fault_code(w: expressions::outcomes::Reason) -> u64
     ensures { (4294967295 < result) × (coded result ≡ fault (expressions-answers.value_reason_of w)) × IsCode result }
 {
-    match w {
-        expressions::outcomes::Reason::Range => 4294967311,
-        expressions::outcomes::Reason::Divisor => 4294967312,
-    }
+    fault_number(w.into())
 }
 
 pub fn reason_by(code: u64) -> Reason
@@ -104,13 +107,14 @@ fn assign_code(s: &[u8], values: Values, v: u8, n: u16, vars: &mut Variables, ev
                 vars[i] = z as i16;
                 events as u64
             } else {
-                4294967313
+                fault_number(Reason::Bounds)
             }
         }
     }
 }
 
 // A deed by its fields: code 2 raises, another assigns.
+#[tactic(auto, unfolding(prelude::specs::Lists::case_of))]
 fn do_deed(
     s: &[u8],
     values: Values,

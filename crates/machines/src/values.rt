@@ -112,7 +112,12 @@ pub fn guard_holds(s: &[u8], values: Values, vars: &Variables, guard: u16) -> Re
 }
 
 // The guard of an action or update, as its node plus one, or 0 for none.
-pub fn plus_one_holds(s: &[u8], values: Values, vars: &Variables, guard: u16) -> Result<bool, Reason>
+pub fn plus_one_holds(
+    s: &[u8],
+    values: Values,
+    vars: &Variables,
+    guard: u16,
+) -> Result<bool, Reason>
     requires { HasValues s.now values }
     ensures { truth_of result ≡ guard_holds (nodes_in s.now values) vars.now (read_plus_one guard) }
 {

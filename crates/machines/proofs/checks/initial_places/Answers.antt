@@ -11,4 +11,4 @@ returns c =
     let l = c.loop-c in
     let f = initial_in a.s.now in
     let end : l.c ≡ a.parts = omega arith in
-    filled-padded f 0 8 a.parts (omega arith) l.at (subst (Filled f 0 (replicate 8 0) l.at) end l.invariant.1)
+    filled-padded f 0 8 a.parts (omega arith) l.at (subst (Filled f 0 (replicate 8 0) l.at) end l.invariant)

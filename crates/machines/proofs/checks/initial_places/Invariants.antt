@@ -1,4 +1,3 @@
-use Prim.Native.Nat.{◌-◌, ◌≤◌}
 use lib.ListN.{replicate}
 use Rattle.machines.specs.Files.{initial_in}
 use Rattle.prelude.proofs.Filled.{Filled}

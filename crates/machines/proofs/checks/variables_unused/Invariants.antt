@@ -1,5 +1,4 @@
 use mathlib.Core.Path.{◌≡◌}
-use Prim.Native.Nat.{◌-◌}
 use lib.IntN.{pos}
 use Rattle.arithmetic.specs.Arithmetic.{is_zero}
 use lib.ListN.{length}

@@ -18,4 +18,4 @@ returns c =
     let l = c.loop-v in
     let f = first a.s.now a.values in
     let end : l.v ≡ a.values.variables = omega arith in
-    filled-padded f (pos 0) 64 a.values.variables (omega arith) l.made (subst (Filled f (pos 0) (replicate 64 (pos 0)) l.made) end l.invariant.1)
+    filled-padded f (pos 0) 64 a.values.variables (omega arith) l.made (subst (Filled f (pos 0) (replicate 64 (pos 0)) l.made) end l.invariant)
