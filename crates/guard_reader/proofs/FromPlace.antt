@@ -6,6 +6,7 @@ use Prim.Native.Nat.{ℕ, zero, suc, ◌+◌, ◌-◌, ◌*◌, ◌≤◌, ◌<�
 use native.Mathlib.Nat.{add-zero}
 use native.Mathlib.Numerals.{add-one}
 use native.Mathlib.Omega.{arith}
+use Rattle.std.proofs.Common.{Option, Some, None}
 use borrow.Author.Tests.{lt-ltb, le-ltb, eq-eqb, ne_eqb}
 use lib.Dec.{eqb}
 use lib.ListN.{length, get_or, drop}
@@ -15,8 +16,6 @@ use Rattle.records.specs.Refusal.{broken_line, Out, ◌>>◌, fault_if}
 use Rattle.guards.specs.Grammar.{Read, read, outside, unspaced, is_digit, digits_after, up_to, numeral, operator_by, operator_at}
 use Rattle.guards.proofs.Numerals.{digits-by, digits_after-grows}
 use Rattle.guard_reader.specs.Places.{ReadsNumber}
-use Rattle.guard_reader.specs.declared.lexemes.Numeral.{Numeral}
-use Rattle.guard_reader.specs.declared.lexemes.Numeral.TheVariants.{Value, Outside}
 
 drop-end : (s : List ℕ) (i : ℕ) → length s ≤ i → drop i s ≡ []
 drop-end [] zero h = refl
@@ -114,15 +113,15 @@ module _ (most : ℕ) (s : List ℕ) (i : ℕ) where
   leading-zero e f = numeral-as true true e f
 
   -- one that is read has a digit at least
-  pub numeral-read : is_digit (byte s i) ≡ true → (eqb (byte s i) 48 && is_digit (byte s (i + 1))) ≡ false → (r : Numeral) → ReadsNumber s i most (up_to most (digits_after 0 (drop i s))) r → ReadsNumber s (i + 1) most (numeral most (drop i s)) r
-  numeral-read e f (Value n next) h = record { same = numeral-as true false e f ∙ h.same; low = h.low; stops = h.stops; onward = further; inside = h.inside }
+  pub numeral-read : is_digit (byte s i) ≡ true → (eqb (byte s i) 48 && is_digit (byte s (i + 1))) ≡ false → (r : Option (ℕ × ℕ)) → ReadsNumber s i most (up_to most (digits_after 0 (drop i s))) r → ReadsNumber s (i + 1) most (numeral most (drop i s)) r
+  numeral-read e f (Some x) h = record { same = numeral-as true false e f ∙ h.same; low = h.low; stops = h.stops; onward = further; inside = h.inside }
     where
-      apart : i ≡ next → ⊥
+      apart : i ≡ x.1 → ⊥
       apart g = let z : true ≡ false = sym e ∙ ap (λ k. is_digit (byte s k)) g ∙ h.stops in let y : ◌≡◌ {A = ℕ} 0 1 = cc in omega arith
 
-      further : i + 1 ≤ next
-      further = let l : i ≤ next = h.onward in omega (arith, apart)
-  numeral-read e f Outside h = numeral-as true false e f ∙ h
+      further : i + 1 ≤ x.1
+      further = let l : i ≤ x.1 = h.onward in omega (arith, apart)
+  numeral-read e f None h = numeral-as true false e f ∙ h
 
 -- ---- an operator, by its two bytes
 

@@ -1,12 +1,14 @@
 -- The grammar's rules one step at a time, at a place of a text: what comes next decides what the rule comes to. Assumes nothing.
 use mathlib.Core.Path.{◌≡◌, refl, sym, ap, ◌∙◌, subst}
 use mathlib.Core.Bool.{Bool, true, false, cond}
-use mathlib.Core.Option.{Option, some, none}
+use mathlib.Core.Option as Opt
+use mathlib.Core.Option.{some, none}
 use mathlib.Core.List.{List, [], ◌∷◌}
 use Prim.Native.Nat.{ℕ, zero, suc, ◌+◌, ◌-◌, ◌≤◌, ◌<◌}
 use native.Mathlib.Omega.{arith}
 use borrow.Author.Tests.{lt-leb, le-leb, ne_eqb, eqb-true}
 use lib.Dec.{eqb}
+use Rattle.std.proofs.Common.{Option, Some, None}
 use lib.ListN.{length, drop}
 use lib.Seq.{drop-drop}
 use Rattle.prelude.specs.Lists.{case_of}
@@ -65,16 +67,20 @@ module _ (d k : ℕ) (t : Tree) (s : List ℕ) where
   unfolding go_on
   go-by = refl
 
-  ends_by : (o : Option (Binary × ℕ)) (at : ℕ) (g : Sign) → SignIs o at g → k < g.level → by_operator o k (read t s) further ≡ read t s
-  ends_by none at g h l = refl
-  ends_by (some x) at g h l = let e : g.level ≡ binary_level x.0 = h.level in rw (lt-leb (binary_level x.0) k (omega arith)) refl
+  ends_by : (o : Opt.Option (Binary × ℕ)) (at : ℕ) (r : Option Sign) → SignIs o at r → ((g : Sign) → r ≡ Some g → k < g.level) → by_operator o k (read t s) further ≡ read t s
+  ends_by none at r h l = refl
+  ends_by (some x) at None h l = absurd h
+  ends_by (some x) at (Some g) h l =
+      let e : g.level ≡ binary_level x.0 = h.level in
+      let m : k < g.level = l g refl in
+      rw (lt-leb (binary_level x.0) k (omega arith)) refl
 
-  pub go_on-ends : (at : ℕ) (g : Sign) → SignIs (operator_at (unspaced s)) at g → k < g.level → go_on (suc d) k t s ≡ read t s
-  go_on-ends at g h l = go-by ∙ ends_by (operator_at (unspaced s)) at g h l
+  pub go_on-ends : (at : ℕ) (r : Option Sign) → SignIs (operator_at (unspaced s)) at r → ((g : Sign) → r ≡ Some g → k < g.level) → go_on (suc d) k t s ≡ read t s
+  go_on-ends at r h l = go-by ∙ ends_by (operator_at (unspaced s)) at r h l
 
 -- ---- an operator has one byte or two, and none of them is 0
 
-InBytes : ℕ → ℕ → Option (Binary × ℕ) → Type 0
+InBytes : ℕ → ℕ → Opt.Option (Binary × ℕ) → Type 0
 InBytes a b none = Unit {0}
 InBytes a b (some x) = (0 < x.1) × (0 < a) × (x.1 ≤ 2) × (x.1 ≡ 2 → 0 < b)
 
@@ -104,7 +110,7 @@ module _ (a b : ℕ) where
   unfolding InBytes
   two_bytes key p o e q = (omega arith, omega arith, omega arith, λ f. q)
 
-  with_second : (key second : ℕ) → 0 < key → 0 < second → (o : Binary) (other : Option (Binary × ℕ)) → a ≡ key → InBytes a b other → InBytes a b (cond (eqb b second) (some (o, 2)) other)
+  with_second : (key second : ℕ) → 0 < key → 0 < second → (o : Binary) (other : Opt.Option (Binary × ℕ)) → a ≡ key → InBytes a b other → InBytes a b (cond (eqb b second) (some (o, 2)) other)
   with_second key second p q o other e g = by (eqb b second) refl
     where
       by : (t : Bool) → eqb b second ≡ t → InBytes a b (cond t (some (o, 2)) other)
@@ -139,17 +145,17 @@ pub record SignAt (text : List ℕ) (i : ℕ) (g : Sign) : Type 0 where
   pub inside : g.next ≤ length text
 
 module _ (text : List ℕ) (i : ℕ) (g : Sign) where
-  found-by : (o : Option (Binary × ℕ)) → operator_at (drop i text) ≡ o → SignIs o i g → g.level ≤ 7 → InBytes (byte text i) (byte text (i + 1)) o → SignAt text i g
+  found-by : (o : Opt.Option (Binary × ℕ)) → operator_at (drop i text) ≡ o → SignIs o i (Some g) → InBytes (byte text i) (byte text (i + 1)) o → SignAt text i g
   unfolding InBytes
-  found-by none e h l b = absurd (omega arith)
-  found-by (some x) e h l b =
+  found-by none e h b = absurd h
+  found-by (some x) e h b =
       let first : i < length text = byte_inside text i (λ z. omega arith) in
       let n : g.next ≡ i + x.1 = h.next in
       let second : x.1 ≡ 2 → i + 1 < length text = λ f. byte_inside text (i + 1) (λ z. let q : 0 < byte text (i + 1) = b.3 f in omega arith) in
       record { operator = x.0; bytes = x.1; same = e; sign = h; onward = omega arith; inside = let f : i + x.1 ≤ length text = bytes_inside i x.1 (length text) b.0 b.2 first second in omega arith }
 
-  pub sign-found : SignIs (operator_at (drop i text)) i g → g.level ≤ 7 → SignAt text i g
-  sign-found h l = found-by (operator_at (drop i text)) refl h l (subst (InBytes (byte text i) (byte text (i + 1))) (λ x. operator_by (sym (byte-first text i) x) (sym (byte-second text i) x)) (operator-bytes (byte text i) (byte text (i + 1))))
+  pub sign-found : SignIs (operator_at (drop i text)) i (Some g) → SignAt text i g
+  sign-found h = found-by (operator_at (drop i text)) refl h (subst (InBytes (byte text i) (byte text (i + 1))) (λ x. operator_by (sym (byte-first text i) x) (sym (byte-second text i) x)) (operator-bytes (byte text i) (byte text (i + 1))))
 
 module _ {text : List ℕ} {i at : ℕ} {g : Sign} (d k : ℕ) (t : Tree) (w : Skipped text at i) (s : SignAt text i g) (tight : g.level ≤ k) where
   pub go_on-goes : go_on (suc d) k t (drop at text) ≡ (binary_at d (binary_level s.operator - 1) (drop g.next text) >>= λ u. go_on d k (binary s.operator t u.got) u.rest)

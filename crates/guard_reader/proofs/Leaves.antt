@@ -4,6 +4,7 @@ use mathlib.Core.Bool.{true, false}
 use mathlib.Core.List.{List, [], ◌∷◌}
 use Prim.Native.Nat.{ℕ, ◌+◌, ◌*◌, ◌^◌, ◌≤◌, ◌<◌}
 use native.Mathlib.Omega.{arith}
+use Rattle.std.proofs.Common.{Option, Some, None}
 use borrow.Author.Tests.{ne_eqb}
 use lib.IntN.{ℤ}
 use lib.ListN.{length, drop}
@@ -15,18 +16,16 @@ use Rattle.guards.specs.Trees.{Tree, constant, variable, is_truth, fits, node_co
 use Rattle.guards.specs.Grammar.{Read, outside, numeral, read_variable, read_positive, read_negative}
 use Rattle.guard_reader.specs.Places.{ReadNumber, ReadsNumber}
 use Rattle.guard_reader.specs.Parts.{node_bits, leaf_at, LeafIs, HasTree}
-use Rattle.guard_reader.specs.declared.lexemes.Numeral.{Numeral}
-use Rattle.guard_reader.specs.declared.lexemes.Numeral.TheVariants.{Value, Outside}
 use Rattle.guard_reader.specs.declared.trees.Part.{Part}
 use Rattle.guard_reader.proofs.FromPlace.{byte-first}
 
 -- ---- what a number came to
 
-module _ (text : List ℕ) (at most : ℕ) (r : Numeral) (h : ReadsNumber text (at + 1) most (numeral most (drop at text)) r) where
-  pub no_number : r ≡ Outside → numeral most (drop at text) ≡ outside
+module _ (text : List ℕ) (at most : ℕ) (r : Option (ℕ × ℕ)) (h : ReadsNumber text (at + 1) most (numeral most (drop at text)) r) where
+  pub no_number : r ≡ None → numeral most (drop at text) ≡ outside
   no_number e = subst (ReadsNumber text (at + 1) most (numeral most (drop at text))) e h
 
-  pub a_number : (n next : ℕ) → r ≡ Value n next → ReadNumber text (at + 1) most (numeral most (drop at text)) n next
+  pub a_number : (n next : ℕ) → r ≡ Some (n, next) → ReadNumber text (at + 1) most (numeral most (drop at text)) n next
   a_number n next e = subst (ReadsNumber text (at + 1) most (numeral most (drop at text))) e h
 
 -- ---- by the first byte

@@ -4,25 +4,24 @@ use mathlib.Core.Bool.{Bool, true, false, cond}
 use Prim.Native.Nat.{ℕ, ◌+◌, ◌*◌, ◌/◌, ◌%◌, ◌≤◌, ◌<◌}
 use native.Mathlib.Omega.{arith}
 use borrow.Author.Tests.{eq-eqb, ne_eqb}
+use Rattle.std.proofs.Common.{Option, Some, None}
 use lib.Dec.{eqb}
 use Rattle.guard_reader.specs.Parts.{flag, parsed_of}
 use Rattle.guard_reader.specs.declared.trees.Part.{Part}
-use Rattle.guard_reader.specs.declared.rules.Parsed.{Parsed}
-use Rattle.guard_reader.specs.declared.rules.Parsed.TheVariants as parsed
 
-abbrev part_in : ℕ → Parsed
-part_in r = parsed.Tree (record { next = r % 512; size = r / 512 % 512; fits = eqb (r / 262144 % 2) 1; truth = eqb (r / 524288 % 2) 1 })
+abbrev part_in : ℕ → Option Part
+part_in r = Some (record { next = r % 512; size = r / 512 % 512; fits = eqb (r / 262144 % 2) 1; truth = eqb (r / 524288 % 2) 1 })
 
-pub parsed_of-zero : parsed_of 0 ≡ parsed.Outside
+pub parsed_of-zero : parsed_of 0 ≡ None
 unfolding parsed_of
 parsed_of-zero = refl
 
-pub parsed_of-none : (r : ℕ) → r ≡ 0 → parsed_of r ≡ parsed.Outside
+pub parsed_of-none : (r : ℕ) → r ≡ 0 → parsed_of r ≡ None
 parsed_of-none r e = ap parsed_of e ∙ parsed_of-zero
 
 pub parsed_of-some : (r : ℕ) → (r ≡ 0 → ⊥) → parsed_of r ≡ part_in r
 unfolding parsed_of
-parsed_of-some r n = ap (λ b. cond b parsed.Outside (part_in r)) (ne_eqb r 0 n)
+parsed_of-some r n = ap (λ b. cond b None (part_in r)) (ne_eqb r 0 n)
 
 abbrev number : ℕ → ℕ → Bool → Bool → ℕ
 number next size fits truth = next + 512 * size + 262144 * flag fits + 524288 * flag truth
@@ -56,11 +55,11 @@ module _ (n s : ℕ) (near : n ≤ 256) (few : s ≤ 256) where
   truth-in false true = omega arith
   truth-in false false = omega arith
 
-pub parsed_of-packed : (p : Part) → 0 < p.next → p.next ≤ 256 → p.size ≤ 256 → parsed_of (number p.next p.size p.fits p.truth) ≡ parsed.Tree p
+pub parsed_of-packed : (p : Part) → 0 < p.next → p.next ≤ 256 → p.size ≤ 256 → parsed_of (number p.next p.size p.fits p.truth) ≡ Some p
 parsed_of-packed p some near few =
     let r = number p.next p.size p.fits p.truth in
     parsed_of-some r (λ z. omega arith)
-    ∙ (λ i. parsed.Tree (record {
+    ∙ (λ i. Some (record {
       next = next-in p.next p.size near few p.fits p.truth i;
       size = size_in p.next p.size near few p.fits p.truth i;
       fits = flag-told p.fits (r / 262144 % 2) (fits_in p.next p.size near few p.fits p.truth) i;

@@ -5,16 +5,16 @@ use mathlib.Core.List.{List}
 use Prim.Native.Nat.{ℕ, zero, suc, ◌+◌, ◌-◌, ◌*◌, ◌≤◌, ◌<◌}
 use native.Mathlib.Omega.{arith}
 use lib.ListN.{length, drop}
+use Rattle.std.proofs.Common.{Option, Some, None}
 use Rattle.records.specs.Bytes.{byte}
 use Rattle.records.specs.Refusal.{Out, ◌>>=◌}
 use Rattle.guards.specs.Trees.{Tree, negation, binary, choice}
 use Rattle.guards.specs.Grammar.{Read, read, outside, operator_at, past, choice_at, binary_at, go_on, operand_at}
 use Rattle.guard_reader.specs.Places.{Skipped, marked, MarkAt, SignIs}
-use Rattle.guard_reader.specs.Parts.{leaf_at, HasTree, ReadTree, ReadsAs, parsed_of, Reads, NegationIs, JoinIs, ChoiceIs, operand_depth, binary_depth, choice_depth}
+use Rattle.guard_reader.specs.Parts.{leaf_at, Placed, HasTree, ReadTree, ReadsAs, parsed_of, Reads, NegationIs, JoinIs, ChoiceIs, operand_depth, binary_depth, choice_depth}
 use Rattle.guard_reader.specs.declared.lexemes.Sign.{Sign}
 use Rattle.guard_reader.specs.declared.trees.Part.{Part}
-use Rattle.guard_reader.specs.declared.rules.Parsed.{Parsed}
-use Rattle.guard_reader.specs.declared.rules.Parsed.TheVariants as parsed
+use Rattle.guard_reader.proofs.FromPlace.{byte_inside}
 use Rattle.guard_reader.proofs.GrammarSteps.{operand-enclosed, operand-negated, operand-leaf, past-found, past-missing, go_on-ends, SignAt, go_on-goes, choice-outside, choice-bare, choice-chosen}
 use Rattle.guard_reader.proofs.PartTrees.{negation-tree, joined-tree, chosen-tree}
 
@@ -40,15 +40,17 @@ has-to {text} {at} {size} {before} {after} {t} {p} next l e h =
 -- ---- an operand
 
 module _ {text : List ℕ} {at i : ℕ} (s : Skipped text at i) where
-  module _ (there : i < length text) (e : byte text i ≡ 40) where
+  module _ (e : byte text i ≡ 40) where
     pub enclosed-outside : ((d : ℕ) → choice_depth (length text - (i + 1)) ≤ d → choice_at d (drop (i + 1) text) ≡ outside) → (d : ℕ) → operand_depth (length text - at) ≤ d → operand_at d (drop at text) ≡ outside
     enclosed-outside f =
+        let y : i < length text = byte_inside text i (λ z. omega arith) in
         let l : at ≤ i = s.onward in
         deeper (λ d. operand_at d (drop at text) ≡ outside) (3 * (length text - at)) (λ d h. operand-enclosed d s e ∙ ap (λ o. o >>= λ t. past 41 t.rest >>= λ s. read t.got s) (f d (omega arith)))
 
     module _ {size : ℕ} {before after : List ℕ} {p : Part} (r : ReadTree text (i + 1) size before after (choice_depth (length text - (i + 1))) (λ d. choice_at d (drop (i + 1) text)) p) where
       enclosed-by : (d : ℕ) → 3 * (length text - at) ≤ d → operand_at (suc d) (drop at text) ≡ (past 41 (drop p.next text) >>= λ s. read r.tree s)
       enclosed-by d h =
+          let y : i < length text = byte_inside text i (λ z. omega arith) in
           let l : at ≤ i = s.onward in
           operand-enclosed d s e ∙ ap (λ o. o >>= λ t. past 41 t.rest >>= λ s. read t.got s) (r.same d (omega arith))
 
@@ -62,14 +64,16 @@ module _ {text : List ℕ} {at i : ℕ} (s : Skipped text at i) where
         has = let l : at ≤ i = s.onward in let o : p.next < next = m.onward in has-to next (omega arith) m.inside (has-from at (omega arith) r.has);
       }
 
-  module _ (there : i < length text) (e : byte text i ≡ 33) where
+  module _ (e : byte text i ≡ 33) where
     pub negated-outside : ((d : ℕ) → operand_depth (length text - (i + 1)) ≤ d → operand_at d (drop (i + 1) text) ≡ outside) → (d : ℕ) → operand_depth (length text - at) ≤ d → operand_at d (drop at text) ≡ outside
     negated-outside f =
+        let y : i < length text = byte_inside text i (λ z. omega arith) in
         let l : at ≤ i = s.onward in
         deeper (λ d. operand_at d (drop at text) ≡ outside) (3 * (length text - at)) (λ d h. operand-negated d s e ∙ ap (λ o. o >>= λ t. read (negation t.got) t.rest) (f d (omega arith)))
 
     pub negated-read : {size : ℕ} {before mid after : List ℕ} {p q : Part} → ReadTree text (i + 1) size before mid (operand_depth (length text - (i + 1))) (λ d. operand_at d (drop (i + 1) text)) p → NegationIs mid p after q → ReadTree text at size before after (operand_depth (length text - at)) (λ d. operand_at d (drop at text)) q
     negated-read {size} {before} {mid} {after} {p} {q} r n =
+        let y : i < length text = byte_inside text i (λ z. omega arith) in
         let l : at ≤ i = s.onward in
         record {
           tree = negation r.tree;
@@ -77,13 +81,13 @@ module _ {text : List ℕ} {at i : ℕ} (s : Skipped text at i) where
           has = negation-tree at (omega arith) r.has n;
         }
 
-  leaf-as : (size : ℕ) (before after : List ℕ) → (byte text i ≡ 40 → ⊥) → (byte text i ≡ 33 → ⊥) → (r : Parsed) → ReadsAs text i size before after 0 (λ d. leaf_at (drop i text)) r → ReadsAs text at size before after (operand_depth (length text - at)) (λ d. operand_at d (drop at text)) r
-  leaf-as size before after n m (parsed.Tree p) r = record {
+  leaf-as : (size : ℕ) (before after : List ℕ) → (byte text i ≡ 40 → ⊥) → (byte text i ≡ 33 → ⊥) → (r : Option Part) → ReadsAs text i size before after 0 (λ d. leaf_at (drop i text)) r → ReadsAs text at size before after (operand_depth (length text - at)) (λ d. operand_at d (drop at text)) r
+  leaf-as size before after n m (Some p) r = record {
     tree = r.tree;
     same = deeper (λ d. operand_at d (drop at text) ≡ read r.tree (drop p.next text)) (3 * (length text - at)) (λ d h. operand-leaf d s n m ∙ r.same d (omega arith));
     has = has-from at s.onward r.has;
   }
-  leaf-as size before after n m parsed.Outside r = deeper (λ d. operand_at d (drop at text) ≡ outside) (3 * (length text - at)) (λ d h. operand-leaf d s n m ∙ r d (omega arith))
+  leaf-as size before after n m None r = deeper (λ d. operand_at d (drop at text) ≡ outside) (3 * (length text - at)) (λ d h. operand-leaf d s n m ∙ r d (omega arith))
 
   pub leaf-read : (size : ℕ) (before after : List ℕ) → (byte text i ≡ 40 → ⊥) → (byte text i ≡ 33 → ⊥) → (r : ℕ) → Reads text i size before after 0 (λ d. leaf_at (drop i text)) r → Reads text at size before after (operand_depth (length text - at)) (λ d. operand_at d (drop at text)) r
   leaf-read size before after n m r h = leaf-as size before after n m (parsed_of r) h
@@ -125,15 +129,31 @@ module _ (text : List ℕ) (at k : ℕ) where
 one_deeper : (P : ℕ → Type 0) (n depth : ℕ) → n + 1 ≤ depth → ((d : ℕ) → n ≤ d → P (suc d)) → P depth
 one_deeper P n depth h f = deeper P n f depth h
 
-module _ {text : List ℕ} {at k size i : ℕ} {before mid : List ℕ} {p : Part} (g : Sign) (r : Reading text at k size before mid p) (w : Skipped text p.next i) where
-  pub level-ends : SignIs (operator_at (drop i text)) i g → k < g.level → ReadTree text at size before mid (binary_depth (length text - at)) (λ d. binary_at d k (drop at text)) p
-  level-ends s l = record {
+module _ {text : List ℕ} {at k size i : ℕ} {before mid : List ℕ} {p : Part} (r : Reading text at k size before mid p) (w : Skipped text p.next i) where
+  pub level-ends : (o : Option Sign) → SignIs (operator_at (drop i text)) i o → ((g : Sign) → o ≡ Some g → k < g.level) → ReadTree text at size before mid (binary_depth (length text - at)) (λ d. binary_at d k (drop at text)) p
+  level-ends o s l = record {
     tree = r.tree;
-    same = λ d h. (r.goes d h).same ∙ one_deeper (λ e. go_on e k r.tree (drop p.next text) ≡ read r.tree (drop p.next text)) (3 * (length text - p.next)) (r.goes d h).depth (r.goes d h).enough (λ e _. go_on-ends e k r.tree (drop p.next text) i g (rw (← w.skips) s) l);
+    same = λ d h. (r.goes d h).same ∙ one_deeper (λ e. go_on e k r.tree (drop p.next text) ≡ read r.tree (drop p.next text)) (3 * (length text - p.next)) (r.goes d h).depth (r.goes d h).enough (λ e _. go_on-ends e k r.tree (drop p.next text) i o (rw (← w.skips) s) l);
     has = r.has;
   }
 
-  module _ (s : SignAt text i g) (tight : g.level ≤ k) where
+  module _ (g : Sign) (s : SignAt text i g) (tight : g.level ≤ k) where
+    pub right-further : at < g.next
+    right-further =
+        let o : at < p.next = r.has.onward in
+        let l : p.next ≤ i = w.onward in
+        let n : i < g.next = s.onward in
+        omega arith
+
+    pub right-placed : Placed text at size → Placed text g.next p.size
+    right-placed h =
+        let o : at < p.next = r.has.onward in
+        let l : p.next ≤ i = w.onward in
+        let n : i < g.next = s.onward in
+        let f : size ≤ at = h.few in
+        let m : p.size + at ≤ p.next + size = r.has.few in
+        record { inside = s.inside; short = h.short; few = omega arith }
+
     abbrev rule : ℕ → Out (Read Tree)
     rule d = binary_at d (g.level - 1) (drop g.next text)
 

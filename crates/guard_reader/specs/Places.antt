@@ -54,5 +54,7 @@ pub record IsSign (o : Binary) (n at : ℕ) (s : Sign) : Type 0 where
   pub next : s.next ≡ at + n
 
 abbrev pub SignIs : Opt.Option (Binary × ℕ) → ℕ → Option Sign → Type 0
-SignIs Opt.none at r = r ≡ None
-SignIs (Opt.some x) at r = (s : Sign) × (r ≡ Some s) × IsSign x.0 x.1 at s
+SignIs Opt.none at None = Unit
+SignIs Opt.none at (Some s) = ⊥
+SignIs (Opt.some x) at None = ⊥
+SignIs (Opt.some x) at (Some s) = IsSign x.0 x.1 at s

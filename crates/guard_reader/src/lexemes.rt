@@ -1,5 +1,5 @@
 // Spaces, numbers, operators and marks of a line. A place lies in the text or behind its last byte.
-ghost use Rattle.std.specs.Prelude.{◌≡◌, ◌+◌, ◌≤◌, ◌<◌, ◌^◌, length, drop};
+ghost use Rattle.std.specs.Prelude.{◌≡◌, Some, ◌+◌, ◌≤◌, ◌<◌, ◌^◌, length, drop};
 ghost use Rattle.guards.specs.Grammar.{is_digit, digits_after, up_to, numeral as numeralOf, operator_by, operator_at};
 ghost use Rattle.guard_reader.specs.Places.{Skipped, FindsMark, ReadsNumber, SignIs};
 
@@ -18,14 +18,12 @@ pub fn skip(text: &[u8], at: usize) -> usize
     requires { at ≤ length text.now }
     ensures { Skipped text.now at result }
 {
-    let mut i = at;
-    while i < text.len() {
+    for i in at..text.len() {
         if text[i] != b' ' {
             return i;
         }
-        i += 1;
     }
-    i
+    text.len()
 }
 
 // The place behind a mark that stands at `at` or behind spaces from there.
@@ -53,8 +51,7 @@ fn digits(text: &[u8], at: usize, most: u32) -> Option<(u32, usize)>
     ensures { ReadsNumber text.now at most (up_to most (digits_after 0 (drop at text.now))) result }
 {
     let mut n: u64 = 0;
-    let mut i = at;
-    while i < text.len() {
+    for i in at..text.len() {
         let b = text[i];
         if !is_digit(b) {
             return Some((n as u32, i));
@@ -63,9 +60,8 @@ fn digits(text: &[u8], at: usize, most: u32) -> Option<(u32, usize)>
         if (most as u64) < n {
             return None;
         }
-        i += 1;
     }
-    Some((n as u32, i))
+    Some((n as u32, text.len()))
 }
 
 pub fn number_at(text: &[u8], at: usize, most: u32) -> Option<(u32, usize)>
@@ -89,6 +85,7 @@ fn operator(code: u8, level: u8, next: usize) -> Option<Sign>
 }
 
 // One byte, or two where the first alone is no operator, or another one.
+#[tactic(auto, unfolding(prelude::specs::Lists::case_of))]
 fn sign_by(a: u8, b: u8, at: usize) -> Option<Sign>
     requires { at ≤ 256 }
     ensures { SignIs (operator_by a b) at result }

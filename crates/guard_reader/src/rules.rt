@@ -1,5 +1,5 @@
 // The rules of the grammar: a function for each.
-ghost use Rattle.std.specs.Prelude.{◌≡◌, ◌-◌, ◌≤◌, ◌<◌, length, drop};
+ghost use Rattle.std.specs.Prelude.{◌≡◌, Some, ◌-◌, ◌≤◌, ◌<◌, length, drop};
 ghost use Rattle.guards.specs.Grammar.{choice_at, binary_at, operand_at};
 ghost use Rattle.guard_reader.specs.Parts.{flag, parsed_of, Reads, Placed, leaf_at, operand_depth, binary_depth, choice_depth};
 
@@ -97,14 +97,10 @@ fn binary(text: &[u8], at: usize, k: u8, nodes: &mut [u8], size: u32) -> u32
     let mut left = first;
     loop {
         let i = skip(text, left.next);
-        let Some(s) = sign_at(text, i) else {
+        let Some(s) = sign_at(text, i).filter(|s| s.level <= k) else {
             return packed(left);
         };
-        if k < s.level {
-            return packed(left);
-        }
-        let Some(right) = unpacked(binary(&*text, s.next, s.level - 1, nodes, left.size))
-        else {
+        let Some(right) = unpacked(binary(&*text, s.next, s.level - 1, nodes, left.size)) else {
             return 0;
         };
         left = joined(nodes, s.code, left, right);

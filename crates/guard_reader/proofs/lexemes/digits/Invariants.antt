@@ -1,11 +1,8 @@
 use mathlib.Core.Path.{◌≡◌}
-use Prim.Native.Nat.{◌-◌, ◌≤◌}
-use lib.ListN.{length, drop}
+use Prim.Native.Nat.{◌≤◌}
+use lib.ListN.{drop}
 use Rattle.guards.specs.Grammar.{digits_after}
 use Rattle.guard_reader.proofs.lexemes.digits.Given as goal
 
 abbrev pub invariant-loop-i : goal.invariant-loop-i
-invariant-loop-i l = (l.at ≤ l.i) × (l.i ≤ length l.text) × (l.n ≤ l.most) × (digits_after 0 (drop l.at l.text) ≡ digits_after l.n (drop l.i l.text))
-
-abbrev pub decreases-loop-i : goal.decreases-loop-i
-decreases-loop-i l = length l.text - l.i
+invariant-loop-i l = (l.n ≤ l.most) × (digits_after 0 (drop l.at l.text) ≡ digits_after l.n (drop l.i l.text))
