@@ -2,14 +2,10 @@
 use mathlib.Core.Path.{◌≡◌, refl, sym, ap, ◌∙◌}
 use mathlib.Core.Bool.{Bool, true, false, not, cond}
 use mathlib.Core.List.{List, [], ◌∷◌, map}
-use Rattle.std.specs.Prelude.{Result, Ok, Err, MatchResult, IsErrAnd}
+use Rattle.std.specs.Prelude.{Result}
 use Prim.Native.Nat.{ℕ, ◌-◌}
 use Rattle.prelude.specs.Lists.{keep, from}
 use Rattle.records.specs.Refusal.{Refusal, Out, val, fault, ◌>>=◌, choose}
-use Rattle.records.specs.RefusalOf.{out_of}
-use Rattle.expressions.specs.declared.outcomes.Reason as of-values
-use Rattle.expressions.specs.Answers.{value_reason_of, truth_of}
-use Rattle.answers.specs.Answers.{reason_of}
 use Rattle.model.specs.Runs.{Run}
 use Rattle.model.specs.AutomataTable.{Literal, Automata, read_automata}
 use Rattle.model.specs.Automata.{condition_holds, literal_holds, reads, opens, the_one}
@@ -67,13 +63,6 @@ module _ (holds : Literal → Out Bool) (g : ℕ → Literal) where
   pub read_none : read_on [] tt ≡ val true
   unfolding reads
   read_none = refl
-
--- an outcome of a turn that has the reason of an outcome of values
-pub reasons-mapped : (o : Result Bool of-values.Reason) (r : Result Bool Reason) →
-    MatchResult o (λ x. r ≡ Ok x) (λ e. IsErrAnd r (λ w. reason_of w ≡ value_reason_of e)) → out_of reason_of r ≡ truth_of o
-reasons-mapped (Ok x) r m = ap (out_of reason_of) m
-reasons-mapped (Err e) (Ok x) m = absurd m
-reasons-mapped (Err e) (Err w) m = ap fault m
 
 -- ---- the edges that leave a location
 

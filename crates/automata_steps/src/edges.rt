@@ -1,10 +1,8 @@
 // Edges of a location, and which of them is open.
 ghost use Rattle.std.specs.Prelude.{◌≡◌, cond, List, [], ◌∷◌, ℕ, ◌<◌, eqb};
 ghost use Rattle.expressions.specs.Answers.{truth_of};
-ghost use Rattle.expressions.specs.Answers as expressions-answers;
 ghost use Rattle.model.specs.AutomataTable.{read_automata};
 ghost use Rattle.automata_records.specs.Places.{edge_at};
-ghost use Rattle.answers.specs.Answers.{reason_of};
 ghost use Rattle.automata_records.specs.Accepted.{Accepted};
 ghost use Rattle.automata_steps.specs.Index.{HasIndex};
 ghost use Rattle.automata_steps.specs.StepOf.{bare_run, edge_open, tally_of, one_open, counted_of, the_open, choice_of, TallyIn, CountedIn, ChoiceIn};
@@ -21,15 +19,6 @@ pub enum Tally {
     Nothing,
     One(u16),
     Many,
-}
-
-fn read_fault(w: expressions::outcomes::Reason) -> Reason
-    ensures { reason_of result ≡ expressions-answers.value_reason_of w }
-{
-    match w {
-        expressions::outcomes::Reason::Range => Reason::Range,
-        expressions::outcomes::Reason::Divisor => Reason::Divisor,
-    }
 }
 
 // An edge's literals, in file order up to the first that fails.
@@ -88,7 +77,7 @@ fn count_edge(
     if (automaton_of(s, shape, e) as u16) != automaton {
         return Ok(tally);
     }
-    let open = edge_open(s, shape, first, next, clocks, vars, events, e).map_err(read_fault)?;
+    let open = edge_open(s, shape, first, next, clocks, vars, events, e)?;
     if open {
         Ok(with_open(tally, e))
     } else {

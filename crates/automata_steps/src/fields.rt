@@ -7,6 +7,7 @@ ghost use Rattle.automata_records.specs.Accepted.{InFile, FewRecords};
 ghost use Rattle.timings.specs.Growth.{timing_if};
 
 use automata_records::Shape;
+use records::u16_within;
 
 // The number of a kind's first record.
 pub fn first_edge(shape: Shape) -> u16
@@ -51,18 +52,11 @@ pub fn byte_of(s: &[u8], n: u16, k: usize) -> u8
     s[16 * (n as usize) + k]
 }
 
-// The low half stands first.
-fn joined(low: u8, high: u8) -> u16
-    ensures { result ≡ low + 256 * high }
-{
-    (low as u16) + 256 * (high as u16)
-}
-
 pub fn two_of(s: &[u8], n: u16, k: usize) -> u16
     requires { InFile s.now n × (k < 15) }
     ensures { result ≡ two s.now (16 * n + k) }
 {
-    joined(byte_of(s, n, k), byte_of(s, n, k + 1))
+    u16_within(s, 16 * (n as usize) + k)
 }
 
 pub fn automaton_of(s: &[u8], shape: Shape, e: u16) -> u8

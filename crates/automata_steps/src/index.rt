@@ -29,9 +29,7 @@ fn link(s: &[u8], span: Span, first: &mut TableHeads, next: &mut [u16])
     requires { Linkable s.now span first.old next.old }
     ensures { Links s.now span first.old next.old first.new next.new }
 {
-    let mut n = span.end;
-    while span.start < n {
-        n -= 1;
+    for n in (span.start..span.end).rev() {
         let key = (span.base + owner_of(s, n)) as usize;
         let i = n as usize;
         next[i] = first[key];

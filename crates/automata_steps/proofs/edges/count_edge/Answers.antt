@@ -6,12 +6,11 @@ use lib.Dec.{eqb}
 use borrow.Author.Tests.{eq-eqb}
 use Rattle.std.proofs.lemmas.Result.{err_from_is_err_and}
 use Rattle.records.specs.Refusal.{Out, val}
-use Rattle.records.specs.RefusalOf.{out_of}
-use Rattle.answers.specs.Answers.{reason_of}
+use Rattle.expressions.specs.Answers.{value_reason_of}
 use Rattle.model.specs.AutomataTable.{read_automata}
 use Rattle.automata_steps.specs.declared.edges.Tally.{Tally}
 use Rattle.automata_steps.specs.StepOf.{bare_run, edge_open, one_open}
-use Rattle.automata_steps.proofs.StepOfOpen.{reasons-mapped, open-fault, open-not, open_more}
+use Rattle.automata_steps.proofs.StepOfOpen.{open-fault, open-not, open_more}
 use Rattle.automata_steps.proofs.edges.count_edge.Goals as goal
 
 -- the edge is the automaton's
@@ -22,11 +21,10 @@ pub returns-in_err-open-clause-by_index : goal.returns-in_err-open-clause-by_ind
 returns-in_err-open-clause-by_index c =
     let x = c.args in
     let isOpen = edge_open (read_automata x.s.now) (bare_run x.clocks.now x.vars.now x.events) in
-    let w = c.in_err-open.field-0.0 in
     let p = err_from_is_err_and c.from_residual.result c.from_residual.ensures.1 in
     λ es.
     rw (p.1, p.2)
-    (open-fault isOpen x.e x.tally (reason_of w) (ap (out_of reason_of) (sym c.in_err-open.was) ∙ reasons-mapped c.edge_open.result c.map_err.result c.map_err.ensures.cases ∙ c.edge_open.ensures) es
+    (open-fault isOpen x.e x.tally (value_reason_of c.in_err-open.field-0.0) c.in_err-open.ensures es
     ∙ own isOpen x.tally _ _ x.automaton x.e c.if-automaton_of-automaton.false c.automaton_of.ensures es)
 
 pub returns-then-open-clause-by_index : goal.returns-then-open-clause-by_index
@@ -35,7 +33,7 @@ returns-then-open-clause-by_index c =
     let isOpen = edge_open (read_automata x.s.now) (bare_run x.clocks.now x.vars.now x.events) in
     λ es.
     open_more isOpen x.e x.tally c.with_open.result c.with_open.ensures.by_index
-    (ap val (sym c.if-open.true) ∙ ap (out_of reason_of) (sym c.in_ok-open.was) ∙ reasons-mapped c.edge_open.result c.map_err.result c.map_err.ensures.cases ∙ c.edge_open.ensures) es
+    (ap val (sym c.if-open.true) ∙ c.in_ok-open.ensures) es
     ∙ own isOpen x.tally _ _ x.automaton x.e c.if-automaton_of-automaton.false c.automaton_of.ensures es
 
 pub returns-else-open-clause-by_index : goal.returns-else-open-clause-by_index
@@ -44,5 +42,5 @@ returns-else-open-clause-by_index c =
     let isOpen = edge_open (read_automata x.s.now) (bare_run x.clocks.now x.vars.now x.events) in
     λ es.
     open-not isOpen x.e x.tally
-    (ap val (sym c.if-open.false) ∙ ap (out_of reason_of) (sym c.in_ok-open.was) ∙ reasons-mapped c.edge_open.result c.map_err.result c.map_err.ensures.cases ∙ c.edge_open.ensures) es
+    (ap val (sym c.if-open.false) ∙ c.in_ok-open.ensures) es
     ∙ own isOpen x.tally _ _ x.automaton x.e c.if-automaton_of-automaton.false c.automaton_of.ensures es
