@@ -14,7 +14,7 @@ use records::refusals::Refusal;
 pub fn is_dash(name: &[u8]) -> bool
     ensures { result ≡ is_dash name.now }
 {
-    (name.len() == 1) & (byte_at(name, 0) == b'-')
+    name == b"-".as_slice()
 }
 
 // What a file seems to be, by its first byte, which is the kind of its first record.
@@ -30,22 +30,20 @@ pub enum Seen {
 fn kind_seen(kind: u8) -> Seen
     ensures { result ≡ kind_seen kind }
 {
-    if (1 <= kind) & (kind <= 6) {
-        return Seen::Set;
+    match kind {
+        1..=6 => Seen::Set,
+        33..=41 => Seen::Table,
+        _ => Seen::Neither,
     }
-    if (33 <= kind) & (kind <= 41) {
-        return Seen::Table;
-    }
-    Seen::Neither
 }
 
 pub fn seen_as(s: &[u8]) -> Seen
     ensures { result ≡ seen_as s.now }
 {
-    if s.len() == 0 {
-        return Seen::Empty;
+    match s.first() {
+        None => Seen::Empty,
+        Some(&kind) => kind_seen(kind),
     }
-    kind_seen(byte_at(s, 0))
 }
 
 // Whether the first record is of a table's kinds, from 33 on.
@@ -55,32 +53,30 @@ pub fn is_table(s: &[u8]) -> bool
     33 <= byte_at(s, 0)
 }
 
-// The last kind of the whole records, which never descend from the kind given; 255 where they do or one is unknown.
-pub fn last_kind(s: &[u8], kind: u8) -> u8
-    ensures { result ≡ last_kind_in s.now kind }
+// The last kind of the whole records after a kind that came before them; None where they descend from it or one is unknown.
+pub fn last_kind(s: &[u8], before: Option<u8>) -> Option<u8>
+    ensures { result ≡ last_kind_in s.now before }
 {
-    let mut last = kind;
-    let mut i: usize = 0;
-    while i < s.len() / 16 {
+    let mut last = before?;
+    for i in 0..s.len() / 16 {
         let k = s[16 * i];
         if (k < last) | (6 < k) {
-            return 255;
+            return None;
         }
         last = k;
-        i += 1;
     }
-    last
+    Some(last)
 }
 
 // Its parts are full but for the last; what they are full of is whole records.
-pub fn long_refusal(size: usize, kind: u8) -> Refusal
-    ensures { refusal_of result ≡ long_refusal size kind }
+pub fn long_refusal(size: usize, last: Option<u8>) -> Refusal
+    ensures { refusal_of result ≡ long_refusal size last }
 {
     if size % 16 != 0 {
         return Refusal::OddLength;
     }
-    if kind == 255 {
-        return Refusal::UnorderedKinds;
+    match last {
+        None => Refusal::UnorderedKinds,
+        Some(_) => Refusal::WrongAmounts,
     }
-    Refusal::WrongAmounts
 }

@@ -127,7 +127,7 @@ fn refuse_long(
     seen: Seen,
     buf: &mut [u8],
 ) {
-    let mut kind = last_kind(buf, 1);
+    let mut kind = last_kind(buf, Some(1));
     for _ in 0..u64::MAX {
         let Some(size) = or_tell(rt, name, fill(input, buf)) else {
             return
