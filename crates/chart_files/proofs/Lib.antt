@@ -6,5 +6,6 @@ pub mod StructurePriorities
 pub mod StructureFramed
 pub mod WaitsAlike
 pub mod WaitsFramed
+pub mod ShapeFramed
 pub mod ShapeChecked
 pub mod AcceptedByCheck

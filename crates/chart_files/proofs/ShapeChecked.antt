@@ -16,7 +16,7 @@ use Rattle.chart_files.specs.Checked.{IsChecked}
 use Rattle.records.specs.RefusalOf.{refusal_of}
 use Rattle.chart_records.specs.declared.Shape.{Shape}
 use Rattle.records.specs.declared.refusals.Refusal as declared-refusal
-use Rattle.chart_files.specs.declared.Checked.TheVariants.{Accepted, Refused}
+use Rattle.std.specs.Prelude.{Ok, Err}
 
 -- of two lists of tests the first decides where it refuses
 abbrev or_else : Option Refusal → Option Refusal → Option Refusal
@@ -76,8 +76,8 @@ module _ (s : List ℕ) where
 
 -- ---- the answers
 
-pub refused : (s : List ℕ) (w : declared-refusal.Refusal) → charts_refusal s ≡ some (refusal_of w) → IsChecked s (Refused w)
+pub refused : (s : List ℕ) (w : declared-refusal.Refusal) → charts_refusal s ≡ some (refusal_of w) → IsChecked s (Err w)
 refused s w e = record { answer = sym e; shape = λ sh q. let z : ◌≡◌ {A = ℕ} 0 1 = cc in absurd (omega arith) }
 
-pub accepted : (s : List ℕ) (sh : Shape) → IsShape s sh → charts_refusal s ≡ none → IsChecked s (Accepted sh)
+pub accepted : (s : List ℕ) (sh : Shape) → IsShape s sh → charts_refusal s ≡ none → IsChecked s (Ok sh)
 accepted s sh is e = record { answer = sym e; shape = λ sh' q. let p : sh ≡ sh' = cc in subst (IsShape s) p is }

@@ -27,6 +27,7 @@ use timing::all_ticking;
 use waiting::waits_alike;
 
 // Refusals 1 to 3.
+#[tactic(auto, using(crate::proofs::ShapeFramed::low))]
 pub fn shape_of(s: &[u8]) -> Result<Shape, Refusal>
     ensures { IsShaped s.now result }
 {
@@ -57,13 +58,10 @@ fn test_records(s: &[u8]) -> Tested
     for i in 0..s.len() / 16 {
         let at = 16 * i;
         let end = at + 16;
-        clean = clean & record_clean(&s[at..end]);
-        coded = coded & in_code(&s[at..end]);
+        clean &= record_clean(&s[at..end]);
+        coded &= in_code(&s[at..end]);
     }
-    Tested {
-        clean: clean,
-        coded: coded,
-    }
+    Tested { clean, coded }
 }
 
 // Refusals 4 to 9 of a framed file, and 25, in their order.

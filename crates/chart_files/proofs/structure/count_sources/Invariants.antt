@@ -5,4 +5,4 @@ use Rattle.chart_checks.proofs.Used.{Gathered}
 use Rattle.chart_files.proofs.structure.count_sources.Given as goal
 
 abbrev pub invariant-loop-t : goal.invariant-loop-t
-invariant-loop-t l = Gathered (λ t. source_at l.s l.shape t ∷ []) l.n l.initial.left l.left l.t
+invariant-loop-t l = Gathered (λ t. source_at l.s l.shape t ∷ []) l.shape.transitions l.initial.left l.left l.t

@@ -1,4 +1,3 @@
-use Prim.Native.Nat.{◌-◌}
 use Rattle.chart_records.specs.Places.{wait_at}
 use Rattle.chart_files.proofs.WaitsAlike.{Fitted}
 use Rattle.chart_files.proofs.WaitsFramed.{waiting_at}
@@ -6,6 +5,3 @@ use Rattle.chart_files.proofs.waiting.waits_alike.Given as goal
 
 abbrev pub invariant-loop-i : goal.invariant-loop-i
 invariant-loop-i l = Fitted (wait_at l.s l.shape) (waiting_at l.s l.shape) l.shape.actions l.first l.i
-
-abbrev pub decreases-loop-i : goal.decreases-loop-i
-decreases-loop-i l = l.shape.actions - l.i
