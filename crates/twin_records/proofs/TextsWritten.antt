@@ -91,32 +91,28 @@ module _ (key : ℕ → ℕ) (keys size : ℕ) (first next : List ℕ) (is : Cha
 
 -- ---- writers: each text not far
 
-module _ (f : ℕ → List ℕ) (n step : ℕ) (l : List ℕ) (at : ℕ) where
-  -- the texts of the numbers below i are written, none longer than a step
-  pub record Texts (m : List ℕ) (next i : ℕ) : Type 0 where
-    pub within : i ≤ n
-    pub near : next ≤ at + step * i
-    pub long : length m ≡ length l
-    pub wrote : Wrote l at (gather f (upto i)) m next
+-- the texts of the numbers below i are written, none longer than a step
+pub record Texts (f : ℕ → List ℕ) (step : ℕ) (l : List ℕ) (at : ℕ) (m : List ℕ) (next i : ℕ) : Type 0 where
+  pub near : next ≤ at + step * i
+  pub long : length m ≡ length l
+  pub wrote : Wrote l at (gather f (upto i)) m next
 
-  pub texts-start : Texts l at 0
-  texts-start = record { within = omega arith; near = omega arith; long = refl; wrote = texts-none f }
+module _ {f : ℕ → List ℕ} {step : ℕ} {l : List ℕ} {at : ℕ} where
+  pub texts-start : Texts f step l at l at 0
+  texts-start = record { near = omega arith; long = refl; wrote = texts-none f }
 
-  pub texts-step : {m r : List ℕ} {j k i : ℕ} → Texts m j i → i < n → length r ≡ length m → Puts m j (f i) r k step → Texts r k (i + 1)
-  texts-step {i = i} t b e p = record {
-    within = omega arith;
+  pub texts-step : {m r : List ℕ} {j k i : ℕ} → Texts f step l at m j i → length r ≡ length m → Puts m j (f i) r k step → Texts f step l at r k (i + 1)
+  texts-step {i = i} t e p = record {
     near = omega (arith, t.near, p.near, mul-add step i 1, mul-one step);
     long = e ∙ t.long;
     wrote = texts-more f t.wrote p.wrote;
   }
 
-  pub texts-end : {m : List ℕ} {j i : ℕ} (text : List ℕ) → gather f (upto n) ≡ text → (far : ℕ) → step * n ≤ far → Texts m j i → n ≤ i → Puts l at text m j far
-  texts-end {m} {j} {i} text e far h t b =
-      let q : i ≡ n = omega (arith, t.within) in
-      record {
-        wrote = subst (λ x. Wrote l at x m j) (ap (λ k. gather f (upto k)) q ∙ e) t.wrote;
-        near = let x : step * i ≡ step * n = ap (λ k. step * k) q in omega (arith, t.near);
-      }
+  pub texts-end : {n : ℕ} (text : List ℕ) → gather f (upto n) ≡ text → (far : ℕ) → step * n ≤ far → {m : List ℕ} {j i : ℕ} → Texts f step l at m j i → i ≡ n → Puts l at text m j far
+  texts-end text e far h {m} {j} {i} t q = record {
+    wrote = subst (λ x. Wrote l at x m j) (ap (λ k. gather f (upto k)) q ∙ e) t.wrote;
+    near = let x = ap (λ k. step * k) q in omega (arith, t.near);
+  }
 
 -- a text put under another name
 pub puts-as : {l m : List ℕ} {at next far : ℕ} (t : List ℕ) {u : List ℕ} → t ≡ u → Puts l at t m next far → Puts l at u m next far

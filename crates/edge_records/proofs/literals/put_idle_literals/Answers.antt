@@ -14,7 +14,7 @@ use Rattle.edge_records.proofs.literals.put_idle_literals.Goals as goal
 pub loop-state-init : goal.loop-state-init
 loop-state-init c =
     let x = c.args in
-    (texts-start _ _ _ _ _, sym (idle-none (read_charts x.s.now) ∙ length-transitions x.s.now x.shape c.requires.0.shape))
+    (texts-start, sym (idle-none (read_charts x.s.now) ∙ length-transitions x.s.now x.shape c.requires.0.shape))
 
 pub put_idle_literals_of-next-requires : goal.put_idle_literals_of-next-requires
 put_idle_literals_of-next-requires c =
@@ -55,10 +55,10 @@ loop-state-preserved c =
     c.count_of.ensures.0 ∙ waiting-count x.s.now x.shape c.requires.0 x.waiting.now c.requires.2 c.loop-state.state c.loop-state-test.true in
     let x = c.args in
     let l = c.loop-state in
-    (texts-step _ _ _ _ _ l.invariant.0 c.loop-state-test.true c.put_idle_literals_of-next.auto.out c.put_idle_literals_of-next.ensures, omega (arith, l.invariant.1, edges-here, idle-more (read_charts x.s.now) l.state))
+    (texts-step l.invariant.0 c.put_idle_literals_of-next.auto.out c.put_idle_literals_of-next.ensures, omega (arith, l.invariant.1, edges-here, idle-more (read_charts x.s.now) l.state))
 
 pub returns : goal.returns
 returns c =
     let x = c.args in
     let cs = read_charts x.s.now in
-    texts-end _ _ _ _ _ _ (ap (λ n. gather (λ i. gather (literals_text cs) (idle_origins cs i)) (upto n)) (sym (length-homes x.s.now x.shape c.requires.0.shape))) (2 ^ 40) (omega (arith, most-states x.s.now x.shape c.requires.0.shape)) c.loop-state.invariant.0 c.loop-state-test.false
+    texts-end _ (ap (λ n. gather (λ i. gather (literals_text cs) (idle_origins cs i)) (upto n)) (sym (length-homes x.s.now x.shape c.requires.0.shape))) (2 ^ 40) (omega (arith, most-states x.s.now x.shape c.requires.0.shape)) c.loop-state.invariant.0 (omega arith)

@@ -11,7 +11,7 @@ use Rattle.edge_records.proofs.literals.put_literals.Goals as goal
 
 pub loop-t-init : goal.loop-t-init
 loop-t-init c =
-    texts-start _ _ _ _ _
+    texts-start
 
 pub put_literals_of-next-requires : goal.put_literals_of-next-requires
 put_literals_of-next-requires c =
@@ -22,10 +22,10 @@ pub loop-t-preserved : goal.loop-t-preserved
 loop-t-preserved c =
     let x = c.args in
     let l = c.loop-t in
-    texts-step _ _ _ _ _ l.invariant c.loop-t-test.true c.put_literals_of-next.auto.out c.put_literals_of-next.ensures
+    texts-step l.invariant c.put_literals_of-next.auto.out c.put_literals_of-next.ensures
 
 pub returns : goal.returns
 returns c =
     let x = c.args in
     let cs = read_charts x.s.now in
-    texts-end _ _ _ _ _ _ (ap (λ n. gather (λ i. literal_texts i (literals_of cs (from_transition i))) (upto n)) (sym (length-transitions x.s.now x.shape c.requires.0.shape))) (2 ^ 40) (omega (arith, most-transitions x.s.now x.shape c.requires.0.shape)) c.loop-t.invariant c.loop-t-test.false
+    texts-end _ (ap (λ n. gather (λ i. literal_texts i (literals_of cs (from_transition i))) (upto n)) (sym (length-transitions x.s.now x.shape c.requires.0.shape))) (2 ^ 40) (omega (arith, most-transitions x.s.now x.shape c.requires.0.shape)) c.loop-t.invariant (omega arith)

@@ -6,4 +6,4 @@ use Rattle.twin_records.specs.Texts.{literal_texts}
 use Rattle.edge_records.proofs.literals.put_literals.Given as goal
 
 abbrev pub invariant-loop-t : goal.invariant-loop-t
-invariant-loop-t l = Texts (λ i. literal_texts i (literals_of (read_charts l.s) (from_transition i))) l.shape.transitions (2 ^ 22) l.initial.out l.at l.out l.next l.t
+invariant-loop-t l = Texts (λ i. literal_texts i (literals_of (read_charts l.s) (from_transition i))) (2 ^ 22) l.initial.out l.at l.out l.next l.t

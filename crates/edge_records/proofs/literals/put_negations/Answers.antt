@@ -15,7 +15,7 @@ use Rattle.edge_records.proofs.literals.put_negations.Goals as goal
 
 pub loop-j-init : goal.loop-j-init
 loop-j-init c =
-    texts-start _ _ _ _ _
+    texts-start
 
 pub slot_of-t-requires : goal.slot_of-t-requires
 slot_of-t-requires c =
@@ -35,7 +35,7 @@ loop-j-preserved c =
     let x = c.args in
     let l = c.loop-j in
     let cs = read_charts x.s.now in
-    texts-step _ _ _ _ _ l.invariant c.loop-j-test.true c.put_negation-next.auto.out
+    texts-step l.invariant c.put_negation-next.auto.out
     (puts-as _
     (ap (λ ts. literal_texts x.edge (map (literal cs false) ts)) (ap named c.slot_of-t.ensures ∙ sym (place_of x.s.now x.shape c.requires.0 x.state (l.j + 1) c.requires.3)))
     c.put_negation-next.ensures)
@@ -43,4 +43,4 @@ loop-j-preserved c =
 pub returns : goal.returns
 returns c =
     let x = c.args in
-    texts-end _ _ _ _ _ _ (nots-text (read_charts x.s.now) x.edge x.state x.count) (2 ^ 20) (omega (arith, c.requires.4)) c.loop-j.invariant c.loop-j-test.false
+    texts-end _ (nots-text (read_charts x.s.now) x.edge x.state x.count) (2 ^ 20) (omega (arith, c.requires.4)) c.loop-j.invariant (omega arith)

@@ -5,4 +5,4 @@ use Rattle.edge_records.proofs.TextsEdges.{nots_text}
 use Rattle.edge_records.proofs.literals.put_negations.Given as goal
 
 abbrev pub invariant-loop-j : goal.invariant-loop-j
-invariant-loop-j l = Texts (λ q. nots_text (read_charts l.s) l.edge l.state (q + 1)) l.count 16 l.initial.out l.at l.out l.next l.j
+invariant-loop-j l = Texts (λ q. nots_text (read_charts l.s) l.edge l.state (q + 1)) 16 l.initial.out l.at l.out l.next l.j

@@ -14,7 +14,7 @@ use Rattle.edge_records.proofs.updates.put_due_updates.Goals as goal
 pub loop-state-init : goal.loop-state-init
 loop-state-init c =
     let x = c.args in
-    (texts-start _ _ _ _ _, sym (idle-none (read_charts x.s.now) ∙ length-transitions x.s.now x.shape c.requires.0.shape))
+    (texts-start, sym (idle-none (read_charts x.s.now) ∙ length-transitions x.s.now x.shape c.requires.0.shape))
 
 pub put_due_updates_of-place-requires : goal.put_due_updates_of-place-requires
 put_due_updates_of-place-requires c =
@@ -55,10 +55,10 @@ loop-state-preserved c =
     c.count_of.ensures.0 ∙ waiting-count x.s.now x.shape c.requires.0 x.waiting.now c.requires.1 c.loop-state.state c.loop-state-test.true in
     let x = c.args in
     let l = c.loop-state in
-    (texts-step _ _ _ _ _ l.invariant.0 c.loop-state-test.true c.put_due_updates_of-place.auto.out c.put_due_updates_of-place.ensures, omega (arith, l.invariant.1, edges-here, idle-more (read_charts x.s.now) l.state))
+    (texts-step l.invariant.0 c.put_due_updates_of-place.auto.out c.put_due_updates_of-place.ensures, omega (arith, l.invariant.1, edges-here, idle-more (read_charts x.s.now) l.state))
 
 pub returns : goal.returns
 returns c =
     let x = c.args in
     let cs = read_charts x.s.now in
-    texts-end _ _ _ _ _ _ (ap (λ n. gather (λ i. gather (updates_text cs) (idle_origins cs i)) (upto n)) (sym (length-homes x.s.now x.shape c.requires.0.shape))) (2 ^ 40) (omega (arith, most-states x.s.now x.shape c.requires.0.shape)) c.loop-state.invariant.0 c.loop-state-test.false
+    texts-end _ (ap (λ n. gather (λ i. gather (updates_text cs) (idle_origins cs i)) (upto n)) (sym (length-homes x.s.now x.shape c.requires.0.shape))) (2 ^ 40) (omega (arith, most-states x.s.now x.shape c.requires.0.shape)) c.loop-state.invariant.0 (omega arith)

@@ -8,4 +8,4 @@ use Rattle.twin_records.proofs.TextsWritten.{Texts}
 use Rattle.edge_records.proofs.updates.put_due_updates.Given as goal
 
 abbrev pub invariant-loop-state : goal.invariant-loop-state
-invariant-loop-state l = Texts (λ i. gather (updates_text (read_charts l.s)) (idle_origins (read_charts l.s) i)) l.shape.states (2 ^ 20) l.initial.out l.at l.out l.place l.state × (l.edge ≡ first_idle (read_charts l.s) l.state)
+invariant-loop-state l = Texts (λ i. gather (updates_text (read_charts l.s)) (idle_origins (read_charts l.s) i)) (2 ^ 20) l.initial.out l.at l.out l.place l.state × (l.edge ≡ first_idle (read_charts l.s) l.state)

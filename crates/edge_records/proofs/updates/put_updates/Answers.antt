@@ -11,7 +11,7 @@ use Rattle.edge_records.proofs.updates.put_updates.Goals as goal
 
 pub loop-t-init : goal.loop-t-init
 loop-t-init c =
-    texts-start _ _ _ _ _
+    texts-start
 
 pub put_updates_of-place-requires : goal.put_updates_of-place-requires
 put_updates_of-place-requires c =
@@ -22,10 +22,10 @@ pub loop-t-preserved : goal.loop-t-preserved
 loop-t-preserved c =
     let x = c.args in
     let l = c.loop-t in
-    texts-step _ _ _ _ _ l.invariant c.loop-t-test.true c.put_updates_of-place.auto.out c.put_updates_of-place.ensures
+    texts-step l.invariant c.put_updates_of-place.auto.out c.put_updates_of-place.ensures
 
 pub returns : goal.returns
 returns c =
     let x = c.args in
     let cs = read_charts x.s.now in
-    texts-end _ _ _ _ _ _ (ap (λ n. gather (λ i. update_texts i (updates_of cs (from_transition i))) (upto n)) (sym (length-transitions x.s.now x.shape c.requires.0.shape))) (2 ^ 40) (omega (arith, most-transitions x.s.now x.shape c.requires.0.shape)) c.loop-t.invariant c.loop-t-test.false
+    texts-end _ (ap (λ n. gather (λ i. update_texts i (updates_of cs (from_transition i))) (upto n)) (sym (length-transitions x.s.now x.shape c.requires.0.shape))) (2 ^ 40) (omega (arith, most-transitions x.s.now x.shape c.requires.0.shape)) c.loop-t.invariant (omega arith)

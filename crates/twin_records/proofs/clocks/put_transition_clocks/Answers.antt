@@ -16,20 +16,20 @@ use Rattle.twin_records.proofs.clocks.put_transition_clocks.Goals as goal
 
 pub loop-t-init : goal.loop-t-init
 loop-t-init c =
-    texts-start _ _ _ _ _
+    texts-start
 
 pub loop-t-preserved : goal.loop-t-preserved
 loop-t-preserved c =
     let l = c.loop-t in
-    texts-step _ _ _ _ _ l.invariant c.loop-t-test.true c.put_clock-next.auto.out (puts-as _ (ap (λ x. section 37 (map write_clock (clocks_of x))) c.trigger_of.ensures) c.put_clock-next.ensures)
+    texts-step l.invariant c.put_clock-next.auto.out (puts-as _ (ap (λ x. section 37 (map write_clock (clocks_of x))) c.trigger_of.ensures) c.put_clock-next.ensures)
 
 pub returns : goal.returns
 returns c =
     let x = c.args in
     let text : Transition → List ℕ = λ y. section 37 (map write_clock (clocks_of y.trigger)) in
-    texts-end _ _ _ _ _ _
+    texts-end _
     (sym
     (gathered-text 37 write_clock (λ y. clocks_of y.trigger) (read_charts x.s.now).transitions
     ∙ ap (gather text) (transitions-are x.s.now x.shape c.requires.0)
     ∙ gather-map (transition_at x.s.now x.shape) text _))
-    (2 ^ 20) (omega (arith, most-transitions x.s.now x.shape c.requires.0)) c.loop-t.invariant c.loop-t-test.false
+    (2 ^ 20) (omega (arith, most-transitions x.s.now x.shape c.requires.0)) c.loop-t.invariant (omega arith)

@@ -8,4 +8,4 @@ use Rattle.twin_records.proofs.TextsWritten.{Texts}
 use Rattle.twin_records.proofs.clocks.put_transition_clocks.Given as goal
 
 abbrev pub invariant-loop-t : goal.invariant-loop-t
-invariant-loop-t l = Texts (λ i. section 37 (map write_clock (clocks_of (transition_at l.s l.shape i).trigger))) l.shape.transitions 16 l.initial.out l.at l.out l.next l.t
+invariant-loop-t l = Texts (λ i. section 37 (map write_clock (clocks_of (transition_at l.s l.shape i).trigger))) 16 l.initial.out l.at l.out l.next l.t

@@ -14,16 +14,16 @@ use Rattle.twin_records.proofs.clocks.put_waiting_clocks.Goals as goal
 
 pub loop-state-init : goal.loop-state-init
 loop-state-init c =
-    texts-start _ _ _ _ _
+    texts-start
 
 pub loop-state-preserved : goal.loop-state-preserved
 loop-state-preserved c =
-    texts-step _ _ _ _ _ c.loop-state.invariant c.loop-state-test.true c.put_waiting_clock-next.auto.out c.put_waiting_clock-next.ensures
+    texts-step c.loop-state.invariant c.put_waiting_clock-next.auto.out c.put_waiting_clock-next.ensures
 
 pub returns : goal.returns
 returns c =
     let x = c.args in
     let cs = read_charts x.s.now in
-    texts-end _ _ _ _ _ _
+    texts-end _
     (ap (λ n. gather (λ i. section 37 (map write_clock (waiting_clocks cs i))) (upto n)) (sym (length-homes x.s.now x.shape c.requires.0.shape)) ∙ sym (gathered-text 37 write_clock (waiting_clocks cs) (upto (state_count cs))))
-    (2 ^ 20) (omega (arith, most-states x.s.now x.shape c.requires.0.shape)) c.loop-state.invariant c.loop-state-test.false
+    (2 ^ 20) (omega (arith, most-states x.s.now x.shape c.requires.0.shape)) c.loop-state.invariant (omega arith)

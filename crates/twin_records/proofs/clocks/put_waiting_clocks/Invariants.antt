@@ -8,4 +8,4 @@ use Rattle.twin_records.proofs.TextsWritten.{Texts}
 use Rattle.twin_records.proofs.clocks.put_waiting_clocks.Given as goal
 
 abbrev pub invariant-loop-state : goal.invariant-loop-state
-invariant-loop-state l = Texts (λ i. section 37 (map write_clock (waiting_clocks (read_charts l.s) i))) l.shape.states 16 l.initial.out l.at l.out l.next l.state
+invariant-loop-state l = Texts (λ i. section 37 (map write_clock (waiting_clocks (read_charts l.s) i))) 16 l.initial.out l.at l.out l.next l.state

@@ -11,14 +11,14 @@ use Rattle.twin_records.proofs.edges.put_idle_edges.Goals as goal
 
 pub loop-state-init : goal.loop-state-init
 loop-state-init c =
-    texts-start _ _ _ _ _
+    texts-start
 
 pub loop-state-preserved : goal.loop-state-preserved
 loop-state-preserved c =
-    texts-step _ _ _ _ _ c.loop-state.invariant c.loop-state-test.true c.put_idle_edges_of-next.auto.out c.put_idle_edges_of-next.ensures
+    texts-step c.loop-state.invariant c.put_idle_edges_of-next.auto.out c.put_idle_edges_of-next.ensures
 
 pub returns : goal.returns
 returns c =
     let x = c.args in
     let cs = read_charts x.s.now in
-    texts-end _ _ _ _ _ _ (ap (λ n. gather (λ i. gather (edge_text cs) (idle_origins cs i)) (upto n)) (sym (length-homes x.s.now x.shape c.requires.0.shape))) (2 ^ 20) (omega (arith, most-states x.s.now x.shape c.requires.0.shape)) c.loop-state.invariant c.loop-state-test.false
+    texts-end _ (ap (λ n. gather (λ i. gather (edge_text cs) (idle_origins cs i)) (upto n)) (sym (length-homes x.s.now x.shape c.requires.0.shape))) (2 ^ 20) (omega (arith, most-states x.s.now x.shape c.requires.0.shape)) c.loop-state.invariant (omega arith)

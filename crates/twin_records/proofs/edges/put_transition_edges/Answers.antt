@@ -11,14 +11,14 @@ use Rattle.twin_records.proofs.edges.put_transition_edges.Goals as goal
 
 pub loop-t-init : goal.loop-t-init
 loop-t-init c =
-    texts-start _ _ _ _ _
+    texts-start
 
 pub loop-t-preserved : goal.loop-t-preserved
 loop-t-preserved c =
-    texts-step _ _ _ _ _ c.loop-t.invariant c.loop-t-test.true c.put_record-next.auto.out (puts-as _ c.transition_record-bytes.ensures c.put_record-next.ensures)
+    texts-step c.loop-t.invariant c.put_record-next.auto.out (puts-as _ c.transition_record-bytes.ensures c.put_record-next.ensures)
 
 pub returns : goal.returns
 returns c =
     let x = c.args in
     let cs = read_charts x.s.now in
-    texts-end _ _ _ _ _ _ (ap (λ n. gather (λ i. edge_text cs (from_transition i)) (upto n)) (sym (length-transitions x.s.now x.shape c.requires.0.shape))) (2 ^ 20) (omega (arith, most-transitions x.s.now x.shape c.requires.0.shape)) c.loop-t.invariant c.loop-t-test.false
+    texts-end _ (ap (λ n. gather (λ i. edge_text cs (from_transition i)) (upto n)) (sym (length-transitions x.s.now x.shape c.requires.0.shape))) (2 ^ 20) (omega (arith, most-transitions x.s.now x.shape c.requires.0.shape)) c.loop-t.invariant (omega arith)

@@ -12,15 +12,15 @@ use Rattle.twin_records.proofs.sections.put_homes.Goals as goal
 
 pub loop-state-init : goal.loop-state-init
 loop-state-init c =
-    texts-start _ _ _ _ _
+    texts-start
 
 pub loop-state-preserved : goal.loop-state-preserved
 loop-state-preserved c =
     let l = c.loop-state in
-    texts-step _ _ _ _ _ l.invariant c.loop-state-test.true c.put_record-next.auto.out (puts-as _ (c.home_bytes-bytes.ensures ∙ ap (λ h. record_text 34 (h ∷ [])) c.home_of.ensures) c.put_record-next.ensures)
+    texts-step l.invariant c.put_record-next.auto.out (puts-as _ (c.home_bytes-bytes.ensures ∙ ap (λ h. record_text 34 (h ∷ [])) c.home_of.ensures) c.put_record-next.ensures)
 
 pub returns : goal.returns
 returns c =
     let x = c.args in
     let is = c.requires.0 in
-    texts-end _ _ _ _ _ _ (placed-text 34 (λ h. h ∷ []) (home_at x.s.now x.shape) (read_charts x.s.now).homes x.shape.states (homes-are x.s.now x.shape is)) (2 ^ 40) (omega (arith, most-states x.s.now x.shape is)) c.loop-state.invariant c.loop-state-test.false
+    texts-end _ (placed-text 34 (λ h. h ∷ []) (home_at x.s.now x.shape) (read_charts x.s.now).homes x.shape.states (homes-are x.s.now x.shape is)) (2 ^ 40) (omega (arith, most-states x.s.now x.shape is)) c.loop-state.invariant (omega arith)

@@ -13,15 +13,15 @@ use Rattle.twin_records.proofs.sections.put_initials.Goals as goal
 
 pub loop-c-init : goal.loop-c-init
 loop-c-init c =
-    texts-start _ _ _ _ _
+    texts-start
 
 pub loop-c-preserved : goal.loop-c-preserved
 loop-c-preserved c =
     let l = c.loop-c in
-    texts-step _ _ _ _ _ l.invariant c.loop-c-test.true c.put_record-next.auto.out (puts-as _ (c.initial_bytes-bytes.ensures ∙ ap (λ i. record_text 33 (0 ∷ bytes2 i)) c.initial_of.ensures) c.put_record-next.ensures)
+    texts-step l.invariant c.put_record-next.auto.out (puts-as _ (c.initial_bytes-bytes.ensures ∙ ap (λ i. record_text 33 (0 ∷ bytes2 i)) c.initial_of.ensures) c.put_record-next.ensures)
 
 pub returns : goal.returns
 returns c =
     let x = c.args in
     let is = c.requires.0 in
-    texts-end _ _ _ _ _ _ (placed-text 33 (λ i. 0 ∷ bytes2 i) (initial_at x.s.now x.shape) (read_charts x.s.now).initial x.shape.charts (initial-are x.s.now x.shape is)) (2 ^ 40) (omega (arith, most-charts x.s.now x.shape is)) c.loop-c.invariant c.loop-c-test.false
+    texts-end _ (placed-text 33 (λ i. 0 ∷ bytes2 i) (initial_at x.s.now x.shape) (read_charts x.s.now).initial x.shape.charts (initial-are x.s.now x.shape is)) (2 ^ 40) (omega (arith, most-charts x.s.now x.shape is)) c.loop-c.invariant (omega arith)

@@ -10,15 +10,15 @@ use Rattle.twin_records.proofs.sections.put_nodes.Goals as goal
 
 pub loop-n-init : goal.loop-n-init
 loop-n-init c =
-    texts-start _ _ _ _ _
+    texts-start
 
 pub loop-n-preserved : goal.loop-n-preserved
 loop-n-preserved c =
     let l = c.loop-n in
-    texts-step _ _ _ _ _ l.invariant c.loop-n-test.true c.put_record-next.auto.out (puts-as _ c.node_record-bytes.ensures c.put_record-next.ensures)
+    texts-step l.invariant c.put_record-next.auto.out (puts-as _ c.node_record-bytes.ensures c.put_record-next.ensures)
 
 pub returns : goal.returns
 returns c =
     let x = c.args in
     let is = c.requires.0.shape in
-    texts-end _ _ _ _ _ _ (placed-text 39 write_node (node_at (node_part x.s.now x.shape)) (read_charts x.s.now).nodes x.shape.nodes (nodes-are x.s.now x.shape is)) (2 ^ 40) (omega (arith, most-nodes x.s.now x.shape is)) c.loop-n.invariant c.loop-n-test.false
+    texts-end _ (placed-text 39 write_node (node_at (node_part x.s.now x.shape)) (read_charts x.s.now).nodes x.shape.nodes (nodes-are x.s.now x.shape is)) (2 ^ 40) (omega (arith, most-nodes x.s.now x.shape is)) c.loop-n.invariant (omega arith)

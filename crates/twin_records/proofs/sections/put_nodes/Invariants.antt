@@ -6,4 +6,4 @@ use Rattle.chart_records.specs.Places.{node_part}
 use Rattle.twin_records.proofs.sections.put_nodes.Given as goal
 
 abbrev pub invariant-loop-n : goal.invariant-loop-n
-invariant-loop-n l = Texts (λ i. record_text 39 (write_node (node_at (node_part l.s l.shape) i))) l.shape.nodes 16 l.initial.out l.at l.out l.next l.n
+invariant-loop-n l = Texts (λ i. record_text 39 (write_node (node_at (node_part l.s l.shape) i))) 16 l.initial.out l.at l.out l.next l.n

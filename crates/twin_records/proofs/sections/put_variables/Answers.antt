@@ -10,15 +10,15 @@ use Rattle.twin_records.proofs.sections.put_variables.Goals as goal
 
 pub loop-v-init : goal.loop-v-init
 loop-v-init c =
-    texts-start _ _ _ _ _
+    texts-start
 
 pub loop-v-preserved : goal.loop-v-preserved
 loop-v-preserved c =
     let l = c.loop-v in
-    texts-step _ _ _ _ _ l.invariant c.loop-v-test.true c.put_record-next.auto.out (puts-as _ c.variable_bytes-bytes.ensures c.put_record-next.ensures)
+    texts-step l.invariant c.put_record-next.auto.out (puts-as _ c.variable_bytes-bytes.ensures c.put_record-next.ensures)
 
 pub returns : goal.returns
 returns c =
     let x = c.args in
     let is = c.requires.0 in
-    texts-end _ _ _ _ _ _ (placed-text 38 write_variable (variable_at x.s.now x.shape) (read_charts x.s.now).variables x.shape.variables (variables-are x.s.now x.shape is)) (2 ^ 40) (omega (arith, most-variables x.s.now x.shape is)) c.loop-v.invariant c.loop-v-test.false
+    texts-end _ (placed-text 38 write_variable (variable_at x.s.now x.shape) (read_charts x.s.now).variables x.shape.variables (variables-are x.s.now x.shape is)) (2 ^ 40) (omega (arith, most-variables x.s.now x.shape is)) c.loop-v.invariant (omega arith)
