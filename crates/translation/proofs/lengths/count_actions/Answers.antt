@@ -9,8 +9,8 @@ use Rattle.translation.proofs.lengths.count_actions.Goals as goal
 
 pub loop-a-init : goal.loop-a-init
 loop-a-init c =
-    let x = c.args in
-    (omega arith, subst (λ l. Added (key_at x.s.now x.shape) (λ i. 1) 641 l 0) (sym c.requires.1) (added_none (key_at x.s.now x.shape) (λ i. 1) 641))
+    let key = key_at c.args.s.now c.args.shape in
+    subst (λ l. Added key (λ i. 1) 641 l 0) (sym c.requires.1) (added_none key (λ i. 1) 641)
 
 pub key_of-key-requires : goal.key_of-key-requires
 key_of-key-requires c =
@@ -22,9 +22,8 @@ bounds-counts-key c =
 
 pub overflow_add-counts : goal.overflow_add-counts
 overflow_add-counts c =
-    let l = c.loop-a in
     let x = c.args in
-    omega (arith, added-most (key_at x.s.now x.shape) (λ i. 1) 641 c.key_of-key.result 1 l.invariant.1 (λ j. omega arith) c.key_of-key.ensures.1, l.invariant.0, most-actions x.s.now x.shape c.requires.0.shape)
+    omega (arith, added-most (key_at x.s.now x.shape) (λ i. 1) 641 c.key_of-key.result 1 c.loop-a.invariant (λ j. omega arith) c.key_of-key.ensures.1, most-actions x.s.now x.shape c.requires.0.shape)
 
 pub bounds-counts-key-in-loop-a : goal.bounds-counts-key-in-loop-a
 bounds-counts-key-in-loop-a c =
@@ -32,17 +31,15 @@ bounds-counts-key-in-loop-a c =
 
 pub loop-a-preserved : goal.loop-a-preserved
 loop-a-preserved c =
-    let l = c.loop-a in
-    let x = c.args in
-    (omega (arith, c.loop-a-test.true), added_more (key_at x.s.now x.shape) (λ i. 1) 641 c.key_of-key.result 1 l.invariant.1 c.key_of-key.ensures.0 refl c.key_of-key.ensures.1)
+    added_more (key_at c.args.s.now c.args.shape) (λ i. 1) 641 c.key_of-key.result 1 c.loop-a.invariant c.key_of-key.ensures.0 refl c.key_of-key.ensures.1
 
 pub returns : goal.returns
 returns c =
     let l = c.loop-a in
     let x = c.args in
     let key = key_at x.s.now x.shape in
-    let e : l.a ≡ x.shape.actions = omega (arith, l.invariant.0, c.loop-a-test.false) in
+    let e : l.a ≡ x.shape.actions = omega arith in
     λ k h.
-    (subst (Added key (λ i. 1) 641 l.counts) e l.invariant.1).sums k h
+    (subst (Added key (λ i. 1) 641 l.counts) e l.invariant).sums k h
     ∙ sum_alike (share key (λ i. 1) 641 k) (λ i. bit (keyed x.s.now x.shape k i)) 0 x.shape.actions (λ i a b. share-one key k i)
     ∙ sym (count-from (keyed x.s.now x.shape k) 0 x.shape.actions)

@@ -25,12 +25,12 @@ one_more n = go (eqb n 0)
     go true = omega arith
     go false = omega arith
 
-module _ (s : List ℕ) (sh : Shape) (ok : Accepted s sh) (st : ℕ) (h : st < sh.states) where
+module _ {s : List ℕ} {sh : Shape} (ok : Accepted s sh) {st : ℕ} (h : st < sh.states) where
   inside : st < 128
-  inside = omega (arith, h, most-states s sh ok.shape)
+  inside = omega (arith, most-states s sh ok.shape)
 
   in-set : st < length (read_charts s).homes
-  in-set = omega (arith, h, length-homes s sh ok.shape)
+  in-set = omega (arith, length-homes s sh ok.shape)
 
   -- few transitions leave the state, and it has few waiting actions
   few : (actions leaving : List ℕ) → CountsActions s sh actions → CountsLeaving (read_charts s) leaving → (get_or leaving st 0 ≤ 16) × (get_or actions (512 + st) 0 ≤ 8)
@@ -40,71 +40,75 @@ module _ (s : List ℕ) (sh : Shape) (ok : Accepted s sh) (st : ℕ) (h : st < s
   )
 
 pub loop-state-init : goal.loop-state-init
-loop-state-init c =
-    let x = c.args in
-    (omega arith, sym (sum-none (idle_parts (read_charts x.s.now))), omega arith, λ st h. absurd (omega arith), λ st l h. c.requires.3 st h, c.requires.4)
+loop-state-init c = record {
+  counted = sym (sum-none (idle_parts (read_charts c.args.s.now)));
+  few = omega arith;
+  done = λ st h. absurd (omega arith);
+  rest = λ st l h. c.requires.3 st h;
+  long = c.requires.4;
+}
 
 pub overflow_add-waiting : goal.overflow_add-waiting
 overflow_add-waiting c =
-    let within : c.loop-state.state < 128 = inside c.args.s.now c.args.shape c.requires.0 c.loop-state.state c.loop-state-test.true in
-    omega (arith, within)
+    omega (arith, inside c.requires.0 c.loop-state-test.true)
 
 pub bounds-actions-state : goal.bounds-actions-state
 bounds-actions-state c =
-    let within : c.loop-state.state < 128 = inside c.args.s.now c.args.shape c.requires.0 c.loop-state.state c.loop-state-test.true in
-    omega (arith, within)
+    omega (arith, inside c.requires.0 c.loop-state-test.true)
 
 pub bounds-leaving-i : goal.bounds-leaving-i
 bounds-leaving-i c =
-    let within : c.loop-state.state < 128 = inside c.args.s.now c.args.shape c.requires.0 c.loop-state.state c.loop-state-test.true in
-    within
+    inside c.requires.0 c.loop-state-test.true
 
 pub idle_length-requires : goal.idle_length-requires
 idle_length-requires c =
-    few c.args.s.now c.args.shape c.requires.0 c.loop-state.state c.loop-state-test.true c.args.actions.now c.args.leaving.now c.requires.1 c.requires.2
+    few c.requires.0 c.loop-state-test.true _ _ c.requires.1 c.requires.2
 
 pub overflow_add-n : goal.overflow_add-n
 overflow_add-n c =
-    let within : c.loop-state.state < 128 = inside c.args.s.now c.args.shape c.requires.0 c.loop-state.state c.loop-state-test.true in
-    omega (arith, c.idle_length.ensures.1, c.loop-state.invariant.2, within)
+    omega (arith, c.idle_length.ensures.1, c.loop-state.invariant.few, inside c.requires.0 c.loop-state-test.true)
 
 pub bounds-clocks-i : goal.bounds-clocks-i
 bounds-clocks-i c =
-    let within : c.loop-state.state < 128 = inside c.args.s.now c.args.shape c.requires.0 c.loop-state.state c.loop-state-test.true in
-    within
+    inside c.requires.0 c.loop-state-test.true
 
 pub overflow_add-clocks : goal.overflow_add-clocks
 overflow_add-clocks c =
-    let within : c.loop-state.state < 128 = inside c.args.s.now c.args.shape c.requires.0 c.loop-state.state c.loop-state-test.true in
-    let known : c.loop-state.state < length (read_charts c.args.s.now).homes = in-set c.args.s.now c.args.shape c.requires.0 c.loop-state.state c.loop-state-test.true in
-    let x = c.args in
     let l = c.loop-state in
-    let cs = read_charts x.s.now in
-    omega (arith, c.any_of.ensures, one_more (get_or c.args.actions.now (512 + c.loop-state.state) 0), l.invariant.4 l.state (omega arith) within, clocks_leaving-length cs l.state, leavers-few x.s.now c.requires.0.unrefused l.state known)
+    let h = c.loop-state-test.true in
+    omega (
+      arith,
+      c.any_of.ensures,
+      one_more (get_or c.args.actions.now (512 + l.state) 0),
+      l.invariant.rest l.state (omega arith) (inside c.requires.0 h),
+      clocks_leaving-length (read_charts c.args.s.now) l.state,
+      leavers-few c.args.s.now c.requires.0.unrefused l.state (in-set c.requires.0 h),
+    )
 
 pub bounds-clocks-i-in-loop-state : goal.bounds-clocks-i-in-loop-state
 bounds-clocks-i-in-loop-state c =
-    let within : c.loop-state.state < 128 = inside c.args.s.now c.args.shape c.requires.0 c.loop-state.state c.loop-state-test.true in
-    within
+    inside c.requires.0 c.loop-state-test.true
 
 pub loop-state-preserved : goal.loop-state-preserved
 loop-state-preserved c =
-    let within : c.loop-state.state < 128 = inside c.args.s.now c.args.shape c.requires.0 c.loop-state.state c.loop-state-test.true in
     let x = c.args in
     let l = c.loop-state in
     let cs = read_charts x.s.now in
     let ok = c.requires.0 in
+    let within = inside ok c.loop-state-test.true in
+    let leaving = get_or x.leaving.now l.state 0 in
+    let waiting = get_or x.actions.now (512 + l.state) 0 in
     let e = c.requires.2 l.state within in
     let d = c.requires.1 (512 + l.state) (omega (arith, within)) in
     let here : get_or l.clocks l.state 0 + c.any_of.result ≡ length (clocks_of_state cs l.state) =
-    (λ i. l.invariant.4 l.state (omega arith) within i + c.any_of.ensures i) ∙ sym (resets-are x.s.now x.shape ok l.state within (get_or c.args.leaving.now c.loop-state.state 0) (get_or c.args.actions.now (512 + c.loop-state.state) 0) e d) in (
-      omega (arith, c.loop-state-test.true),
-      omega (arith, l.invariant.1, c.idle_length.ensures.0, idle-is x.s.now x.shape ok l.state within (get_or c.args.leaving.now c.loop-state.state 0) (get_or c.args.actions.now (512 + c.loop-state.state) 0) e d, sum_more (idle_parts cs) l.state),
-      omega (arith, l.invariant.2, c.idle_length.ensures.1),
-      filled_in l.clocks l.state c.any_of.result (λ st. length (clocks_of_state cs st)) l.invariant.3 here (omega (arith, l.invariant.5, within)),
-      λ st a b. get_or-set_other l.clocks l.state st (get_or l.clocks l.state 0 + c.any_of.result) 0 (λ q. absurd (omega (arith, q))) ∙ l.invariant.4 st (omega arith) b,
-      length-set l.clocks l.state (get_or l.clocks l.state 0 + c.any_of.result) ∙ l.invariant.5,
-    )
+    (λ i. l.invariant.rest l.state (omega arith) within i + c.any_of.ensures i) ∙ sym (resets-are x.s.now x.shape ok l.state within leaving waiting e d) in
+    record {
+      counted = omega (arith, l.invariant.counted, c.idle_length.ensures.0, idle-is x.s.now x.shape ok l.state within leaving waiting e d, sum_more (idle_parts cs) l.state);
+      few = omega (arith, l.invariant.few, c.idle_length.ensures.1);
+      done = filled_in l.clocks l.state c.any_of.result (λ st. length (clocks_of_state cs st)) l.invariant.done here (omega (arith, l.invariant.long, within));
+      rest = λ st a b. get_or-set_other l.clocks l.state st (get_or l.clocks l.state 0 + c.any_of.result) 0 (λ q. absurd (omega (arith, q))) ∙ l.invariant.rest st (omega arith) b;
+      long = length-set l.clocks l.state (get_or l.clocks l.state 0 + c.any_of.result) ∙ l.invariant.long;
+    }
   where
     filled_in : (xs : List ℕ) (c n : ℕ) (f : ℕ → ℕ) → ((st : ℕ) → st < c → get_or xs st 0 ≡ f st) → get_or xs c 0 + n ≡ f c → c < length xs → (st : ℕ) → st < c + 1 → get_or (set xs c (get_or xs c 0 + n)) st 0 ≡ f st
     filled_in xs c n f h e l st a = go (eqb st c) refl
@@ -120,5 +124,5 @@ returns c =
     let x = c.args in
     let l = c.loop-state in
     let cs = read_charts x.s.now in
-    let e : l.state ≡ length cs.homes = omega (arith, l.invariant.0, c.loop-state-test.false, length-homes x.s.now x.shape c.requires.0.shape) in
-    (l.invariant.1 ∙ ap (sum_from (idle_parts cs) 0) e ∙ idle-lengths cs, λ st h. l.invariant.3 st (omega (arith, e)))
+    let e : l.state ≡ length cs.homes = omega (arith, length-homes x.s.now x.shape c.requires.0.shape) in
+    (l.invariant.counted ∙ ap (sum_from (idle_parts cs) 0) e ∙ idle-lengths cs, λ st h. l.invariant.done st (omega (arith, e)))
