@@ -6,7 +6,7 @@ use Rattle.file_lines.proofs.Counting.{counted_none, counted-more, number-le}
 use Rattle.file_lines.proofs.print_records.Goals as goal
 
 pub loop-n-init : goal.loop-n-init
-loop-n-init g c = (omega arith, counted_none _)
+loop-n-init g c = counted_none _
 
 pub overflow_add-counts : goal.overflow_add-counts
 overflow_add-counts g c =
@@ -14,11 +14,11 @@ overflow_add-counts g c =
     let l = c.loop-n in
     let k = byte s (16 * l.n) in
     let low : k < 256 = omega (arith, c.type_inv.s (16 * l.n)) in
-    omega (arith, l.invariant.1.number k low, number-le s k l.n, l.invariant.0)
+    omega (arith, l.invariant.number k low, number-le s k l.n)
 
 pub loop-n-preserved : goal.loop-n-preserved
 loop-n-preserved g c =
     let s = c.args.s.now in
     let l = c.loop-n in
     let low : byte s (16 * l.n) < 256 = omega (arith, c.type_inv.s (16 * l.n)) in
-    (omega arith, counted-more s l.n l.counts (omega arith) low l.invariant.1)
+    counted-more s l.n l.counts (omega arith) low l.invariant

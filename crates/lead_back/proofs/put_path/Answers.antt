@@ -12,7 +12,7 @@ use Rattle.lead_back.proofs.put_path.Goals as goal
 pub loop-i-init : goal.loop-i-init
 loop-i-init c =
     let a = c.args in
-    (omega arith, omega arith, refl, subst (λ t. Wrote a.path.now 0 t a.path.now 0) (sym (numbers-none a.bytes.now)) (nothing-wrote a.path.now 0))
+    (refl, subst (λ t. Wrote a.path.now 0 t a.path.now 0) (sym (numbers-none a.bytes.now)) (nothing-wrote a.path.now 0))
 
 pub loop-i-preserved : goal.loop-i-preserved
 loop-i-preserved c =
@@ -22,8 +22,6 @@ loop-i-preserved c =
     let after = set l.path l.i c.u16_at.result in
     let one : Wrote l.path l.i (two a.bytes.now (2 * l.i) ∷ []) after (l.i + 1) =
     record { behind = refl; written = ap (λ v. set l.path l.i v) c.u16_at.ensures } in (
-      omega (arith, kept),
-      omega arith,
-      kept ∙ l.invariant.2,
-      subst (λ t. Wrote a.path.now 0 t after (l.i + 1)) (sym (numbers_more l.i a.bytes.now)) (wrote_then l.invariant.3 one),
+      kept ∙ l.invariant.0,
+      subst (λ t. Wrote a.path.now 0 t after (l.i + 1)) (sym (numbers_more l.i a.bytes.now)) (wrote_then l.invariant.1 one),
     )
