@@ -18,7 +18,7 @@ use Rattle.automata_records.specs.Shape.{IsShape}
 use Rattle.automata_files.specs.Checked.{as_table, IsChecked}
 use Rattle.automata_files.specs.Checks.{passes}
 use Rattle.automata_records.specs.declared.Shape.{Shape}
-use Rattle.automata_files.specs.declared.Checked.TheVariants.{Accepted, Refused}
+use Rattle.std.specs.Prelude.{Ok, Err}
 
 -- tests that all refuse as 11
 abbrev eleven : List Bool → Option Refusal
@@ -72,7 +72,7 @@ module _ (s : List ℕ) where
 
   -- ---- the answers
 
-  pub refused-framing : (w : declared-refusal.Refusal) → as_table (framing 33 automata_limits s) ≡ some (refusal_of w) → IsChecked s (Refused w)
+  pub refused-framing : (w : declared-refusal.Refusal) → as_table (framing 33 automata_limits s) ≡ some (refusal_of w) → IsChecked s (Err w)
   refused-framing w e = record {
     answer = sym (by-framing ∙ ap (λ o. or_else o behind) e);
     shape = λ sh q. let z : ◌≡◌ {A = ℕ} 0 1 = cc in absurd (omega arith);
@@ -82,8 +82,8 @@ module _ (s : List ℕ) where
     refusal_is : {t : Bool} → passes s ≡ t → automata_refusal s ≡ cond t none (some bad_table)
     refusal_is e = by-framing ∙ ap (λ o. or_else (as_table o) behind) is.framed ∙ ap (λ t. cond t none (some bad_table)) e
 
-    pub refused : passes s ≡ false → IsChecked s (Refused declared-refusal.TheVariants.BadTable)
+    pub refused : passes s ≡ false → IsChecked s (Err declared-refusal.TheVariants.BadTable)
     refused e = record { answer = sym (refusal_is e); shape = λ sh q. let z : ◌≡◌ {A = ℕ} 0 1 = cc in absurd (omega arith) }
 
-    pub accepted : passes s ≡ true → IsChecked s (Accepted sh)
+    pub accepted : passes s ≡ true → IsChecked s (Ok sh)
     accepted e = record { answer = sym (refusal_is e); shape = λ sh' q. let p : sh ≡ sh' = cc in subst (IsShape s) p is }

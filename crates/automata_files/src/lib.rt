@@ -29,6 +29,7 @@ use structure::{clocks_tick, idle_edges_stay, inside_automata};
 use unused::record_clean;
 
 // Refusals 1 to 3, read for kinds 33 to 41. What is refused is refused as 11, whatever the test.
+#[tactic(auto, using(crate::proofs::ShapeFramed::low))]
 pub fn shape_of(s: &[u8]) -> Result<Shape, Refusal>
     ensures { IsShaped s.now result }
 {
@@ -62,7 +63,7 @@ fn all_sound(s: &[u8]) -> bool
     for i in 0..s.len() / 16 {
         let at = 16 * i;
         let end = at + 16;
-        sound = sound & record_sound(&s[at..end]);
+        sound &= record_sound(&s[at..end]);
     }
     sound
 }

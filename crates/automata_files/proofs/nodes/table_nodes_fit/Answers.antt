@@ -4,11 +4,8 @@ use Prim.Native.Nat.{ℕ}
 use native.Mathlib.Omega.{arith}
 use lib.ListN.{length, replicate, length-replicate}
 use Rattle.expressions.specs.Nodes.{node_at}
-use Rattle.expressions.specs.Sorts.{nodes_named, operands_fit}
-use Rattle.expressions.specs.Verdicts.{says_fit}
 use Rattle.expressions.specs.Uses.{all_operands}
 use Rattle.expressions.proofs.Uses.{adds-length}
-use Rattle.expressions.proofs.Verdicts.{fit-said}
 use Rattle.automata_records.specs.Places.{node_part}
 use Rattle.automata_records.proofs.PlacesRead.{most-nodes}
 use Rattle.automata_files.proofs.StructureTests.{nodes-is, used-is}
@@ -25,6 +22,5 @@ returns c =
     let s = c.args.s.now in
     let sh = c.args.shape in
     let node = node_at (node_part s sh) in
-    let operands = c.says_fit.ensures ∙ ap says_fit c.requires.1 ∙ fit-said (nodes_named node sh.nodes sh.variables) (operands_fit node sh.nodes) in
     let used = c.none_twice.ensures ∙ used-is node sh.nodes c.args.uses.now (most-nodes s sh c.requires.0) c.requires.2 in
-    (λ j. operands j && c.guards_fit.ensures j && c.updates_fit.ensures j && used j) ∙ sym (nodes-is s sh c.requires.0)
+    (λ j. c.requires.1 j && c.guards_fit.ensures j && c.updates_fit.ensures j && used j) ∙ sym (nodes-is s sh c.requires.0)

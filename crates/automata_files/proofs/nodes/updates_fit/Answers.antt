@@ -1,10 +1,14 @@
-use Rattle.std.proofs.Common.{rules, tests, refl}
-use mathlib.Core.Path.{sym, ap, ◌∙◌}
+use Rattle.std.proofs.Common.{◌&&◌, rules, tests, refl}
+use Rattle.expressions.specs.Nodes.{node_at}
 use Rattle.prelude.proofs.Ranges.{all_upto}
+use Rattle.chart_checks.specs.Used.{truths, numbers}
 use Rattle.automata_records.specs.Places.{node_part}
-use Rattle.automata_files.proofs.nodes.updates_fit.Invariants.{fits}
+use Rattle.automata_records.specs.Structure.{condition_at, assigned_at}
 use Rattle.automata_files.proofs.nodes.updates_fit.Goals as goal
 
 pub returns : goal.returns
 returns c =
-    all_upto (fits c.args.s.now c.args.shape (node_part c.args.s.now c.args.shape)) c.args.shape.updates _ _ _ c.all.ensures.ran refl (λ x b q k. search (rules, tests))
+    let s = c.args.s.now in
+    let sh = c.args.shape in
+    let node = node_at (node_part s sh) in
+    all_upto (λ u. truths node (condition_at s sh u) && numbers node (assigned_at s sh u)) sh.updates _ _ _ c.all.ensures.ran refl (λ x b q k. search (rules, tests))
