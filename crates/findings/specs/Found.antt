@@ -1,5 +1,5 @@
 -- The first record of a file that breaks a rule. Assumes nothing: these are definitions.
-use Rattle.std.specs.Prelude.{◌≡◌, Bool, true, false, not, ◌&&◌, ◌||◌, List, ℕ, ◌*◌, ◌/◌, ◌<◌, leb, ltb, eqb, length, take, drop}
+use Rattle.std.specs.Prelude.{◌≡◌, Bool, true, false, not, ◌&&◌, ◌||◌, List, ℕ, ◌*◌, ◌/◌, ◌<◌, leb, ltb, eqb, length, take, drop, Option, Some, None}
 use Rattle.records.specs.Bytes.{byte, four}
 use Rattle.model.specs.Charts.{ticks}
 use Rattle.model.specs.ChartSet.{read_transition}
@@ -7,8 +7,6 @@ use Rattle.model.specs.ChartFile.{unused, unused_are_zero, in_code, ticking}
 use Rattle.model.specs.AutomataFile.{unused_in_table, table_in_code}
 use Rattle.findings.specs.declared.Rule.{Rule}
 use Rattle.findings.specs.declared.Rule.TheVariants.{SetKinds, SetBytes, SetCodes, SetTicks, TableKinds, TableBytes, TableCodes}
-use Rattle.findings.specs.declared.Found.{Found}
-use Rattle.findings.specs.declared.Found.TheVariants.{At, Nowhere}
 
 -- what a rule asks of a record, as the model's tests of refusals 2, 4, 5, 9 and 11 do of each
 abbrev pub test_of : Rule → List ℕ → Bool
@@ -30,6 +28,6 @@ abbrev pub Passed : (List ℕ → Bool) → List ℕ → ℕ → Type 0
 Passed test s n = (j : ℕ) → j < n → test (record_in s j) ≡ true
 
 -- the record breaks the rule, and no earlier one does; or none does
-abbrev pub FoundIn : (List ℕ → Bool) → List ℕ → Found → Type 0
-FoundIn test s (At n) = (n < length s / 16) × Passed test s n × (test (record_in s n) ≡ false)
-FoundIn test s Nowhere = Passed test s (length s / 16)
+abbrev pub FoundIn : (List ℕ → Bool) → List ℕ → Option ℕ → Type 0
+FoundIn test s (Some n) = (n < length s / 16) × Passed test s n × (test (record_in s n) ≡ false)
+FoundIn test s None = Passed test s (length s / 16)

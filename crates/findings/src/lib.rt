@@ -21,12 +21,6 @@ pub enum Rule {
     TableCodes,
 }
 
-#[derive(Clone, Copy)]
-pub enum Found {
-    At(usize),
-    Nowhere,
-}
-
 // Of a record alone: the trigger of transition 0, and the milliseconds of action 0, behind no other record.
 fn ticks(r: &[u8]) -> bool
     ensures { result ≡ test_of Rule.SetTicks r.now }
@@ -60,17 +54,8 @@ fn passes(rule: Rule, r: &[u8]) -> bool
 }
 
 // The first record that breaks the rule.
-pub fn find(rule: Rule, s: &[u8]) -> Found
+pub fn find(rule: Rule, s: &[u8]) -> Option<usize>
     ensures { FoundIn (test_of rule) s.now result }
 {
-    let mut i: usize = 0;
-    while i < s.len() / 16 {
-        let at = 16 * i;
-        let end = at + 16;
-        if !passes(rule, &s[at..end]) {
-            return Found::At(i);
-        }
-        i += 1;
-    }
-    Found::Nowhere
+    (0..s.len() / 16).find(|&i| !passes(rule, &s[16 * i..16 * i + 16]))
 }

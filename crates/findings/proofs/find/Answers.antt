@@ -1,35 +1,24 @@
-use mathlib.Core.Path.{sym, ap, ◌∙◌}
-use Prim.Native.Nat.{◌*◌}
-use native.Mathlib.Omega.{arith}
-use lib.ListN.{length, drop, length-drop}
-use lib.Seq.{length-take-le}
-use Rattle.findings.specs.Found.{test_of}
-use Rattle.findings.proofs.Records.{part-is, one-passed}
+use mathlib.Core.Path.{◌≡◌}
+use mathlib.Core.Bool.{Bool, true, false}
+use mathlib.Core.List.{List}
+use Prim.Native.Nat.{ℕ, ◌/◌, ◌≤◌, ◌<◌, zero-le}
+use lib.ListN.{length}
+use Rattle.std.specs.Prelude.{Option, Some, None, MatchOption}
+use Rattle.std.proofs.lemmas.Iterator.{first_from_Range}
+use Rattle.std.proofs.Common.{rules, tests}
+use Rattle.findings.specs.Found.{test_of, record_in, FoundIn}
 use Rattle.findings.proofs.find.Goals as goal
 
-pub passes-requires : goal.passes-requires
-passes-requires c =
-    let s = c.args.s.now in
-    let i = c.loop-i.i in
-    ap length (part-is s i) ∙ length-take-le 16 (drop (16 * i) s) (omega (arith, length-drop (16 * i) s))
-
-pub returns-then-not-passes : goal.returns-then-not-passes
-returns-then-not-passes c =
-    let a = c.args in
-    let s = a.s.now in
-    let l = c.loop-i in
-    let is = sym (c.passes.ensures ∙ ap (test_of a.rule) (part-is s l.i)) in
-    (c.loop-i-test.true, l.invariant.1, is ∙ c.if-not-passes.true)
-
-pub loop-i-preserved : goal.loop-i-preserved
-loop-i-preserved c =
-    let a = c.args in
-    let s = a.s.now in
-    let l = c.loop-i in
-    let is = sym (c.passes.ensures ∙ ap (test_of a.rule) (part-is s l.i)) in
-    (omega arith, one-passed (test_of a.rule) s l.i l.invariant.1 (is ∙ c.if-not-passes.false))
+found-by : (test : List ℕ → Bool) (s : List ℕ) (r : Option ℕ) → MatchOption r ((k : ℕ) → 0 ≤ k → k < length s / 16 → test (record_in s k) ≡ true)
+    (λ i. (0 ≤ i) × (i < length s / 16) × (test (record_in s i) ≡ false) × ((k : ℕ) → 0 ≤ k → k < i → test (record_in s k) ≡ true)) → FoundIn test s r
+found-by test s None h = λ j l. h j zero-le l
+found-by test s (Some i) h = (h.1, λ j l. h.3 j zero-le l, h.2)
 
 pub returns : goal.returns
 returns c =
-    let l = c.loop-i in
-    λ j h. l.invariant.1 j (omega (arith, h, c.loop-i-test.false))
+    let s = c.args.s.now in
+    let test = test_of c.args.rule in
+    found-by test s _
+    (first_from_Range _ _ _ c.find.result (λ x. test (record_in s x) ≡ false) (λ x. test (record_in s x) ≡ true) c.find.ensures.ran
+    (λ x q k. search (rules, tests))
+    (λ x q k. search (rules, tests)))
