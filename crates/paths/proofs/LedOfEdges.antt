@@ -22,6 +22,7 @@ use Rattle.model.proofs.TranslationOrigins.{waits_one, IsOrigin, idle-length, ed
 use Rattle.model.proofs.TranslationCounts.{origins-few, edges_few}
 use Rattle.prelude.proofs.Lists.{all_get_d}
 use Rattle.model.proofs.ChartFile.{homes-named}
+use Rattle.paths.specs.declared.Idling.{Idling}
 use Rattle.paths.specs.LedOf.{HasIdling}
 
 -- ---- of any set
@@ -75,7 +76,7 @@ module _ (s : List ℕ) (sh : Shape) (ok : Accepted s sh) where
         ∙ home-is s sh ok.shape (transition_at s sh t).source (source_known s sh ok t h)
 
   -- an idle edge, by the state that is held of it
-  module _ (states : List ℕ) (edges : ℕ) (has : HasIdling s sh states edges) (j : ℕ) (h : j < edges) where
+  module _ (idling : Idling) (has : HasIdling s sh idling) (j : ℕ) (h : j < idling.count) where
     pub idle-room : j < 2 * most_states
     idle-room =
         omega (
@@ -88,14 +89,14 @@ module _ (s : List ℕ) (sh : Shape) (ok : Accepted s sh) where
           most-states s sh ok.shape,
         )
 
-    pub high-source : (edge (twin (read_charts s)) (sh.transitions + j)).source ≡ get_or states j 0
+    pub high-source : (edge (twin (read_charts s)) (sh.transitions + j)).source ≡ get_or idling.states j 0
     high-source = ap (λ x. x.source) (has.each j h)
 
-    pub high-target : (edge (twin (read_charts s)) (sh.transitions + j)).target ≡ get_or states j 0
+    pub high-target : (edge (twin (read_charts s)) (sh.transitions + j)).target ≡ get_or idling.states j 0
     high-target = ap (λ x. x.target) (has.each j h)
 
-    pub high-automaton : (edge (twin (read_charts s)) (sh.transitions + j)).automaton ≡ home_at s sh (get_or states j 0)
-    high-automaton = ap (λ x. x.automaton) (has.each j h) ∙ home-is s sh ok.shape (get_or states j 0) (has.known j h)
+    pub high-automaton : (edge (twin (read_charts s)) (sh.transitions + j)).automaton ≡ home_at s sh (get_or idling.states j 0)
+    high-automaton = ap (λ x. x.automaton) (has.each j h) ∙ home-is s sh ok.shape (get_or idling.states j 0) (has.known j h)
 
   pub automaton-known : (e : ℕ) → e < length (twin (read_charts s)).edges → (edge (twin (read_charts s)) e).automaton < sh.charts
   automaton-known e h = by-origin (read_charts s) (λ k. (edge (twin (read_charts s)) k).automaton < sh.charts) each e (omega (arith, edges-count (read_charts s)))

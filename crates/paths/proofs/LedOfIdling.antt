@@ -91,7 +91,7 @@ module _ (s : List ℕ) (sh : Shape) (ok : Accepted s sh) (state edges : ℕ) (s
             ∙ idle-edge (read_charts s) state (j - edges) (omega (arith, length-homes s sh ok.shape)) (omega (arith, em))
             ∙ ap (λ n. edge_of (read_charts s) (from_idling n)) (sym (new j z l))
 
-  pub idles-all : sh.states ≤ state → HasIdling s sh states edges
+  pub idles-all : sh.states ≤ state → HasIdling s sh (record { states = states; count = edges })
   idles-all h = record {
     count =
         edges-count (read_charts s)

@@ -19,53 +19,53 @@ use Rattle.chart_records.specs.declared.Shape.{Shape}
 use Rattle.chart_records.proofs.PlacesRead.{length-initial, most-charts}
 use Rattle.chart_records.specs.Accepted.{Accepted}
 use Rattle.paths.specs.declared.Edge.{Edge}
-use Rattle.paths.specs.LedOf.{walk_in, next_position, next_cycles, IsEdge, HasEdges}
+use Rattle.paths.specs.declared.EdgeTable.{EdgeTable}
+use Rattle.paths.specs.declared.Walk.{Walk}
+use Rattle.paths.specs.LedOf.{walk_in, next_position, next_cycles, no_edge, IsEdge, HasEdges}
 use Rattle.paths.proofs.LedOfEdges.{edges-in, automaton-known}
 
-module _ (s : List ℕ) (sh : Shape) (ok : Accepted s sh) (e : ℕ) (locations : List ℕ) (position cycles : ℕ) where
+module _ (s : List ℕ) (sh : Shape) (ok : Accepted s sh) (e : ℕ) (w : Walk) where
   abbrev pub here : M.Walk
-  here = walk_in sh.charts locations position cycles
+  here = walk_in sh.charts w
 
   abbrev onward : M.Walk
   onward = record {
     locations = set here.locations (edge (twin (read_charts s)) e).automaton (edge (twin (read_charts s)) e).target;
-    position = position + 1;
-    cycles = cycles;
+    position = w.position + 1;
+    cycles = w.cycles;
   }
 
   abbrev later : M.Walk
-  later = record { locations = here.locations; position = 1; cycles = cycles + 1 }
+  later = record { locations = here.locations; position = 1; cycles = w.cycles + 1 }
 
   -- ---- the edge that is named
 
   pub edge-out : length (twin (read_charts s)).edges ≤ e → edge_fits (read_charts s) e here ≡ false
-  edge-out h = ap (λ b. b && eqb ((edge (twin (read_charts s)) e).automaton + 1) position && eqb (edge (twin (read_charts s)) e).source (get_or here.locations (edge (twin (read_charts s)) e).automaton 0))
+  edge-out h = ap (λ b. b && eqb ((edge (twin (read_charts s)) e).automaton + 1) w.position && eqb (edge (twin (read_charts s)) e).source (get_or here.locations (edge (twin (read_charts s)) e).automaton 0))
       (le-ltb e (length (twin (read_charts s)).edges) h)
 
   module _ (x : Edge) (is : IsEdge s sh.charts e x) (h : e < length (twin (read_charts s)).edges) where
-    fits_by : (b : Bool) → eqb (x.automaton + 1) position ≡ b → edge_fits (read_charts s) e here ≡ (b && eqb x.source (get_or (take sh.charts locations) x.automaton 0))
+    fits_by : (b : Bool) → eqb (x.automaton + 1) w.position ≡ b → edge_fits (read_charts s) e here ≡ (b && eqb x.source (get_or (take sh.charts w.locations) x.automaton 0))
     fits_by b eb =
         (λ i. lt-ltb e (length (twin (read_charts s)).edges) h i
-        && eqb (sym is.automaton i + 1) position && eqb (sym is.source i) (get_or (take sh.charts locations) (sym is.automaton i) 0))
-        ∙ ap (λ t. t && eqb x.source (get_or (take sh.charts locations) x.automaton 0)) eb
+        && eqb (sym is.automaton i + 1) w.position && eqb (sym is.source i) (get_or (take sh.charts w.locations) (sym is.automaton i) 0))
+        ∙ ap (λ t. t && eqb x.source (get_or (take sh.charts w.locations) x.automaton 0)) eb
 
-    pub edge_other : eqb (x.automaton + 1) position ≡ false → edge_fits (read_charts s) e here ≡ false
+    pub edge_other : eqb (x.automaton + 1) w.position ≡ false → edge_fits (read_charts s) e here ≡ false
     edge_other n = fits_by false n
 
-    pub edge-there : eqb (x.automaton + 1) position ≡ true → edge_fits (read_charts s) e here ≡ eqb x.source (get_or locations x.automaton 0)
-    edge-there n = fits_by true n ∙ ap (eqb x.source) (get_or-take sh.charts locations x.automaton 0 is.known)
+    pub edge-there : eqb (x.automaton + 1) w.position ≡ true → edge_fits (read_charts s) e here ≡ eqb x.source (get_or w.locations x.automaton 0)
+    edge-there n = fits_by true n ∙ ap (eqb x.source) (get_or-take sh.charts w.locations x.automaton 0 is.known)
 
     -- where it leads
-    pub led-edge : (e ≡ 65535 → ⊥) → walk_in sh.charts (set locations x.automaton x.target) (next_position e position) (next_cycles e cycles) ≡ walked (read_charts s) e here
+    pub led-edge : (e ≡ 65535 → ⊥) → walk_in sh.charts (record { locations = set w.locations x.automaton x.target; position = w.position + 1; cycles = w.cycles }) ≡ walked (read_charts s) e here
     led-edge n =
-        (λ i. record { locations = take-set-lt sh.charts locations x.automaton x.target is.known i; position = cond (ne_eqb e 65535 n i) 1 (position + 1); cycles = cond (ne_eqb e 65535 n i) (cycles + 1) cycles })
-        ∙ (λ i. record { locations = set (take sh.charts locations) (is.automaton i) (is.target i); position = position + 1; cycles = cycles })
+        (λ i. record { locations = take-set-lt sh.charts w.locations x.automaton x.target is.known i; position = w.position + 1; cycles = w.cycles })
+        ∙ (λ i. record { locations = set (take sh.charts w.locations) (is.automaton i) (is.target i); position = w.position + 1; cycles = w.cycles })
         ∙ sym (ap (λ b. cond b later onward) (ne_eqb e 65535 n))
 
-  pub led-time : e ≡ 65535 → walk_in sh.charts locations (next_position e position) (next_cycles e cycles) ≡ walked (read_charts s) e here
-  led-time m =
-      (λ i. record { locations = take sh.charts locations; position = cond (eq-eqb e 65535 m i) 1 (position + 1); cycles = cond (eq-eqb e 65535 m i) (cycles + 1) cycles })
-      ∙ sym (ap (λ b. cond b later onward) (eq-eqb e 65535 m))
+  pub led-time : e ≡ 65535 → walk_in sh.charts (record { locations = w.locations; position = 1; cycles = w.cycles + 1 }) ≡ walked (read_charts s) e here
+  led-time m = sym (ap (λ b. cond b later onward) (eq-eqb e 65535 m))
 
 -- ---- the step, from anywhere
 
@@ -129,14 +129,11 @@ module _ (s : List ℕ) (sh : Shape) (ok : Accepted s sh) (e : ℕ) (w : M.Walk)
           let p = fits-edge (eqb-false e time_mark q) t in
           omega (arith, p.1, automaton-known s sh ok e p.0, most-charts s sh ok.shape)
 
--- ---- edges in arrays
+-- ---- edges in their table
 
-module _ (s : List ℕ) (sh : Shape) (ok : Accepted s sh) (edges : ℕ) (automata sources targets : List ℕ) (has : HasEdges s sh edges automata sources targets) (e : ℕ) (h : e < edges) where
-  abbrev pub held : Edge
-  held = record { automaton = get_or automata e 0; source = get_or sources e 0; target = get_or targets e 0 }
-
+module _ {s : List ℕ} {sh : Shape} (ok : Accepted s sh) {table : EdgeTable} (has : HasEdges s sh table) {e : ℕ} (h : e < table.count) where
   pub edge-room : e < most_edges
   edge-room = omega (arith, has.count, edges-in s sh ok)
 
-  pub few-automata : get_or automata e 0 < 8
+  pub few-automata : (get_or table.edges e no_edge).automaton < 8
   few-automata = omega (arith, (has.each e h).known, most-charts s sh ok.shape)

@@ -132,8 +132,9 @@ fn start_walk(s: &[u8], shape: Shape) -> Walk
     ensures { walk_in shape.charts result ≡ walk_start (read_charts s.now) }
 {
     let run = chart_runs::start(s, shape);
+    let locations = run.states;
     Walk {
-        locations: run.states,
+        locations,
         position: 1,
         cycles: 0,
     }

@@ -1,4 +1,4 @@
-use mathlib.Core.Path.{sym, ap, ◌∙◌}
+use mathlib.Core.Path.{◌≡◌, refl, sym, ap, ◌∙◌}
 use Prim.Native.Nat.{◌+◌}
 use lib.ListN.{get_or}
 use Rattle.model.specs.ChartSet.{read_charts}
@@ -7,33 +7,33 @@ use Rattle.paths.specs.LedOf.{walk_in}
 use Rattle.paths.proofs.AlongFollowed.{followed-none, followed-more, followed-all, followed-broken, rows-many}
 use Rattle.paths.proofs.count_rows.Goals as goal
 
-pub loop-i-init : goal.loop-i-init
-loop-i-init c =
+pub loop-e-init : goal.loop-e-init
+loop-e-init c =
     let a = c.args in
-    followed-none (read_charts a.s.now) a.path.now (walk_in a.shape.charts c.start_locations-locations.result 1 0) c.start_locations-locations.ensures
+    followed-none (read_charts a.s.now) a.path.now (walk_in a.shape.charts c.start_walk-walk.result) c.start_walk-walk.ensures
 
 pub returns-then-not-step_fits : goal.returns-then-not-step_fits
 returns-then-not-step_fits c =
     let a = c.args in
-    let l = c.loop-i in
-    sym (followed-broken (read_charts a.s.now) a.path.now l.i (walk_in a.shape.charts l.locations l.position l.cycles) l.rows l.invariant c.loop-i-test.true
+    let l = c.loop-e in
+    sym (followed-broken (read_charts a.s.now) a.path.now l.e-index (walk_in a.shape.charts l.walk) l.rows l.invariant c.loop-e-test.true
     (sym c.step_fits.ensures ∙ c.if-not-step_fits.true))
 
-pub loop-i-preserved : goal.loop-i-preserved
-loop-i-preserved c =
+pub loop-e-preserved : goal.loop-e-preserved
+loop-e-preserved c =
     let a = c.args in
-    let l = c.loop-i in
+    let l = c.loop-e in
     let s = a.s.now in
     let cs = read_charts s in
-    let w = walk_in a.shape.charts l.locations l.position l.cycles in
-    let e = get_or a.path.now l.i 0 in
-    followed-more cs a.path.now l.i w l.rows l.invariant c.loop-i-test.true
+    let w = walk_in a.shape.charts l.walk in
+    let e = get_or a.path.now l.e-index 0 in
+    followed-more cs a.path.now l.e-index w l.rows l.invariant c.loop-e-test.true
     (sym c.step_fits.ensures ∙ c.if-not-step_fits.false)
-    _ ((λ i. walk_in a.shape.charts c.follow_step.new.locations (c.next_position-position.ensures i) (c.next_cycles-cycles.ensures i)) ∙ c.follow_step.ensures)
+    _ c.follow_step.ensures
     _ (ap (λ n. l.rows + n) (c.rows_of_step-rows.ensures ∙ sym (rows-many cs a.path.now e w a.shape.transitions (length-transitions s a.shape c.requires.0.shape))))
 
 pub returns : goal.returns
 returns c =
     let a = c.args in
-    let l = c.loop-i in
-    sym (followed-all (read_charts a.s.now) a.path.now l.i (walk_in a.shape.charts l.locations l.position l.cycles) l.rows l.invariant c.loop-i-test.false)
+    let l = c.loop-e in
+    sym (followed-all (read_charts a.s.now) a.path.now l.e-index (walk_in a.shape.charts l.walk) l.rows l.invariant c.loop-e-test.false)

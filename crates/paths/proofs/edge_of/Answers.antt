@@ -28,7 +28,7 @@ returns-then-e-shape c =
 pub bounds-idling-i : goal.bounds-idling-i
 bounds-idling-i c =
     let a = c.args in
-    idle-room a.s.now a.shape c.requires.accepted.0 a.idling.now a.idle c.requires.accepted.1 (a.e - a.shape.transitions) (omega (arith, c.if-e-shape.false, c.requires.e_bound))
+    idle-room a.s.now a.shape c.requires.accepted.0 a.idling.now c.requires.accepted.1 (a.e - a.shape.transitions) (omega (arith, c.if-e-shape.false, c.requires.e_bound))
 
 pub returns-else-e-shape : goal.returns-else-e-shape
 returns-else-e-shape c =
@@ -38,13 +38,13 @@ returns-else-e-shape c =
     let ok = c.requires.accepted.0 in
     let has = c.requires.accepted.1 in
     let j = a.e - sh.transitions in
-    let n = get_or a.idling.now j 0 in
+    let n = get_or a.idling.now.states j 0 in
     let back : sh.transitions + j ≡ a.e = omega (arith, c.if-e-shape.false) in
-    let h : j < a.idle = omega (arith, c.if-e-shape.false, c.requires.e_bound) in
+    let h : j < a.idling.now.count = omega (arith, c.if-e-shape.false, c.requires.e_bound) in
     let at : (P : ℕ → Type 0) → P (sh.transitions + j) → P a.e = λ P. subst P back in
     record {
       known = omega (arith, c.home_of-automaton-else-e-shape.ensures, home_known s sh ok n (has.known j h));
-      automaton = c.home_of-automaton-else-e-shape.ensures ∙ sym (at (λ e. (edge (twin (read_charts s)) e).automaton ≡ home_at s sh n) (high-automaton s sh ok a.idling.now a.idle has j h));
-      source = sym (at (λ e. (edge (twin (read_charts s)) e).source ≡ n) (high-source s sh ok a.idling.now a.idle has j h));
-      target = sym (at (λ e. (edge (twin (read_charts s)) e).target ≡ n) (high-target s sh ok a.idling.now a.idle has j h));
+      automaton = c.home_of-automaton-else-e-shape.ensures ∙ sym (at (λ e. (edge (twin (read_charts s)) e).automaton ≡ home_at s sh n) (high-automaton s sh ok a.idling.now has j h));
+      source = sym (at (λ e. (edge (twin (read_charts s)) e).source ≡ n) (high-source s sh ok a.idling.now has j h));
+      target = sym (at (λ e. (edge (twin (read_charts s)) e).target ≡ n) (high-target s sh ok a.idling.now has j h));
     }

@@ -1,46 +1,28 @@
 use mathlib.Core.Path.{refl, sym}
-use Prim.Native.Nat.{◌<◌}
 use native.Mathlib.Omega.{arith}
-use Rattle.model.specs.Limits.{most_edges}
 use Rattle.paths.proofs.LedOfEdges.{edges-in}
 use Rattle.paths.proofs.EdgesHeld.{held_more}
 use Rattle.paths.proofs.edges_of.Goals as goal
 
-pub overflow_add-edges : goal.overflow_add-edges
-overflow_add-edges c =
+pub overflow_add-count : goal.overflow_add-count
+overflow_add-count c =
     omega (arith, c.idling_of-idling.ensures.count, edges-in c.args.s.now c.args.shape c.requires)
 
 pub loop-e-init : goal.loop-e-init
-loop-e-init c =
-    (record { rooms = (refl, refl, refl); held = λ e l. absurd (omega arith) }, omega arith)
+loop-e-init c = record { room = refl; held = λ e l. absurd (omega arith) }
 
-pub bounds-automata-i : goal.bounds-automata-i
-bounds-automata-i c =
-    omega (arith, c.loop-e-test.true, c.idling_of-idling.ensures.count, edges-in c.args.s.now c.args.shape c.requires)
-
-pub bounds-sources-i : goal.bounds-sources-i
-bounds-sources-i c =
-    omega (arith, c.loop-e-test.true, c.idling_of-idling.ensures.count, edges-in c.args.s.now c.args.shape c.requires)
-
-pub bounds-targets-i : goal.bounds-targets-i
-bounds-targets-i c =
-    omega (arith, c.loop-e-test.true, c.idling_of-idling.ensures.count, edges-in c.args.s.now c.args.shape c.requires)
-
-pub overflow_add-e : goal.overflow_add-e
-overflow_add-e c =
+pub bounds-edges-e : goal.bounds-edges-e
+bounds-edges-e c =
     omega (arith, c.loop-e-test.true, c.idling_of-idling.ensures.count, edges-in c.args.s.now c.args.shape c.requires)
 
 pub loop-e-preserved : goal.loop-e-preserved
 loop-e-preserved c =
     let a = c.args in
     let l = c.loop-e in
-    let room : l.e < most_edges = omega (arith, c.loop-e-test.true, c.idling_of-idling.ensures.count, edges-in a.s.now a.shape c.requires) in
-    (held_more a.s.now a.shape.charts l.e l.automata l.sources l.targets c.edge_of-edge.result room l.invariant.0 c.edge_of-edge.ensures, omega (arith, c.loop-e-test.true))
+    held_more a.s.now a.shape.charts l.e l.edges c.edge_of.result (omega (arith, c.loop-e-test.true, c.idling_of-idling.ensures.count, edges-in a.s.now a.shape c.requires)) l.invariant c.edge_of.ensures
 
 pub returns : goal.returns
-returns c =
-    let l = c.loop-e in
-    record {
-      count = sym c.idling_of-idling.ensures.count;
-      each = λ e h. l.invariant.0.held e (omega (arith, h, l.invariant.1, c.loop-e-test.false));
-    }
+returns c = record {
+  count = sym c.idling_of-idling.ensures.count;
+  each = λ e h. c.loop-e.invariant.held e (omega (arith, h, c.loop-e-test.false));
+}

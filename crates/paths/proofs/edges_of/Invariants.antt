@@ -1,6 +1,5 @@
-use Prim.Native.Nat.{◌-◌, ◌≤◌}
 use Rattle.paths.proofs.EdgesHeld.{Held}
 use Rattle.paths.proofs.edges_of.Given as goal
 
 abbrev pub invariant-loop-e : goal.invariant-loop-e
-invariant-loop-e l = Held l.s l.shape.charts l.e l.automata l.sources l.targets × (l.e ≤ l.edges)
+invariant-loop-e l = Held l.s l.shape.charts l.e l.edges

@@ -1,29 +1,38 @@
+use mathlib.Core.Path.{◌≡◌}
+use mathlib.Core.Bool.{true}
+use mathlib.Core.List.{List}
+use Prim.Native.Nat.{ℕ, ◌<◌}
 use native.Mathlib.Omega.{arith}
-use Rattle.paths.specs.LedOf.{walk_in}
-use Rattle.paths.proofs.LedOfSteps.{held, edge-room, few-automata, led-edge, fits-edge}
+use lib.ListN.{get_or}
+use Rattle.model.specs.ChartSet.{read_charts}
+use Rattle.model.specs.PathBack.{Walk, step_fits}
+use Rattle.chart_records.specs.declared.Shape.{Shape}
+use Rattle.chart_records.specs.Accepted.{Accepted}
+use Rattle.paths.specs.declared.EdgeTable.{EdgeTable}
+use Rattle.paths.specs.LedOf.{walk_in, no_edge, HasEdges}
+use Rattle.paths.proofs.LedOfSteps.{edge-room, few-automata, led-edge, led-time, fits-edge}
 use Rattle.paths.proofs.follow_step.Goals as goal
 
-pub bounds-automata-i : goal.bounds-automata-i
-bounds-automata-i c =
-    let a = c.args in
-    let f = fits-edge a.s.now a.shape c.requires.accepted.0 a.e (walk_in a.shape.charts a.locations.now a.position a.cycles) c.if-e-ne65535.true c.requires.cycles_value in
-    edge-room a.s.now a.shape c.requires.accepted.0 a.edges a.automata.now a.sources.now a.targets.now c.requires.accepted.1 a.e (omega (arith, f.0, c.requires.accepted.1.count))
+in-table : {s : List ℕ} {sh : Shape} → Accepted s sh → {table : EdgeTable} → HasEdges s sh table → {e : ℕ} → (e ≡ 65535 → ⊥) → (w : Walk) → step_fits (read_charts s) e w ≡ true → e < table.count
+in-table {s} {sh} ok has {e} n w fits = let f = fits-edge s sh ok e w n fits in omega (arith, f.0, has.count)
 
-pub bounds-targets-i : goal.bounds-targets-i
-bounds-targets-i c =
-    let a = c.args in
-    let f = fits-edge a.s.now a.shape c.requires.accepted.0 a.e (walk_in a.shape.charts a.locations.now a.position a.cycles) c.if-e-ne65535.true c.requires.cycles_value in
-    edge-room a.s.now a.shape c.requires.accepted.0 a.edges a.automata.now a.sources.now a.targets.now c.requires.accepted.1 a.e (omega (arith, f.0, c.requires.accepted.1.count))
+pub returns-then-e-eq65535 : goal.returns-then-e-eq65535
+returns-then-e-eq65535 c =
+    let a = c.args in led-time a.s.now a.shape c.requires.accepted.0 a.e a.walk.now c.if-e-eq65535.true
 
-pub bounds-locations-a : goal.bounds-locations-a
-bounds-locations-a c =
-    let a = c.args in
-    let f = fits-edge a.s.now a.shape c.requires.accepted.0 a.e (walk_in a.shape.charts a.locations.now a.position a.cycles) c.if-e-ne65535.true c.requires.cycles_value in
-    few-automata a.s.now a.shape c.requires.accepted.0 a.edges a.automata.now a.sources.now a.targets.now c.requires.accepted.1 a.e (omega (arith, f.0, c.requires.accepted.1.count))
+pub bounds-table-e : goal.bounds-table-e
+bounds-table-e c =
+    let q = c.requires in
+    edge-room q.accepted.0 q.accepted.1 (in-table q.accepted.0 q.accepted.1 c.if-e-eq65535.false (walk_in c.args.shape.charts c.args.walk.now) q.fits)
 
-pub returns-then-e-ne65535 : goal.returns-then-e-ne65535
-returns-then-e-ne65535 c =
+pub bounds-walk-edge : goal.bounds-walk-edge
+bounds-walk-edge c =
+    let q = c.requires in
+    few-automata q.accepted.0 q.accepted.1 (in-table q.accepted.0 q.accepted.1 c.if-e-eq65535.false (walk_in c.args.shape.charts c.args.walk.now) q.fits)
+
+pub returns : goal.returns
+returns c =
     let a = c.args in
-    let f = fits-edge a.s.now a.shape c.requires.accepted.0 a.e (walk_in a.shape.charts a.locations.now a.position a.cycles) c.if-e-ne65535.true c.requires.cycles_value in
-    led-edge a.s.now a.shape c.requires.accepted.0 a.e a.locations.now a.position a.cycles
-    (held a.s.now a.shape c.requires.accepted.0 a.edges a.automata.now a.sources.now a.targets.now c.requires.accepted.1 a.e (omega (arith, f.0, c.requires.accepted.1.count))) (c.requires.accepted.1.each a.e (omega (arith, f.0, c.requires.accepted.1.count))) f.0 c.if-e-ne65535.true
+    let has = c.requires.accepted.1 in
+    let h = in-table c.requires.accepted.0 has c.if-e-eq65535.false (walk_in a.shape.charts a.walk.now) c.requires.fits in
+    led-edge a.s.now a.shape c.requires.accepted.0 a.e a.walk.now (get_or a.table.now.edges a.e no_edge) (has.each a.e h) (omega (arith, h, has.count)) c.if-e-eq65535.false

@@ -15,29 +15,29 @@ loop-state-init c =
 pub bounds-states-i : goal.bounds-states-i
 bounds-states-i c =
     let l = c.loop-state in
-    omega (arith, idles-room c.args.s.now c.args.shape c.requires l.state l.edges l.states l.invariant c.loop-state-test.true)
+    omega (arith, idles-room c.args.s.now c.args.shape c.requires l.state l.count l.states l.invariant c.loop-state-test.true)
 
 pub bounds-states-i-in-loop-state : goal.bounds-states-i-in-loop-state
 bounds-states-i-in-loop-state c =
     let l = c.loop-state in
-    idles-room c.args.s.now c.args.shape c.requires l.state l.edges l.states l.invariant c.loop-state-test.true
+    idles-room c.args.s.now c.args.shape c.requires l.state l.count l.states l.invariant c.loop-state-test.true
 
-pub idle_edges-edges-requires : goal.idle_edges-edges-requires
-idle_edges-edges-requires c =
+pub idle_edges-count-requires : goal.idle_edges-count-requires
+idle_edges-count-requires c =
     let l : c.loop-state.state < most_states = omega (arith, c.loop-state-test.true, most-states c.args.s.now c.args.shape c.requires.shape) in
     (c.requires, c.fill_actions.ensures.0.first_of, l)
 
-pub overflow_add-edges : goal.overflow_add-edges
-overflow_add-edges c =
+pub overflow_add-count : goal.overflow_add-count
+overflow_add-count c =
     let l = c.loop-state in
-    omega (arith, idles-room c.args.s.now c.args.shape c.requires l.state l.edges l.states l.invariant c.loop-state-test.true, c.idle_edges-edges.ensures, idle-few (read_charts c.args.s.now) l.state)
+    omega (arith, idles-room c.args.s.now c.args.shape c.requires l.state l.count l.states l.invariant c.loop-state-test.true, c.idle_edges-count.ensures, idle-few (read_charts c.args.s.now) l.state)
 
 pub loop-state-preserved : goal.loop-state-preserved
 loop-state-preserved c =
     let l = c.loop-state in
-    idles-more c.args.s.now c.args.shape c.requires l.state l.edges l.states l.invariant c.loop-state-test.true _ (ap (λ n. l.edges + n) c.idle_edges-edges.ensures)
+    idles-more c.args.s.now c.args.shape c.requires l.state l.count l.states l.invariant c.loop-state-test.true _ (ap (λ n. l.count + n) c.idle_edges-count.ensures)
 
 pub returns : goal.returns
 returns c =
     let l = c.loop-state in
-    idles-all c.args.s.now c.args.shape c.requires l.state l.edges l.states l.invariant c.loop-state-test.false
+    idles-all c.args.s.now c.args.shape c.requires l.state l.count l.states l.invariant c.loop-state-test.false
