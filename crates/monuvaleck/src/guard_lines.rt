@@ -5,6 +5,7 @@ ghost use Rattle.answers.specs.Answers.{count_code};
 ghost use Rattle.guards.specs.Calls.{read_guard, write_guard};
 
 use crate::sizes::size_code;
+use answers::refused_code;
 
 // The number of the line's nodes, or minus the refusal's number.
 #[unsafe(no_mangle)]
@@ -12,7 +13,7 @@ pub extern "C" fn guard_read(text: &[u8], nodes: &mut [u8]) -> i32
     ensures value { result ≡ numbered count_code (read_guard text.now nodes.old).answer }
     ensures nodes_after { nodes.new ≡ (read_guard text.now nodes.old).lent }
 {
-    size_code(guard_reader::read_guard(text, nodes).map(usize::from))
+    guard_reader::read_guard(text, nodes).map_or_else(refused_code, i32::from)
 }
 
 // The length of the line, or minus the refusal's number.

@@ -8,13 +8,13 @@ use native.Mathlib.Omega.{arith}
 use borrow.Author.Tests.{ltb-false}
 use lib.Dec.{ltb}
 use lib.ListN.{length, drop}
+use Rattle.std.specs.Prelude.{Result, Ok}
+use Rattle.records.specs.declared.refusals.Refusal as R
 use Rattle.records.specs.Refusal.{Refusal, short_buffer, Out, val, fault, ◌>>◌, fault_if, unless_refused}
 use Rattle.model.specs.Outcome.{settled}
 use Rattle.model.specs.ChartFile.{charts_refusal}
 use Rattle.model.specs.Translation.{twin_bytes, written, translate}
 use Rattle.translation.specs.Answer.{answer_of, translated_of}
-use Rattle.translation.specs.declared.Translated.{Translated}
-use Rattle.translation.specs.declared.Translated.TheVariants.{Written}
 
 abbrev size : Out ℕ → ℕ
 size (val n) = n
@@ -29,6 +29,6 @@ of-set : (out buffer : List ℕ) (w : Option Refusal) → size (settled buffer (
 of-set out buffer (some w) = omega arith
 of-set out buffer none = of-twin out buffer (ltb (length buffer) (length out)) refl
 
-pub room : (s buffer after : List ℕ) (r : Translated) → translated_of r after ≡ translate s buffer → (n : ℕ) → r ≡ Written n → n ≤ length buffer
+pub room : (s buffer after : List ℕ) (r : Result ℕ R.Refusal) → translated_of r after ≡ translate s buffer → (n : ℕ) → r ≡ Ok n → n ≤ length buffer
 room s buffer after r e n is =
     subst (λ k. k ≤ length buffer) (ap (λ o. size o.answer) (sym e) ∙ ap (λ x. size (answer_of x)) is) (of-set (twin_bytes s) buffer (charts_refusal s))

@@ -8,5 +8,5 @@ use Rattle.file_lines.proofs.show_table.Goals as goal
 pub print_records-requires : goal.print_records-requires
 print_records-requires g c =
     let s = c.args.s.now in
-    let shape = c.in-Accepted.shape in
-    subst (HasNodes s) (sym c.node_records-nodes.ensures) (table-nodes s shape (accepted-of s c.check.result c.check.ensures shape c.in-Accepted.is) c.requires)
+    let shape = c.in-Ok.shape in
+    subst (HasNodes s) (sym c.node_records-nodes.ensures) (table-nodes s shape (accepted-of s c.check.result c.check.ensures shape c.in-Ok.is) c.requires)

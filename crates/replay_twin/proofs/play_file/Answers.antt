@@ -8,4 +8,4 @@ pub index_of-requires-clause-blank : goal.index_of-requires-clause-blank
 index_of-requires-clause-blank g c = blank
 
 pub index_of-requires-clause-room_for : goal.index_of-requires-clause-room_for
-index_of-requires-clause-room_for g c = room-long _ _ (accepted-of c.args.s.now c.check.result c.check.ensures c.in-Accepted.shape c.in-Accepted.is).shape
+index_of-requires-clause-room_for g c = room-long _ _ (accepted-of c.args.s.now c.check.result c.check.ensures c.in-Ok.shape c.in-Ok.is).shape

@@ -1,9 +1,5 @@
-use native.Mathlib.Omega.{arith}
-use Rattle.records.proofs.Wrote.{wrote_then}
+use Rattle.messages.proofs.Writing.{wrote_both}
 use Rattle.messages.proofs.texts.put_table.Goals as goal
 
 pub returns : goal.returns
-returns c =
-    let first = c.put_places-next.ensures in
-    let second = c.put_three.ensures in
-    (wrote_then first.0 second.0, omega (arith, first.1, second.1))
+returns c = wrote_both c.put_places-next.ensures c.put_three.ensures

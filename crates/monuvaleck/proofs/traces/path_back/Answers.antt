@@ -1,9 +1,10 @@
 use mathlib.Core.Path.{sym, ap, ◌∙◌}
+use native.Mathlib.Omega.{arith}
 use Rattle.paths.proofs.AlongBounds.{few}
 use Rattle.monuvaleck.proofs.traces.path_back.Goals as goal
 
-pub led_code-requires : goal.led_code-requires
-led_code-requires c =
+pub size_code-requires : goal.size_code-requires
+size_code-requires c =
     λ n e.
     let a = c.args in
-    few a.s.now a.path.now a.rows.now n (ap (λ o. o.answer) (sym c.path_back-led.ensures) ∙ e)
+    omega (arith, few a.s.now a.path.now a.rows.now n (ap (λ o. o.answer) (sym c.path_back.ensures) ∙ e))

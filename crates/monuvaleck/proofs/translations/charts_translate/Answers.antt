@@ -1,9 +1,10 @@
 use mathlib.Core.Path.{sym, ap, ◌∙◌}
+use native.Mathlib.Omega.{arith}
 use Rattle.monuvaleck.proofs.TwinLengths.{short}
 use Rattle.monuvaleck.proofs.translations.charts_translate.Goals as goal
 
-pub translated_code-requires : goal.translated_code-requires
-translated_code-requires c =
+pub size_code-requires : goal.size_code-requires
+size_code-requires c =
     λ n e.
     let a = c.args in
-    short a.s.now a.out.now n (ap (λ o. o.answer) (sym c.translate-answer.ensures) ∙ e)
+    omega (arith, short a.s.now a.out.now n (ap (λ o. o.answer) (sym c.translate.ensures) ∙ e))
