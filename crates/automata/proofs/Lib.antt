@@ -2,4 +2,5 @@
 pub mod RunOfClocks
 pub mod TurnOfKept
 pub mod TurnOf
+mod TurnOfCycle
 pub mod PlayedOf

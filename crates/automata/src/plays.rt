@@ -74,7 +74,7 @@ fn further_cycles(
     let mut clocks = run.clocks;
     let mut variables = run.variables;
     let mut cycles = run.cycles;
-    for k in 0..masks.len() {
+    for (k, events) in masks.iter().enumerate() {
         if cycles == MOST_CYCLES {
             return further_to(locations, clocks, variables, cycles, k as u32);
         }
@@ -88,7 +88,7 @@ fn further_cycles(
             &mut locations,
             &mut clocks,
             &mut variables,
-            masks[k],
+            *events,
             1,
             cycles,
         );
@@ -115,7 +115,7 @@ fn play_with_index(
     requires has_limits { HasLimits s.now shape turn.now cap.now }
     ensures { played_of result ≡ settled (run_of run) (playing (machine (read_automata s.now)) masks.now (run_of run)) }
 {
-    if masks.len() == 0 {
+    if masks.is_empty() {
         return Played {
             answer: Ok(0),
             run,

@@ -13,6 +13,3 @@ invariant-loop-automaton l = Ready l.shape (run_in l.locations l.clocks l.vars l
     × (after (automata (read_automata l.s)) (l.shape.automata + 2 - l.position) (run_in l.initial.locations l.initial.clocks l.initial.vars l.events (moment l.position l.cycles))
     ≡ after (automata (read_automata l.s)) (l.shape.automata + 2 - (l.automaton + 1)) (run_in l.locations l.clocks l.vars l.present (moment (l.automaton + 1) l.cycles)))
     × (length l.clocks ≡ length l.initial.clocks)
-
-abbrev pub decreases-loop-automaton : goal.decreases-loop-automaton
-decreases-loop-automaton l = l.shape.automata - l.automaton

@@ -1,4 +1,5 @@
 use mathlib.Core.Path.{sym, ap, ◌∙◌, subst}
+use Rattle.std.proofs.lemmas.Result.{err_from_is_err_and}
 use Rattle.records.specs.RefusalOf.{refusal_of}
 use Rattle.model.specs.AutomataTable.{read_automata}
 use Rattle.model.specs.Automata.{automata}
@@ -14,33 +15,37 @@ pub cycle_or_none-requires-clause-ready : goal.cycle_or_none-requires-clause-rea
 cycle_or_none-requires-clause-ready c =
     let x = c.args in
     subst (λ e. Ready x.shape (run_in x.locations.now x.clocks.now x.vars.now e (moment x.position x.cycles))) (sym c.events_given-given.ensures)
-    (ready x.s.now x.shape c.requires.prepared.accepted x.events (run_in x.locations.now x.clocks.now x.vars.now x.present (moment x.position x.cycles)) (sym c.in-Passed.ensures))
+    (ready x.s.now x.shape c.requires.prepared.accepted x.events (run_in x.locations.now x.clocks.now x.vars.now x.present (moment x.position x.cycles)) (sym c.in_ok-before_turn.ensures))
 
-pub returns-in-Refused : goal.returns-in-Refused
-returns-in-Refused c =
+pub returns-in_err-before_turn : goal.returns-in_err-before_turn
+returns-in_err-before_turn c =
     let x = c.args in
-    sym
-    (cycle-refused (automata (read_automata x.s.now)) x.events (run_in x.locations.now x.clocks.now x.vars.now x.present (moment x.position x.cycles)) (refusal_of c.in-Refused.w)
-    (sym c.in-Refused.ensures))
+    let p = err_from_is_err_and c.from_residual.result c.from_residual.ensures.1 in
+    rw (p.1, p.2)
+    (sym
+    (cycle-refused (automata (read_automata x.s.now)) x.events (run_in x.locations.now x.clocks.now x.vars.now x.present (moment x.position x.cycles)) (refusal_of c.in_err-before_turn.field-0.0)
+    (sym c.in_err-before_turn.ensures)))
 
-pub returns-in-Fault : goal.returns-in-Fault
-returns-in-Fault c =
+pub returns-in_err-cycle_or_none : goal.returns-in_err-cycle_or_none
+returns-in_err-cycle_or_none c =
+    let x = c.args in
+    let g = c.events_given-given in
+    let p = err_from_is_err_and c.from_residual-in_err-cycle_or_none.result c.from_residual-in_err-cycle_or_none.ensures.1 in
+    rw (p.1, p.2)
+    (sym
+    (cycle-given (automata (read_automata x.s.now)) x.shape.automata (length-initial x.s.now x.shape c.requires.prepared.accepted.shape) x.events
+    (run_in x.locations.now x.clocks.now x.vars.now x.present (moment x.position x.cycles))
+    (run_in x.locations.now x.clocks.now x.vars.now g.result (moment x.position x.cycles)) (sym c.in_ok-before_turn.ensures)
+    (ap (λ e. run_in x.locations.now x.clocks.now x.vars.now e (moment x.position x.cycles)) g.ensures)
+    ∙ ap finish (sym c.in_err-cycle_or_none.ensures.cycles_after)))
+
+pub returns : goal.returns
+returns c =
     let x = c.args in
     let g = c.events_given-given in
     sym
     (cycle-given (automata (read_automata x.s.now)) x.shape.automata (length-initial x.s.now x.shape c.requires.prepared.accepted.shape) x.events
     (run_in x.locations.now x.clocks.now x.vars.now x.present (moment x.position x.cycles))
-    (run_in x.locations.now x.clocks.now x.vars.now g.result (moment x.position x.cycles)) (sym c.in-Passed.ensures)
+    (run_in x.locations.now x.clocks.now x.vars.now g.result (moment x.position x.cycles)) (sym c.in_ok-before_turn.ensures)
     (ap (λ e. run_in x.locations.now x.clocks.now x.vars.now e (moment x.position x.cycles)) g.ensures)
-    ∙ ap finish (sym c.in-Fault.ensures.cycles_after))
-
-pub returns-in-Done : goal.returns-in-Done
-returns-in-Done c =
-    let x = c.args in
-    let g = c.events_given-given in
-    sym
-    (cycle-given (automata (read_automata x.s.now)) x.shape.automata (length-initial x.s.now x.shape c.requires.prepared.accepted.shape) x.events
-    (run_in x.locations.now x.clocks.now x.vars.now x.present (moment x.position x.cycles))
-    (run_in x.locations.now x.clocks.now x.vars.now g.result (moment x.position x.cycles)) (sym c.in-Passed.ensures)
-    (ap (λ e. run_in x.locations.now x.clocks.now x.vars.now e (moment x.position x.cycles)) g.ensures)
-    ∙ ap finish (sym c.in-Done.ensures.cycles_after))
+    ∙ ap finish (sym c.in_ok-cycle_or_none.ensures.cycles_after))

@@ -11,6 +11,3 @@ abbrev pub invariant-loop-k : goal.invariant-loop-k
 invariant-loop-k l = PlayedAfter (automata (read_automata l.s)) l.masks (run_in l.initial.locations l.initial.clocks l.initial.variables 0 (moment 1 l.initial.cycles)) l.k (run_in l.locations l.clocks l.variables 0 (moment 1 l.cycles))
     × BetweenCycles (automata (read_automata l.s)) (run_in l.locations l.clocks l.variables 0 (moment 1 l.cycles))
     × (l.k ≤ l.cycles)
-
-abbrev pub decreases-loop-k : goal.decreases-loop-k
-decreases-loop-k l = length l.masks - l.k

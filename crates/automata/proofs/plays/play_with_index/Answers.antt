@@ -1,15 +1,15 @@
 use mathlib.Core.Path.{◌≡◌, sym, ap, ◌∙◌, subst}
 use Prim.Native.Nat.{◌+◌, ◌-◌, ◌<◌}
 use native.Mathlib.Omega.{arith}
+use Rattle.std.proofs.lemmas.Bool.Decides.{nat_tests}
 use lib.ListN.{length, get_or, drop, length-drop}
 use lib.Seq.{take_all}
 use Rattle.records.specs.Refusal.{val, fault}
-use Rattle.records.specs.RefusalOf.{refusal_of}
 use Rattle.model.specs.Outcome.{settled}
 use Rattle.model.specs.Runs.{cycle}
 use Rattle.model.specs.AutomataTable.{read_automata}
 use Rattle.model.specs.Automata.{automata}
-use Rattle.answers.specs.Answers.{reason_of}
+use Rattle.answers.specs.Answers.{stop_of}
 use Rattle.machines.specs.Playing.{played, stopped_at}
 use Rattle.machines.proofs.Playing.{played_after-none, played_after-more, played_after-stop, played_after-all}
 use Rattle.machines.specs.Worlds.{moment, run_in}
@@ -18,13 +18,13 @@ use Rattle.automata.specs.PlayedOf.{BetweenCycles}
 use Rattle.automata.proofs.PlayedOf.{rested-next, rested-few, told-later}
 use Rattle.automata.proofs.plays.play_with_index.Goals as goal
 
-pub returns-then-masks-eq0 : goal.returns-then-masks-eq0
-returns-then-masks-eq0 c =
+pub returns-then-is_empty : goal.returns-then-is_empty
+returns-then-is_empty c =
     let x = c.args in
     let m = automata (read_automata x.s.now) in
     sym
     (ap (λ p. settled (run_of x.run) (stopped_at p.count p.run p.stop))
-    (played_after-all m x.masks.now (run_of x.run) 0 (run_of x.run) (let h = c.if-masks-eq0.true in omega (arith, h)) (played_after-none m x.masks.now (run_of x.run))))
+    (played_after-all m x.masks.now (run_of x.run) 0 (run_of x.run) (grind (arith, nat_tests, c.if-is_empty.ensures)) (played_after-none m x.masks.now (run_of x.run))))
 
 pub overflow_add-run : goal.overflow_add-run
 overflow_add-run c =
@@ -32,7 +32,7 @@ overflow_add-run c =
     let y = c.cycle_after_checks.new in
     let ok = c.requires.prepared.accepted in
     let p = run_in y.locations y.clocks y.vars 0 (moment 1 (x.run.cycles + 1)) in
-    let done : cycle (automata (read_automata x.s.now)) (get_or x.masks.now 0 0) (run_of x.run) ≡ val (tt, p) = sym c.in-Done.ensures in
+    let done : cycle (automata (read_automata x.s.now)) (get_or x.masks.now 0 0) (run_of x.run) ≡ val (tt, p) = sym c.in-Ok.ensures in
     omega (arith, rested-few x.s.now x.shape ok p (rested-next x.s.now x.shape ok (get_or x.masks.now 0 0) (run_of x.run) p done).0)
 
 pub further_cycles-rest-requires-clause-between_cycles : goal.further_cycles-rest-requires-clause-between_cycles
@@ -40,14 +40,14 @@ further_cycles-rest-requires-clause-between_cycles c =
     let x = c.args in
     let y = c.cycle_after_checks.new in
     let p = run_in y.locations y.clocks y.vars 0 (moment 1 (x.run.cycles + 1)) in
-    let done : cycle (automata (read_automata x.s.now)) (get_or x.masks.now 0 0) (run_of x.run) ≡ val (tt, p) = sym c.in-Done.ensures in
+    let done : cycle (automata (read_automata x.s.now)) (get_or x.masks.now 0 0) (run_of x.run) ≡ val (tt, p) = sym c.in-Ok.ensures in
     subst (BetweenCycles (automata (read_automata x.s.now))) (sym c.run_in-after.ensures) (rested-next x.s.now x.shape c.requires.prepared.accepted (get_or x.masks.now 0 0) (run_of x.run) p done).0
 
-pub returns-in-Done : goal.returns-in-Done
-returns-in-Done c =
+pub returns-in-Ok : goal.returns-in-Ok
+returns-in-Ok c =
     let x = c.args in
-    let some-mask : 0 < length x.masks.now = let h = c.if-masks-eq0.false in omega (arith, h) in
-    let done : cycle (automata (read_automata x.s.now)) (get_or x.masks.now 0 0) (run_of x.run) ≡ val (tt, run_of c.run_in-after.result) = sym c.in-Done.ensures ∙ ap (λ r. val (tt, r)) (sym c.run_in-after.ensures) in
+    let some-mask : 0 < length x.masks.now = grind (arith, nat_tests, c.if-is_empty.ensures) in
+    let done : cycle (automata (read_automata x.s.now)) (get_or x.masks.now 0 0) (run_of x.run) ≡ val (tt, run_of c.run_in-after.result) = sym c.in-Ok.ensures ∙ ap (λ r. val (tt, r)) (sym c.run_in-after.ensures) in
     let m = automata (read_automata x.s.now) in
     let masks = x.masks.now in
     let q = run_of c.run_in-after.result in
@@ -62,22 +62,12 @@ returns-in-Done c =
     (ap (λ p. settled (run_of x.run) (stopped_at p.count p.run p.stop))
     (played_after-more m masks (run_of x.run) 0 (run_of x.run) q some-mask (played_after-none m masks (run_of x.run)) done))
 
-pub returns-in-Fault : goal.returns-in-Fault
-returns-in-Fault c =
+pub returns-in-Err : goal.returns-in-Err
+returns-in-Err c =
     let x = c.args in
-    let some-mask : 0 < length x.masks.now = let h = c.if-masks-eq0.false in omega (arith, h) in
+    let some-mask : 0 < length x.masks.now = grind (arith, nat_tests, c.if-is_empty.ensures) in
     let m = automata (read_automata x.s.now) in
-    let stops : cycle m (get_or x.masks.now 0 0) (run_of x.run) ≡ fault (reason_of c.in-Fault.w) = sym c.in-Fault.ensures in
+    let stops : cycle m (get_or x.masks.now 0 0) (run_of x.run) ≡ fault (stop_of c.in-Err.w) = sym c.in-Err.ensures in
     sym
     (ap (λ p. settled (run_of x.run) (stopped_at p.count p.run p.stop))
-    (played_after-stop m x.masks.now (run_of x.run) 0 (run_of x.run) (reason_of c.in-Fault.w) some-mask (played_after-none m x.masks.now (run_of x.run)) stops))
-
-pub returns-in-Refused : goal.returns-in-Refused
-returns-in-Refused c =
-    let x = c.args in
-    let some-mask : 0 < length x.masks.now = let h = c.if-masks-eq0.false in omega (arith, h) in
-    let m = automata (read_automata x.s.now) in
-    let stops : cycle m (get_or x.masks.now 0 0) (run_of x.run) ≡ fault (refusal_of c.in-Refused.w) = sym c.in-Refused.ensures in
-    sym
-    (ap (λ p. settled (run_of x.run) (stopped_at p.count p.run p.stop))
-    (played_after-stop m x.masks.now (run_of x.run) 0 (run_of x.run) (refusal_of c.in-Refused.w) some-mask (played_after-none m x.masks.now (run_of x.run)) stops))
+    (played_after-stop m x.masks.now (run_of x.run) 0 (run_of x.run) (stop_of c.in-Err.w) some-mask (played_after-none m x.masks.now (run_of x.run)) stops))

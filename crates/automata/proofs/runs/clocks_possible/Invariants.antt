@@ -13,6 +13,3 @@ inside s sh clocks k = leb (get_or clocks k 0) (top_at s sh k)
 
 abbrev pub invariant-loop-k : goal.invariant-loop-k
 invariant-loop-k l = Flagged (inside l.s l.shape l.clocks) l.shape.clocks l.possible l.k
-
-abbrev pub decreases-loop-k : goal.decreases-loop-k
-decreases-loop-k l = l.shape.clocks - l.k

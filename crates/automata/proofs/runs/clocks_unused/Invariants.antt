@@ -6,6 +6,3 @@ use Rattle.automata.proofs.runs.clocks_unused.Given as goal
 
 abbrev pub invariant-loop-k : goal.invariant-loop-k
 invariant-loop-k l = BehindBy (λ x. eqb x 0) 0 l.count l.clocks l.unused l.k
-
-abbrev pub decreases-loop-k : goal.decreases-loop-k
-decreases-loop-k l = most_clocks - l.k

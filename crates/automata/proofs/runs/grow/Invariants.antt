@@ -12,6 +12,3 @@ more s sh k x = grown (clock_at s sh k).timing (clock_at s sh k).ticks x
 
 abbrev pub invariant-loop-k : goal.invariant-loop-k
 invariant-loop-k l = (l.k ≤ l.shape.clocks) × Filled (λ j. more l.s l.shape j (get_or l.initial.clocks j 0)) 0 l.initial.clocks l.clocks l.k
-
-abbrev pub decreases-loop-k : goal.decreases-loop-k
-decreases-loop-k l = l.shape.clocks - l.k

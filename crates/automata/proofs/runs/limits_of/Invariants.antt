@@ -14,6 +14,3 @@ caps s sh k = cap_for (clock_at s sh k).timing (clock_at s sh k).ticks
 
 abbrev pub invariant-loop-k : goal.invariant-loop-k
 invariant-loop-k l = (l.k ≤ l.shape.clocks) × Filled (turns l.s l.shape) 0 l.initial.turn l.turn l.k × Filled (caps l.s l.shape) 0 l.initial.cap l.cap l.k
-
-abbrev pub decreases-loop-k : goal.decreases-loop-k
-decreases-loop-k l = l.shape.clocks - l.k
