@@ -3,24 +3,20 @@ use mathlib.Core.Path.{◌≡◌, refl, sym, ap, ◌∙◌, subst}
 use mathlib.Core.Bool.{Bool, true, false, not, cond, ◌&&◌}
 use mathlib.Core.Option.{Option, some, none}
 use mathlib.Core.List.{List, [], ◌∷◌}
-use Prim.Native.Nat.{ℕ, zero, suc, min, ◌-◌, ◌/◌, ◌≤◌}
+use Prim.Native.Nat.{ℕ, zero, suc, min, ◌-◌, ◌≤◌}
 use native.Mathlib.Omega.{arith}
 use borrow.Author.Tests.{ltb-true, ne_eqb}
 use lib.Dec.{T, ltb, eqb}
-use lib.ListN.{length, get_or, replicate}
+use lib.ListN.{get_or, replicate}
 use Rattle.prelude.specs.Lists.{all, upto}
 use Rattle.prelude.proofs.Counts.{get_or-upto}
 use Rattle.prelude.proofs.Numbers.{all_alike}
 use Rattle.records.specs.Refusal.{Refusal, wrong_amounts, broken_code, dangling_number, broken_node, lowest}
-use Rattle.records.specs.RefusalOf.{refusal_of}
-use Rattle.records.specs.declared.refusals.Refusal as code
-use Rattle.expressions.specs.Nodes.{Node, node_at}
+use Rattle.expressions.specs.Nodes.{Node}
 use Rattle.expressions.specs.Sorts.{sort_of, is_truth, operands_fit, operand_uses}
 use Rattle.expressions.specs.Uses.{all_operands, add_uses}
 use Rattle.expressions.proofs.Uses.{counted, once}
-use Rattle.guards.specs.Lists.{used_rightly, is_one_tree, list_refusal}
-use Rattle.guard_writer.specs.Answers.{IsListed}
-use Rattle.guard_writer.specs.declared.lists.Listed.TheVariants.{Tree, Refused}
+use Rattle.guards.specs.Lists.{used_rightly, is_one_tree}
 
 -- ---- the order of the tests
 
@@ -28,22 +24,6 @@ abbrev pub refusal_by : Bool → Bool → Bool → Bool → Option Refusal
 refusal_by many known named one = lowest ((wrong_amounts, many) ∷ (broken_code, not known) ∷ (dangling_number, not named) ∷ (broken_node, not one) ∷ [])
 
 module _ (many known named one : Bool) where
-  pub too_many : many ≡ true → some wrong_amounts ≡ refusal_by many known named one
-  unfolding lowest
-  too_many e = sym (λ i. refusal_by (e i) known named one)
-
-  pub one-unknown : many ≡ false → known ≡ false → some broken_code ≡ refusal_by many known named one
-  unfolding lowest
-  one-unknown e f = sym (λ i. refusal_by (e i) (f i) named one)
-
-  pub one-unnamed : many ≡ false → known ≡ true → named ≡ false → some dangling_number ≡ refusal_by many known named one
-  unfolding lowest
-  one-unnamed e f g = sym (λ i. refusal_by (e i) (f i) (g i) one)
-
-  pub no-tree : many ≡ false → known ≡ true → named ≡ true → one ≡ false → some broken_node ≡ refusal_by many known named one
-  unfolding lowest
-  no-tree e f g h = sym (λ i. refusal_by (e i) (f i) (g i) (h i))
-
   pub all-passed : many ≡ false → known ≡ true → named ≡ true → one ≡ true → none ≡ refusal_by many known named one
   unfolding lowest
   all-passed e f g h = sym (λ i. refusal_by (e i) (f i) (g i) (h i))
@@ -59,14 +39,6 @@ passed false false named one e = never e
 passed false true false one e = never e
 passed false true true false e = never e
 passed false true true true e = (refl, refl)
-
--- ---- answers
-
-pub is-refused : (nodes : List ℕ) (w : code.Refusal) → some (refusal_of w) ≡ list_refusal (node_at nodes) (length nodes / 16) → IsListed nodes (Refused w)
-is-refused nodes w e = record { answer = e; root = λ n d. let z : ◌≡◌ {A = ℕ} 0 1 = cc in absurd (omega arith) }
-
-pub is-tree : (nodes : List ℕ) → none ≡ list_refusal (node_at nodes) (length nodes / 16) → IsListed nodes (Tree (length nodes / 16 - 1))
-is-tree nodes e = record { answer = e; root = λ n d. cc }
 
 -- ---- one tree
 

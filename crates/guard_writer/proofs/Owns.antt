@@ -15,37 +15,27 @@ use Rattle.guards.specs.Trees.{Binary, negation, binary, choice, binary_level, l
 use Rattle.guards.specs.Texts.{sign, text_of, text_in}
 use Rattle.guards.specs.Lists.{is_known, tree_of}
 use Rattle.guard_writer.specs.Operands.{operand_tree}
-use Rattle.guard_writer.specs.Measures.{no_tree, total, cut, text_length, Around, Own, Passes}
-use Rattle.guard_writer.proofs.Texts.{zero-text, anywhere}
-use Rattle.guard_writer.proofs.Rules.{lower-operand, no_operand, bare-operand, enclosed-operand}
-use Rattle.guard_writer.proofs.Short.{cut_in, placed-short}
+use Rattle.guard_writer.specs.Measures.{total, cut, text_length, Around, Own, Passes}
+use Rattle.guard_writer.proofs.Texts.{anywhere}
+use Rattle.guard_writer.proofs.Rules.{bare-operand, enclosed-operand}
+use Rattle.guard_writer.proofs.Short.{cut_in}
 
 -- ---- operands
 
 module _ (node : ℕ → Node) (n k a : ℕ) (sort : Sort) where
-  pub around-none : n ≤ a → Around node n k a sort 65536
-  around-none h = record { few = omega arith; enough = omega (arith, ap length (zero-text k ∙ ap (text_in k) (no_operand node n a h))); fits = λ l. absurd (omega arith) }
-
   module _ (h : a < n) where
-    pub around-other : Around node n k a sort 65536
-    around-other = record {
-      few = omega arith;
-      enough = omega (arith, ap (λ t. length (text_in k t)) (lower-operand node n a h), placed-short k (level (tree_of node a)) (text_of (tree_of node a)), cut_in (text_length node) n a h);
-      fits = λ l. absurd (omega arith);
-    }
-
     module _ (same : same_sort sort (sort_of (node a)) ≡ true) where
       fitting : operand_fits node n (a, sort) ≡ true
       fitting = both_true (lt-ltb a n h) same
 
       pub around-bare : level (tree_of node a) ≤ k → Around node n k a sort 0
-      around-bare l = record { few = omega arith; enough = omega (arith, ap length (bare-operand node n k a h l), cut_in (text_length node) n a h); fits = λ m. fitting }
+      around-bare l = record { few = omega arith; enough = omega (arith, ap length (bare-operand node n k a h l), cut_in (text_length node) n a h); fits = fitting }
 
       pub around-enclosed : k < level (tree_of node a) → Around node n k a sort 2
       around-enclosed l = record {
         few = omega arith;
         enough = omega (arith, ap length (enclosed-operand node n k a h l), length-append (text_of (tree_of node a)) (41 ∷ []), cut_in (text_length node) n a h);
-        fits = λ m. fitting;
+        fits = fitting;
       }
 
 -- ---- a node
@@ -60,7 +50,7 @@ module _ (node : ℕ → Node) (n : ℕ) where
   abbrev Known : Type 0
   Known = (is_number (sort_of (node n)) || is_truth (sort_of (node n))) ≡ true
 
-  pub own-leaf : (bytes : ℕ) → bytes ≤ no_tree → text_length node n ≤ bytes → Own node n bytes
+  pub own-leaf : (bytes : ℕ) → bytes ≤ 21 → text_length node n ≤ bytes → Own node n bytes
   own-leaf bytes f e = record { few = omega arith; enough = omega arith }
 
   passes : (os : List (ℕ × Sort)) → operands (node n) ≡ os → all (operand_fits node n) os ≡ true → variables_of (node n) ≡ [] → Known → Passes node n
@@ -81,9 +71,9 @@ module _ (node : ℕ → Node) (n : ℕ) where
     unfolding text_of total
     own-negation e = record { few = omega (arith, w.few); enough = omega (arith, w.enough, ap (λ t. length (text_of t)) e, ap (λ os. total operand (numbers os)) u) }
 
-    pub passes-negation : variables_of (node n) ≡ [] → Known → 1 + r < no_tree → Passes node n
+    pub passes-negation : variables_of (node n) ≡ [] → Known → Passes node n
     unfolding all
-    passes-negation v s l = passes ((a, a_truth) ∷ []) u (both_true (w.fits (omega arith)) refl) v s
+    passes-negation v s = passes ((a, a_truth) ∷ []) u (both_true w.fits refl) v s
 
   -- two of a sort
   module _ (o : Binary) (sort : Sort) (a b s l r : ℕ) (w : Around node n (binary_level o) a sort l) (v : Around node n (binary_level o - 1) b sort r) (u : operands (node n) ≡ (a, sort) ∷ (b, sort) ∷ []) where
@@ -97,9 +87,9 @@ module _ (node : ℕ → Node) (n : ℕ) where
           enough = omega (arith, w.enough, v.enough, length-append (left ++ sign o) right, length-append left (sign o), ap (λ t. length (text_of t)) e, ap (λ os. total operand (numbers os)) u);
         }
 
-    pub passes-binary : variables_of (node n) ≡ [] → Known → s + l + r < no_tree → Passes node n
+    pub passes-binary : variables_of (node n) ≡ [] → Known → Passes node n
     unfolding all
-    passes-binary d k h = passes ((a, sort) ∷ (b, sort) ∷ []) u (both_true (w.fits (omega arith)) (both_true (v.fits (omega arith)) refl)) d k
+    passes-binary d k = passes ((a, sort) ∷ (b, sort) ∷ []) u (both_true w.fits (both_true v.fits refl)) d k
 
   -- a truth and two numbers
   module _ (t a b q l r : ℕ) (x : Around node n 6 t a_truth q) (w : Around node n 7 a a_number l) (v : Around node n 7 b a_number r) (u : operands (node n) ≡ (t, a_truth) ∷ (a, a_number) ∷ (b, a_number) ∷ []) where
@@ -125,10 +115,10 @@ module _ (node : ℕ → Node) (n : ℕ) where
           );
         }
 
-    pub passes-choice : variables_of (node n) ≡ [] → Known → 2 + q + l + r < no_tree → Passes node n
+    pub passes-choice : variables_of (node n) ≡ [] → Known → Passes node n
     unfolding all
-    passes-choice d k h =
-        passes ((t, a_truth) ∷ (a, a_number) ∷ (b, a_number) ∷ []) u (both_true (x.fits (omega arith)) (both_true (w.fits (omega arith)) (both_true (v.fits (omega arith)) refl))) d k
+    passes-choice d k =
+        passes ((t, a_truth) ∷ (a, a_number) ∷ (b, a_number) ∷ []) u (both_true x.fits (both_true w.fits (both_true v.fits refl))) d k
 
 -- ---- all nodes
 

@@ -1,5 +1,5 @@
 -- How many bytes are enough for the text of a tree: those that are each node's own. Assumes nothing: these are definitions.
-use Rattle.std.specs.Prelude.{◌≡◌, true, cond, ◌||◌, List, [], ◌∷◌, ℕ, suc, ◌+◌, ◌*◌, ◌/◌, ◌≤◌, ◌<◌, ltb, length}
+use Rattle.std.specs.Prelude.{◌≡◌, true, cond, ◌||◌, List, [], ◌∷◌, ℕ, suc, ◌+◌, ◌*◌, ◌/◌, ◌≤◌, ltb, length}
 use Rattle.std.proofs.Math.Option.{none}
 use Rattle.prelude.specs.Lists.{all, upto}
 use Rattle.expressions.specs.Nodes.{Node, node_at}
@@ -31,12 +31,12 @@ module _ (node : ℕ → Node) where
 
   -- what node n takes beyond the texts of its operands
   pub record Own (n bytes : ℕ) : Type 0 where
-    pub few : bytes ≤ 11
+    pub few : bytes ≤ 21
     pub enough : text_length n ≤ bytes + total (cut text_length n) (operand_numbers (node n))
 
   -- the same of the first nodes together
   pub record OwnAll (size bytes : ℕ) : Type 0 where
-    pub few : bytes ≤ 11 * size
+    pub few : bytes ≤ 21 * size
     pub enough : (b : ℕ) → size ≤ suc b → total text_length (upto size) ≤ bytes + total (cut text_length b) (all_operands node size)
 
   -- node n by itself passes the tests of a list

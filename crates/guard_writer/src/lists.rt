@@ -46,6 +46,7 @@ pub fn one_tree(nodes: &[u8], size: u16, fit: bool, uses: &[u8]) -> bool
 }
 
 // The number of the root.
+#[tactic(auto, unfolding(records::specs::Refusal::lowest))]
 pub fn list_refusal(nodes: &[u8]) -> Result<u16, Refusal>
     ensures { IsListed nodes.now result }
 {

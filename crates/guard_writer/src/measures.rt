@@ -169,9 +169,5 @@ pub fn tree_bytes(nodes: &[u8]) -> Option<usize>
     let size = whole as u16;
     let mut uses = [0u8; NODES];
     let bytes = all_bytes(nodes, size, &mut uses)?;
-    if one_tree(nodes, size, true, &uses) {
-        Some(bytes)
-    } else {
-        None
-    }
+    one_tree(nodes, size, true, &uses).then_some(bytes)
 }

@@ -6,11 +6,8 @@ use borrow.Author.Tests.{lt-ltb}
 use lib.Dec.{ltb}
 use lib.ListN.{length, replicate, length-replicate}
 use Rattle.expressions.specs.Nodes.{node_at}
-use Rattle.expressions.specs.Sorts.{nodes_named, operands_fit}
-use Rattle.expressions.specs.Verdicts.{says_fit}
 use Rattle.expressions.specs.Uses.{all_operands}
 use Rattle.expressions.proofs.Uses.{adds-length}
-use Rattle.expressions.proofs.Verdicts.{fit-said}
 use Rattle.guard_writer.proofs.Listed.{uses-right}
 use Rattle.guard_writer.proofs.lists.one_tree.Goals as goal
 
@@ -23,6 +20,5 @@ returns c =
     let size = c.args.size in
     let node = node_at c.args.nodes.now in
     let some : true ≡ ltb 0 size = sym (lt-ltb 0 size (omega arith)) in
-    let fit = c.says_fit.ensures ∙ ap says_fit c.requires.1 ∙ fit-said (nodes_named node size 64) (operands_fit node size) in
     let used = c.all_due.ensures ∙ uses-right node size c.args.uses.now c.requires.0 c.requires.2 in
-    λ i. some i && fit i && c.is_truth.ensures i && used i
+    λ i. some i && c.requires.1 i && c.is_truth.ensures i && used i

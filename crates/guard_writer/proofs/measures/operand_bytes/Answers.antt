@@ -4,12 +4,8 @@ use native.Mathlib.Omega.{arith}
 use Rattle.expressions.specs.Nodes.{node_at}
 use Rattle.expressions.specs.Sorts.{a_truth, a_number}
 use Rattle.guard_writer.proofs.Codes.{record-by-level, sort-told}
-use Rattle.guard_writer.proofs.Owns.{around-none, around-bare, around-enclosed}
+use Rattle.guard_writer.proofs.Owns.{around-bare, around-enclosed}
 use Rattle.guard_writer.proofs.measures.operand_bytes.Goals as goal
-
-pub returns-then-n-a : goal.returns-then-n-a
-returns-then-n-a c =
-    let x = c.args in around-none (node_at x.nodes.now) x.n x.k x.a (cond x.truth a_truth a_number) c.if-n-a.true
 
 pub returns-then-level-k : goal.returns-then-level-k
 returns-then-level-k c =

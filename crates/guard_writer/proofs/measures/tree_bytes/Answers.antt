@@ -1,17 +1,18 @@
-use mathlib.Core.Path.{◌≡◌, sym, ◌∙◌}
-use mathlib.Core.Bool.{true}
+use mathlib.Core.Path.{◌≡◌, refl, sym, ◌∙◌}
+use mathlib.Core.Bool.{Bool, true, false}
 use mathlib.Core.Option.{none}
 use mathlib.Core.List.{List}
 use Prim.Native.Nat.{ℕ, ◌/◌, ◌≤◌, ◌<◌}
 use borrow.Author.Tests.{le-ltb}
 use lib.Dec.{ltb}
 use lib.ListN.{length}
+use Rattle.std.specs.Prelude.{IfSome}
+use Rattle.std.specs.Bool.{then_some}
 use Rattle.prelude.specs.Lists.{all, upto}
 use Rattle.expressions.specs.Nodes.{node_at}
 use Rattle.expressions.specs.Sorts.{nodes_named}
-use Rattle.expressions.specs.Verdicts.{verdict}
 use Rattle.guards.specs.Lists.{is_known, is_one_tree, list_refusal}
-use Rattle.guard_writer.specs.Measures.{Passes}
+use Rattle.guard_writer.specs.Measures.{Passes, Fits}
 use Rattle.guard_writer.proofs.Listed.{all-passed}
 use Rattle.guard_writer.proofs.Lines.{line-own}
 use Rattle.guard_writer.proofs.Owns.{all_known, all_named_lem, all_fit}
@@ -22,16 +23,23 @@ passed s few p one =
     let size = length s / 16 in
     all-passed (ltb 1024 size) (all (is_known (node_at s) size) (upto size)) (nodes_named (node_at s) size 64) (is_one_tree (node_at s) size) (le-ltb 1024 size few) (all_known (node_at s) size p) (all_named_lem (node_at s) size p) one
 
+then_told : (b : Bool) (n : ℕ) (P : ℕ → Type 0) → (b ≡ true → P n) → IfSome (then_some b n) P
+then_told true n P f = f refl
+then_told false n P f = tt
+
 pub one_tree-requires : goal.one_tree-requires
 one_tree-requires c =
     let s = c.args.nodes.now in
-    let b = c.all_bytes-bytes in
-    let p = b.ensures.1 c.if-bytes-ge-NO_TREE.false in
-    (c.if-whole-gt-NODES.false, sym (λ i. verdict (all_named_lem (node_at s) (length s / 16) p i) (all_fit (node_at s) (length s / 16) p i)), b.ensures.2)
+    let b = c.in_ok-bytes.ensures in
+    (c.if-whole-gt-NODES.false, sym (all_fit (node_at s) (length s / 16) b.1), b.2)
 
-pub returns-then-one_tree : goal.returns-then-one_tree
-returns-then-one_tree c l =
+pub returns : goal.returns
+returns c =
     let s = c.args.nodes.now in
-    let b = c.all_bytes-bytes in
-    let e = passed s c.if-whole-gt-NODES.false (b.ensures.1 c.if-bytes-ge-NO_TREE.false) (sym c.one_tree.ensures ∙ c.if-one_tree.true) in
-    record { accepted = e; enough = line-own s e b.result b.ensures.0 }
+    let b = c.in_ok-bytes in
+    rw c.then_some.ensures (
+    then_told c.one_tree.result b.bytes (Fits s)
+    (λ t.
+    let e = passed s c.if-whole-gt-NODES.false b.ensures.1 (sym c.one_tree.ensures ∙ t) in
+    record { accepted = e; enough = line-own s e b.bytes b.ensures.0 })
+    )
