@@ -2,4 +2,4 @@ use Rattle.messages.proofs.Writing.{wrote_both}
 use Rattle.messages.proofs.texts.put_set.Goals as goal
 
 pub returns : goal.returns
-returns c = wrote_both c.put_three-next.ensures c.put_three.ensures
+returns c = wrote_both 78 78 c.put_three-next.ensures c.put_three.ensures
