@@ -1,7 +1,6 @@
 use mathlib.Core.Bool.{Bool, ◌&&◌}
 use mathlib.Core.List.{List}
-use Prim.Native.Nat.{ℕ, ◌-◌, ◌/◌}
-use lib.ListN.{length}
+use Prim.Native.Nat.{ℕ}
 use Rattle.model.specs.ChartFile.{unused_are_zero}
 use Rattle.model.specs.AutomataFile.{unused_in_table, table_in_code}
 use Rattle.record_tests.proofs.RecordLoops.{Flagged}

@@ -1,7 +1,6 @@
 use mathlib.Core.Bool.{Bool}
 use mathlib.Core.List.{List}
-use Prim.Native.Nat.{ℕ, ◌-◌, ◌/◌}
-use lib.ListN.{length}
+use Prim.Native.Nat.{ℕ}
 use Rattle.model.specs.ChartFile.{unused, unused_are_zero, in_code}
 use Rattle.record_tests.proofs.RecordLoops.{Flagged}
 use Rattle.chart_files.proofs.test_records.Given as goal

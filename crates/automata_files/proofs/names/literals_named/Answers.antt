@@ -1,5 +1,4 @@
 use Rattle.std.proofs.Common.{rules, tests, refl}
-use mathlib.Core.Path.{sym, ◌∙◌}
 use Rattle.prelude.proofs.Ranges.{all_upto}
 use Rattle.automata_records.specs.Names.{literal_named}
 use Rattle.automata_files.proofs.names.literals_named.Goals as goal

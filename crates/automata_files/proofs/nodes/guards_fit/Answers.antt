@@ -1,8 +1,6 @@
 use Rattle.std.proofs.Common.{rules, tests, refl}
-use mathlib.Core.Path.{sym, ap, ◌∙◌}
 use Rattle.expressions.specs.Nodes.{node_at}
 use Rattle.prelude.proofs.Ranges.{all_upto}
-use Rattle.model.specs.ChartFile.{guard_nodes}
 use Rattle.chart_checks.specs.Used.{truths}
 use Rattle.automata_records.specs.Places.{node_part}
 use Rattle.automata_records.specs.Structure.{guard_at}

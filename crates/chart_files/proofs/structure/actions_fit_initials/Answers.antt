@@ -1,5 +1,4 @@
 use Rattle.std.proofs.Common.{rules, tests, refl}
-use mathlib.Core.Path.{sym, ◌∙◌}
 use Rattle.prelude.proofs.Ranges.{all_upto}
 use Rattle.chart_files.specs.Structure.{action_fits_initials}
 use Rattle.chart_files.proofs.structure.actions_fit_initials.Goals as goal

@@ -1,5 +1,5 @@
 use mathlib.Core.List.{[], ◌∷◌}
-use Prim.Native.Nat.{◌+◌, ◌-◌, ◌*◌}
+use Prim.Native.Nat.{◌+◌, ◌*◌}
 use Rattle.records.specs.Bytes.{two}
 use Rattle.chart_checks.proofs.Used.{Gathered}
 use Rattle.chart_files.proofs.structure.count_initials.Given as goal

@@ -1,5 +1,4 @@
 use mathlib.Core.List.{[], ◌∷◌}
-use Prim.Native.Nat.{◌-◌}
 use Rattle.chart_files.specs.Structure.{source_at}
 use Rattle.chart_checks.proofs.Used.{Gathered}
 use Rattle.chart_files.proofs.structure.count_sources.Given as goal

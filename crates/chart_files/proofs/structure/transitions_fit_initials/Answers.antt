@@ -1,5 +1,4 @@
 use Rattle.std.proofs.Common.{rules, tests, refl}
-use mathlib.Core.Path.{sym, ◌∙◌}
 use Rattle.prelude.proofs.Ranges.{all_upto}
 use Rattle.chart_files.specs.Structure.{transition_fits_initials}
 use Rattle.chart_files.proofs.structure.transitions_fit_initials.Goals as goal
