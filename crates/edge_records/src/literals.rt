@@ -17,8 +17,8 @@ use chart_records::Shape;
 use chart_records::fields::Trigger;
 use chart_steps::tables::slot_of;
 use chart_steps::transitions::source_of;
-use records::sizes::{Ends, Rows, STATES, TRANSITIONS};
-use twin_records::clocks::count_of;
+use records::sizes::{Ends, Rows};
+use twin_records::clocks::{ClockNumbers, count_of};
 use twin_records::fields::{guard_of, priority_of, trigger_of};
 use twin_records::writing::{literal_bytes, put_record};
 
@@ -33,16 +33,16 @@ fn guard_number(guard: Option<u16>) -> u16
 fn literal_record(
     s: &[u8],
     shape: Shape,
-    clocks: &[u16; TRANSITIONS],
+    clocks: &ClockNumbers,
     sign: u8,
     edge: u16,
     t: u16,
 ) -> [u8; 16]
-    requires { Accepted s.now shape × HasClocks (read_charts s.now) clocks.now × (t < shape.transitions) }
+    requires { Accepted s.now shape × HasClocks (read_charts s.now) clocks.now.own × (t < shape.transitions) }
     ensures { result ≡ record_text 36 (sign ∷ bytes2 edge ++ write_literal_trigger (literal_trigger_of (read_charts s.now) t (transition (read_charts s.now) t).trigger) ++ write_guard (transition (read_charts s.now) t).guard) }
 {
     let guard = guard_number(guard_of(s, shape, t));
-    let clock = clocks[t as usize];
+    let clock = clocks.own[t as usize];
     match trigger_of(s, shape, t) {
         Trigger::Always => literal_bytes(sign, edge, 0, 0, 0, guard),
         Trigger::Event(e) => literal_bytes(sign, edge, 1, e, 0, guard),
@@ -55,13 +55,13 @@ fn literal_record(
 fn put_negation(
     s: &[u8],
     shape: Shape,
-    clocks: &[u16; TRANSITIONS],
+    clocks: &ClockNumbers,
     out: &mut [u8],
     at: usize,
     edge: u16,
     t: u16,
 ) -> usize
-    requires { Accepted s.now shape × HasClocks (read_charts s.now) clocks.now × ((t ≡ 65535 → ⊥) → t < shape.transitions) × (at < 2 ^ 62) }
+    requires { Accepted s.now shape × HasClocks (read_charts s.now) clocks.now.own × ((t ≡ 65535 → ⊥) → t < shape.transitions) × (at < 2 ^ 62) }
     ensures { Puts out.old at (literal_texts edge (map (literal (read_charts s.now) false) (named t))) out.new result 16 }
 {
     if t == 65535 {
@@ -76,7 +76,7 @@ fn put_negation(
 fn put_negations(
     s: &[u8],
     shape: Shape,
-    clocks: &[u16; TRANSITIONS],
+    clocks: &ClockNumbers,
     rows: &Rows,
     out: &mut [u8],
     at: usize,
@@ -84,7 +84,7 @@ fn put_negations(
     state: u16,
     count: usize,
 ) -> usize
-    requires { Accepted s.now shape × HasClocks (read_charts s.now) clocks.now × HasRows (read_charts s.now) rows.now × (state < shape.states) × (count ≤ 16) × (at < 2 ^ 61) }
+    requires { Accepted s.now shape × HasClocks (read_charts s.now) clocks.now.own × HasRows (read_charts s.now) rows.now × (state < shape.states) × (count ≤ 16) × (at < 2 ^ 61) }
     ensures { Puts out.old at (literal_texts edge (map (literal (read_charts s.now) false) (tried_before (read_charts s.now) state (count + 1)))) out.new result (2 ^ 20) }
 {
     let mut next = at;
@@ -99,13 +99,13 @@ fn put_negations(
 fn put_literals_of(
     s: &[u8],
     shape: Shape,
-    clocks: &[u16; TRANSITIONS],
+    clocks: &ClockNumbers,
     rows: &Rows,
     out: &mut [u8],
     at: usize,
     t: u16,
 ) -> usize
-    requires { Accepted s.now shape × HasClocks (read_charts s.now) clocks.now × HasRows (read_charts s.now) rows.now × (t < shape.transitions) × (at < 2 ^ 61) }
+    requires { Accepted s.now shape × HasClocks (read_charts s.now) clocks.now.own × HasRows (read_charts s.now) rows.now × (t < shape.transitions) × (at < 2 ^ 61) }
     ensures { Puts out.old at (literals_text (read_charts s.now) (from_transition t)) out.new result (2 ^ 22) }
 {
     let higher = (priority_of(s, shape, t) - 1) as usize;
@@ -118,12 +118,12 @@ fn put_literals_of(
 pub fn put_literals(
     s: &[u8],
     shape: Shape,
-    clocks: &[u16; TRANSITIONS],
+    clocks: &ClockNumbers,
     rows: &Rows,
     out: &mut [u8],
     at: usize,
 ) -> usize
-    requires { Accepted s.now shape × HasClocks (read_charts s.now) clocks.now × HasRows (read_charts s.now) rows.now × (at < 2 ^ 60) }
+    requires { Accepted s.now shape × HasClocks (read_charts s.now) clocks.now.own × HasRows (read_charts s.now) rows.now × (at < 2 ^ 60) }
     ensures { Puts out.old at (gather (λ t. literals_text (read_charts s.now) (from_transition t)) (upto (transition_count (read_charts s.now)))) out.new result (2 ^ 40) }
 {
     let mut next = at;
@@ -137,7 +137,7 @@ pub fn put_literals(
 fn put_must_nots(
     s: &[u8],
     shape: Shape,
-    clocks: &[u16; TRANSITIONS],
+    clocks: &ClockNumbers,
     rows: &Rows,
     ends: &Ends,
     out: &mut [u8],
@@ -145,7 +145,7 @@ fn put_must_nots(
     edge: u16,
     state: u16,
 ) -> usize
-    requires { Accepted s.now shape × HasClocks (read_charts s.now) clocks.now × HasRows (read_charts s.now) rows.now × HasEnds (read_charts s.now) rows.now ends.now × (state < shape.states) × (at < 2 ^ 61) }
+    requires { Accepted s.now shape × HasClocks (read_charts s.now) clocks.now.own × HasRows (read_charts s.now) rows.now × HasEnds (read_charts s.now) rows.now ends.now × (state < shape.states) × (at < 2 ^ 61) }
     ensures { Puts out.old at (literal_texts edge (must_nots (read_charts s.now) state)) out.new result (2 ^ 20) }
 {
     let end = ends[state as usize] as usize;
@@ -164,8 +164,7 @@ fn put_clock_literal(out: &mut [u8], at: usize, sign: u8, edge: u16, number: u16
 fn put_idle_literals_of(
     s: &[u8],
     shape: Shape,
-    clocks: &[u16; TRANSITIONS],
-    waiting: &[u16; STATES],
+    clocks: &ClockNumbers,
     rows: &Rows,
     ends: &Ends,
     out: &mut [u8],
@@ -173,10 +172,10 @@ fn put_idle_literals_of(
     edge: u16,
     state: u16,
 ) -> usize
-    requires { Accepted s.now shape × HasClocks (read_charts s.now) clocks.now × HasWaiting (read_charts s.now) waiting.now × HasRows (read_charts s.now) rows.now × HasEnds (read_charts s.now) rows.now ends.now × (state < shape.states) × (edge ≡ first_idle (read_charts s.now) state) × (at < 2 ^ 60 + 2 ^ 40) }
+    requires { Accepted s.now shape × HasClocks (read_charts s.now) clocks.now.own × HasWaiting (read_charts s.now) clocks.now.waiting × HasRows (read_charts s.now) rows.now × HasEnds (read_charts s.now) rows.now ends.now × (state < shape.states) × (edge ≡ first_idle (read_charts s.now) state) × (at < 2 ^ 60 + 2 ^ 40) }
     ensures { Puts out.old at (gather (literals_text (read_charts s.now)) (idle_origins (read_charts s.now) state)) out.new result (2 ^ 22) }
 {
-    let number = waiting[state as usize];
+    let number = clocks.waiting[state as usize];
     let own = put_must_nots(s, shape, clocks, rows, ends, out, at, edge, state);
     if number == 65535 {
         return own;
@@ -190,23 +189,20 @@ fn put_idle_literals_of(
 pub fn put_idle_literals(
     s: &[u8],
     shape: Shape,
-    clocks: &[u16; TRANSITIONS],
-    waiting: &[u16; STATES],
+    clocks: &ClockNumbers,
     rows: &Rows,
     ends: &Ends,
     out: &mut [u8],
     at: usize,
 ) -> usize
-    requires { Accepted s.now shape × HasClocks (read_charts s.now) clocks.now × HasWaiting (read_charts s.now) waiting.now × HasRows (read_charts s.now) rows.now × HasEnds (read_charts s.now) rows.now ends.now × (at < 2 ^ 60) }
+    requires { Accepted s.now shape × HasClocks (read_charts s.now) clocks.now.own × HasWaiting (read_charts s.now) clocks.now.waiting × HasRows (read_charts s.now) rows.now × HasEnds (read_charts s.now) rows.now ends.now × (at < 2 ^ 60) }
     ensures { Puts out.old at (gather (λ st. gather (literals_text (read_charts s.now)) (idle_origins (read_charts s.now) st)) (upto (state_count (read_charts s.now)))) out.new result (2 ^ 40) }
 {
     let mut next = at;
     let mut edge = shape.transitions;
     for state in 0..shape.states {
-        next = put_idle_literals_of(
-            s, shape, clocks, waiting, rows, ends, out, next, edge, state,
-        );
-        edge += 1 + count_of(waiting[state as usize]);
+        next = put_idle_literals_of(s, shape, clocks, rows, ends, out, next, edge, state);
+        edge += 1 + count_of(clocks.waiting[state as usize]);
     }
     next
 }

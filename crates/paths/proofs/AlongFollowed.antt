@@ -33,11 +33,6 @@ unfolding gather
 length-words [] = refl
 length-words (x ∷ xs) = let e = length-words xs in omega arith
 
--- a step has one row or none
-pub at_most_one : (n : ℕ) (b : Bool) → n ≡ cond b 1 0 → n ≤ 1
-at_most_one n true e = omega arith
-at_most_one n false e = omega arith
-
 module _ (cs : ChartSet) (path : List ℕ) where
   abbrev before : ℕ → List ℕ
   before i = take i path

@@ -30,13 +30,6 @@ module _ (cs : ChartSet) (path lent : List ℕ) where
   counted-by : (b : Bool) → fit ≡ b → counted (led_back cs path (walk_start cs)) ≡ counted (cond b (val all_rows) (fault broken_path))
   counted-by b e = ap counted (led-is cs path (walk_start cs) ∙ ap (λ y. cond y (val all_rows) (fault broken_path)) e)
 
-  pub led-broken : fault broken_path ≡ counted (led_back cs path (walk_start cs)) → led cs path lent ≡ record { answer = fault broken_path; lent = lent }
-  led-broken h = go fit refl
-    where
-      go : (b : Bool) → fit ≡ b → led cs path lent ≡ record { answer = fault broken_path; lent = lent }
-      go false e = by-fit false e
-      go true e = let z : fault broken_path ≡ val (length all_rows) = h ∙ counted-by true e in let y : ◌≡◌ {A = ℕ} 0 1 = cc in absurd (omega arith)
-
   -- so many rows, and all steps fit
   pub led-many : (n : ℕ) → val n ≡ counted (led_back cs path (walk_start cs)) → (fit ≡ true) × (n ≡ length all_rows)
   led-many n h = go fit refl
@@ -48,9 +41,6 @@ module _ (cs : ChartSet) (path lent : List ℕ) where
   module _ (n : ℕ) (f : fit ≡ true) (many : n ≡ length all_rows) where
     by-room : (b : Bool) → ltb (length lent / 3) (length all_rows) ≡ b → led cs path lent ≡ settled lent (fault_if b short_rows >> val (length all_rows, row_words all_rows ++ drop (3 * length all_rows) lent))
     by-room b e = by-fit true f ∙ ap (λ y. settled lent (fault_if y short_rows >> val (length all_rows, row_words all_rows ++ drop (3 * length all_rows) lent))) e
-
-    pub led-short : length lent / 3 < n → led cs path lent ≡ record { answer = fault short_rows; lent = lent }
-    led-short h = by-room true (lt-ltb (length lent / 3) (length all_rows) (omega arith))
 
     pub led-room : n ≤ length lent / 3 → 3 * length all_rows ≤ length lent
     led-room h = omega arith

@@ -40,19 +40,12 @@ module _ (s : List ℕ) (sh : Shape) (ok : Accepted s sh) (e : ℕ) (w : Walk) w
 
   -- ---- the edge that is named
 
-  pub edge-out : length (twin (read_charts s)).edges ≤ e → edge_fits (read_charts s) e here ≡ false
-  edge-out h = ap (λ b. b && eqb ((edge (twin (read_charts s)) e).automaton + 1) w.position && eqb (edge (twin (read_charts s)) e).source (get_or here.locations (edge (twin (read_charts s)) e).automaton 0))
-      (le-ltb e (length (twin (read_charts s)).edges) h)
-
   module _ (x : Edge) (is : IsEdge s sh.charts e x) (h : e < length (twin (read_charts s)).edges) where
     fits_by : (b : Bool) → eqb (x.automaton + 1) w.position ≡ b → edge_fits (read_charts s) e here ≡ (b && eqb x.source (get_or (take sh.charts w.locations) x.automaton 0))
     fits_by b eb =
         (λ i. lt-ltb e (length (twin (read_charts s)).edges) h i
         && eqb (sym is.automaton i + 1) w.position && eqb (sym is.source i) (get_or (take sh.charts w.locations) (sym is.automaton i) 0))
         ∙ ap (λ t. t && eqb x.source (get_or (take sh.charts w.locations) x.automaton 0)) eb
-
-    pub edge_other : eqb (x.automaton + 1) w.position ≡ false → edge_fits (read_charts s) e here ≡ false
-    edge_other n = fits_by false n
 
     pub edge-there : eqb (x.automaton + 1) w.position ≡ true → edge_fits (read_charts s) e here ≡ eqb x.source (get_or w.locations x.automaton 0)
     edge-there n = fits_by true n ∙ ap (eqb x.source) (get_or-take sh.charts w.locations x.automaton 0 is.known)
@@ -98,9 +91,6 @@ module _ (s : List ℕ) (sh : Shape) (ok : Accepted s sh) (e : ℕ) (w : M.Walk)
       let z = (and-true (ltb e (length (twin (read_charts s)).edges) && eqb ((edge (twin (read_charts s)) e).automaton + 1) w.position) (eqb (edge (twin (read_charts s)) e).source (get_or w.locations (edge (twin (read_charts s)) e).automaton 0)) t).0 in
       let y = and-true (ltb e (length (twin (read_charts s)).edges)) (eqb ((edge (twin (read_charts s)) e).automaton + 1) w.position) z in
       (ltb-true e (length (twin (read_charts s)).edges) y.0, eqb-true ((edge (twin (read_charts s)) e).automaton + 1) w.position y.1)
-
-  pub step-late : 1_000_000 ≤ w.cycles → step_fits (read_charts s) e w ≡ false
-  step-late h = ap (λ b. b && cond (eqb e time_mark) (time_fits (read_charts s) w) (edge_fits (read_charts s) e w)) (le-ltb w.cycles 1_000_000 h)
 
   pub step-time : w.cycles < 1_000_000 → e ≡ 65535 → step_fits (read_charts s) e w ≡ eqb w.position (sh.charts + 1)
   step-time h m =

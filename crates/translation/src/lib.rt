@@ -16,38 +16,37 @@ pub mod lengths;
 use chart_records::Shape;
 use chart_steps::tables::{fill_actions, fill_rows};
 use edge_records::literals::{put_idle_literals, put_literals};
-use edge_records::resets::{fill_leaving, put_resets};
+use edge_records::resets::{leaving_of, put_resets};
 use edge_records::updates::{put_due_updates, put_updates};
 use lengths::twin_length;
 use records::refusals::Refusal;
 use records::sizes::{
-    ACTION_KEYS, ACTIONS, ActionHeads, ActionLinks, LONGEST_TABLE, PRIORITIES, STATES, TRANSITIONS,
+    ACTION_KEYS, ACTIONS, ActionHeads, ActionLinks, LONGEST_TABLE, PRIORITIES, STATES,
 };
-use twin_records::clocks::{fill_clocks, fill_waiting, put_clocks};
+use twin_records::clocks::{ClockNumbers, clock_numbers, put_clocks};
 use twin_records::edges::put_edges;
 use twin_records::sections::{put_homes, put_initials, put_nodes, put_variables};
 
 // Kinds 33 to 35.
-fn put_places(s: &[u8], shape: Shape, waiting: &[u16; STATES], out: &mut [u8], at: usize) -> usize
-    requires { Accepted s.now shape × HasWaiting (read_charts s.now) waiting.now × (at < 2 ^ 50) }
+fn put_places(s: &[u8], shape: Shape, clocks: &ClockNumbers, out: &mut [u8], at: usize) -> usize
+    requires { Accepted s.now shape × HasWaiting (read_charts s.now) clocks.now.waiting × (at < 2 ^ 50) }
     ensures { Puts out.old at (places_text (twin (read_charts s.now))) out.new result (2 ^ 42) }
 {
     let homes_at = put_initials(s, shape, out, at);
     let edges_at = put_homes(s, shape, out, homes_at);
-    put_edges(s, shape, waiting, out, edges_at)
+    put_edges(s, shape, clocks, out, edges_at)
 }
 
 // Kinds 36 to 39. The rows are made once, of 256, which names none.
 fn put_tests(
     s: &[u8],
     shape: Shape,
-    clocks: &[u16; TRANSITIONS],
-    waiting: &[u16; STATES],
+    clocks: &ClockNumbers,
     heads: &ActionHeads,
     out: &mut [u8],
     at: usize,
 ) -> usize
-    requires { Accepted s.now shape × HasClocks (read_charts s.now) clocks.now × HasWaiting (read_charts s.now) waiting.now × HasFirsts s.now shape heads.now × (at < 2 ^ 51) }
+    requires { Accepted s.now shape × HasClocks (read_charts s.now) clocks.now.own × HasWaiting (read_charts s.now) clocks.now.waiting × HasFirsts s.now shape heads.now × (at < 2 ^ 51) }
     ensures { Puts out.old at (tests_text (twin (read_charts s.now))) out.new result (2 ^ 43) }
 {
     let empty = [256u16; PRIORITIES];
@@ -55,7 +54,7 @@ fn put_tests(
     let mut ends = [0u8; STATES];
     fill_rows(s, shape, &mut rows, &mut ends);
     let idles_at = put_literals(s, shape, clocks, &rows, out, at);
-    let clocks_at = put_idle_literals(s, shape, clocks, waiting, &rows, &ends, out, idles_at);
+    let clocks_at = put_idle_literals(s, shape, clocks, &rows, &ends, out, idles_at);
     let variables_at = put_clocks(s, shape, heads, out, clocks_at);
     let nodes_at = put_variables(s, shape, out, variables_at);
     put_nodes(s, shape, out, nodes_at)
@@ -65,22 +64,19 @@ fn put_tests(
 fn put_effects(
     s: &[u8],
     shape: Shape,
-    clocks: &[u16; TRANSITIONS],
-    waiting: &[u16; STATES],
+    clocks: &ClockNumbers,
     heads: &ActionHeads,
     links: &ActionLinks,
     out: &mut [u8],
     at: usize,
 ) -> usize
-    requires { Accepted s.now shape × HasClocks (read_charts s.now) clocks.now × HasWaiting (read_charts s.now) waiting.now × HasActions s.now shape heads.now links.now × (at < 2 ^ 52) }
+    requires { Accepted s.now shape × HasClocks (read_charts s.now) clocks.now.own × HasWaiting (read_charts s.now) clocks.now.waiting × HasActions s.now shape heads.now links.now × (at < 2 ^ 52) }
     ensures { Puts out.old at (effects_text (twin (read_charts s.now))) out.new result (2 ^ 42) }
 {
     let dues_at = put_updates(s, shape, heads, links, out, at);
-    let resets_at = put_due_updates(s, shape, waiting, heads, links, out, dues_at);
-    let mut first = [65535u16; STATES];
-    let mut next = [65535u16; TRANSITIONS];
-    fill_leaving(s, shape, &mut first, &mut next);
-    put_resets(s, shape, clocks, waiting, &first, &next, out, resets_at)
+    let resets_at = put_due_updates(s, shape, clocks, heads, links, out, dues_at);
+    let leaving = leaving_of(s, shape);
+    put_resets(s, shape, clocks, &leaving, out, resets_at)
 }
 
 // The twin's file from the buffer's start; answers its length, also where the buffer is shorter.
@@ -88,16 +84,13 @@ fn put_twin(s: &[u8], shape: Shape, out: &mut [u8]) -> usize
     requires { Accepted s.now shape }
     ensures { Puts out.old 0 (twin_bytes s.now) out.new result (2 ^ 50) }
 {
-    let mut clocks = [0u16; TRANSITIONS];
-    let count = fill_clocks(s, shape, &mut clocks);
     let mut first = [65535u16; ACTION_KEYS];
     let mut next = [65535u16; ACTIONS];
     fill_actions(s, shape, &mut first, &mut next);
-    let mut waiting = [65535u16; STATES];
-    fill_waiting(s, shape, &first, count, &mut waiting);
-    let tests_at = put_places(s, shape, &waiting, out, 0);
-    let effects_at = put_tests(s, shape, &clocks, &waiting, &first, out, tests_at);
-    put_effects(s, shape, &clocks, &waiting, &first, &next, out, effects_at)
+    let clocks = clock_numbers(s, shape, &first);
+    let tests_at = put_places(s, shape, &clocks, out, 0);
+    let effects_at = put_tests(s, shape, &clocks, &first, out, tests_at);
+    put_effects(s, shape, &clocks, &first, &next, out, effects_at)
 }
 
 // The length is known before anything is written. No twin is longer than 265,344 bytes; for a buffer that has them nothing is counted.

@@ -49,6 +49,3 @@ pub bytes_back : (b c : ℕ) → b < 256 → c < 256 → bytes2± (signed (2 ^ 1
 bytes_back b c l m =
     ap bytes2 (unsigned_signed (2 ^ 15) (b + 256 * c) (omega arith))
     ∙ (λ i. (let e : (b + 256 * c) % 256 ≡ b = omega arith in e) i ∷ (let e : ((b + 256 * c) / 256) % 256 ≡ c = omega arith in e) i ∷ [])
-
-pub pair-back : (s : List ℕ) (at b c : ℕ) → b ≡ byte s at → c ≡ byte s (at + 1) → b < 256 → c < 256 → b ∷ c ∷ [] ≡ bytes2± (two± s at)
-pair-back s at b c e d l m = sym (bytes_back b c l m) ∙ (λ i. bytes2± (signed (2 ^ 15) (e i + 256 * d i)))

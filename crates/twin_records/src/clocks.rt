@@ -20,6 +20,13 @@ use chart_steps::actions::wait_of;
 use records::sizes::{ActionHeads, STATES, TRANSITIONS, WAITING_KEYS};
 use timings::ticks;
 
+// Of each transition the number of clocks before its own; of each state its waiting clock's, 65535 where it does not wait.
+#[derive(Clone, Copy)]
+pub struct ClockNumbers {
+    pub own: [u16; TRANSITIONS],
+    pub waiting: [u16; STATES],
+}
+
 // A timing trigger has one.
 pub fn clocks_in(trigger: Trigger) -> u16
     ensures { (result ≡ length (clocks_of (trigger_for trigger))) × (result ≤ 1) }
@@ -78,6 +85,17 @@ pub fn fill_waiting(
         waiting[i] = number_for(action, count);
         count += count_of(action);
     }
+}
+
+pub fn clock_numbers(s: &[u8], shape: Shape, first: &ActionHeads) -> ClockNumbers
+    requires { Accepted s.now shape × HasFirsts s.now shape first.now }
+    ensures { HasClocks (read_charts s.now) result.own × HasWaiting (read_charts s.now) result.waiting }
+{
+    let mut own = [0u16; TRANSITIONS];
+    let mut waiting = [65535u16; STATES];
+    let count = fill_clocks(s, shape, &mut own);
+    fill_waiting(s, shape, first, count, &mut waiting);
+    ClockNumbers { own, waiting }
 }
 
 fn put_clock(trigger: Trigger, out: &mut [u8], at: usize) -> usize

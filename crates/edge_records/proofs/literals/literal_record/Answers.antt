@@ -45,7 +45,7 @@ returns-in-After c =
     let guard : bytes2 c.guard_number-guard.result ≡ write_guard (transition cs x.t).guard = c.guard_number-guard.ensures ∙ ap write_guard (c.guard_of.ensures ∙ ap (λ y. y.guard) same) in
     let trigger = ap trigger_for (sym c.in-After.is) ∙ c.trigger_of.ensures ∙ ap (λ y. y.trigger) same in
     c.literal_bytes-in-After.ensures
-    ∙ ap (λ n. record_text 36 (x.sign ∷ bytes2 x.edge ++ (2 ∷ 0 ∷ bytes2 n) ++ bytes2 c.guard_number-guard.result)) (clock-at cs x.clocks.now c.requires.1 x.t (omega (arith, length-transitions x.s.now x.shape c.requires.0.shape, c.requires.2)))
+    ∙ ap (λ n. record_text 36 (x.sign ∷ bytes2 x.edge ++ (2 ∷ 0 ∷ bytes2 n) ++ bytes2 c.guard_number-guard.result)) (clock-at cs x.clocks.now.own c.requires.1 x.t (omega (arith, length-transitions x.s.now x.shape c.requires.0.shape, c.requires.2)))
     ∙ (λ i. record_text 36 (x.sign ∷ bytes2 x.edge ++ write_literal_trigger (literal_trigger_of cs x.t (trigger i)) ++ guard i))
 
 pub returns-in-Every : goal.returns-in-Every
@@ -56,5 +56,5 @@ returns-in-Every c =
     let guard : bytes2 c.guard_number-guard.result ≡ write_guard (transition cs x.t).guard = c.guard_number-guard.ensures ∙ ap write_guard (c.guard_of.ensures ∙ ap (λ y. y.guard) same) in
     let trigger = ap trigger_for (sym c.in-Every.is) ∙ c.trigger_of.ensures ∙ ap (λ y. y.trigger) same in
     c.literal_bytes-in-Every.ensures
-    ∙ ap (λ n. record_text 36 (x.sign ∷ bytes2 x.edge ++ (2 ∷ 0 ∷ bytes2 n) ++ bytes2 c.guard_number-guard.result)) (clock-at cs x.clocks.now c.requires.1 x.t (omega (arith, length-transitions x.s.now x.shape c.requires.0.shape, c.requires.2)))
+    ∙ ap (λ n. record_text 36 (x.sign ∷ bytes2 x.edge ++ (2 ∷ 0 ∷ bytes2 n) ++ bytes2 c.guard_number-guard.result)) (clock-at cs x.clocks.now.own c.requires.1 x.t (omega (arith, length-transitions x.s.now x.shape c.requires.0.shape, c.requires.2)))
     ∙ (λ i. record_text 36 (x.sign ∷ bytes2 x.edge ++ write_literal_trigger (literal_trigger_of cs x.t (trigger i)) ++ guard i))

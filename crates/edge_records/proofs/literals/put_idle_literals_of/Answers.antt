@@ -14,8 +14,8 @@ use Rattle.twin_records.proofs.TextsWritten.{puts-as, puts_then, puts-far}
 use Rattle.edge_records.proofs.TextsIdle.{not-waiting-text, waiting-text}
 use Rattle.edge_records.proofs.literals.put_idle_literals_of.Goals as goal
 
-pub bounds-waiting-state : goal.bounds-waiting-state
-bounds-waiting-state c =
+pub bounds-clocks-state : goal.bounds-clocks-state
+bounds-clocks-state c =
     let known-state : c.args.state < 128 = omega (arith, c.requires.5, most-states c.args.s.now c.args.shape c.requires.0.shape) in
     known-state
 
@@ -28,7 +28,7 @@ returns-then-number c =
     let x = c.args in
     let cs = read_charts x.s.now in
     puts-as _
-    (ap (λ e. literal_texts e (must_nots cs x.state)) c.requires.6 ∙ not-waiting-text cs x.state (not-waiting x.s.now x.shape c.requires.0 x.waiting.now c.requires.2 x.state c.requires.5 c.if-number.true))
+    (ap (λ e. literal_texts e (must_nots cs x.state)) c.requires.6 ∙ not-waiting-text cs x.state (not-waiting x.s.now x.shape c.requires.0 x.clocks.now.waiting c.requires.2 x.state c.requires.5 c.if-number.true))
     (puts-far (2 ^ 22) (omega arith) c.put_must_nots-own.ensures)
 
 pub put_clock_literal-idle-requires : goal.put_clock_literal-idle-requires
@@ -77,7 +77,7 @@ pub returns : goal.returns
 returns c =
     let x = c.args in
     let cs = read_charts x.s.now in
-    let one = is-waiting x.s.now x.shape c.requires.0 x.waiting.now c.requires.2 x.state c.requires.5 c.if-number.false in
+    let one = is-waiting x.s.now x.shape c.requires.0 x.clocks.now.waiting c.requires.2 x.state c.requires.5 c.if-number.false in
     puts-as _
     ((λ i. (literal_texts (c.requires.6 i) (must_nots cs x.state) ++ record_text 36 (1 ∷ bytes2 (c.requires.6 i) ++ write_literal_trigger (clock (one.0 i)) ++ write_guard none))
     ++ (literal_texts (c.requires.6 i + 1) (must_nots cs x.state) ++ record_text 36 (2 ∷ bytes2 (c.requires.6 i + 1) ++ write_literal_trigger (clock (one.0 i)) ++ write_guard none)))

@@ -19,15 +19,15 @@ few s sh ok = omega (arith, length-transitions s sh ok.shape, most-transitions s
 small : (s : List ℕ) (sh : Shape) (st : ℕ) → Accepted s sh → st < sh.states → st < 128
 small s sh st ok h = omega (arith, most-states s sh ok.shape)
 
-pub bounds-first-state : goal.bounds-first-state
-bounds-first-state c =
+pub bounds-leaving-state : goal.bounds-leaving-state
+bounds-leaving-state c =
     let x = c.args in
     omega (arith, c.requires.3, most-states x.s.now x.shape c.requires.0.shape)
 
 pub loop-t-init : goal.loop-t-init
 loop-t-init c =
     let x = c.args in
-    along-start _ _ _ x.first.now x.next.now c.requires.2 (few x.s.now x.shape c.requires.0) x.state (small x.s.now x.shape x.state c.requires.0 c.requires.3) _ _ _
+    along-start _ _ _ x.leaving.now.first x.leaving.now.next c.requires.2 (few x.s.now x.shape c.requires.0) x.state (small x.s.now x.shape x.state c.requires.0 c.requires.3) _ _ _
 
 pub bounds-clocks-i : goal.bounds-clocks-i
 bounds-clocks-i c =
@@ -53,8 +53,8 @@ put_reset-place-requires c =
     (omega (arith, known), omega (arith, known, most-transitions x.s.now x.shape c.requires.0.shape)) in
     omega (arith, c.loop-t.invariant.near, inside.1, c.requires.4)
 
-pub bounds-next-i : goal.bounds-next-i
-bounds-next-i c =
+pub bounds-leaving-i : goal.bounds-leaving-i
+bounds-leaving-i c =
     let known : c.loop-t.t < transition_count (read_charts c.args.s.now) = (c.loop-t.invariant.at_hand.known c.loop-t-test.true).0 in
     let inside : (c.loop-t.t < c.args.shape.transitions) × (c.loop-t.t < 256) = let x = c.args in
     let e = length-transitions x.s.now x.shape c.requires.0.shape in
@@ -68,7 +68,7 @@ loop-t-smaller c =
     let e = length-transitions x.s.now x.shape c.requires.0.shape in
     (omega (arith, known), omega (arith, known, most-transitions x.s.now x.shape c.requires.0.shape)) in
     let x = c.args in
-    omega (arith, inside.1, along-rises _ _ _ x.first.now x.next.now c.requires.2 (few x.s.now x.shape c.requires.0) x.state (small x.s.now x.shape x.state c.requires.0 c.requires.3) _ _ _ c.loop-t.invariant c.loop-t-test.true)
+    omega (arith, inside.1, along-rises _ _ _ x.leaving.now.first x.leaving.now.next c.requires.2 (few x.s.now x.shape c.requires.0) x.state (small x.s.now x.shape x.state c.requires.0 c.requires.3) _ _ _ c.loop-t.invariant c.loop-t-test.true)
 
 pub loop-t-preserved : goal.loop-t-preserved
 loop-t-preserved c =
@@ -78,9 +78,9 @@ loop-t-preserved c =
     (omega (arith, known), omega (arith, known, most-transitions x.s.now x.shape c.requires.0.shape)) in
     let x = c.args in
     let t = c.loop-t.t in
-    let clock = clock-at (read_charts x.s.now) x.clocks.now c.requires.1 t known in
+    let clock = clock-at (read_charts x.s.now) x.clocks.now.own c.requires.1 t known in
     let trigger = c.trigger_of.ensures ∙ ap (λ y. y.trigger) (sym (transition-is x.s.now x.shape c.requires.0.shape t inside.0)) in
-    along-more _ _ _ x.first.now x.next.now c.requires.2 (few x.s.now x.shape c.requires.0) x.state (small x.s.now x.shape x.state c.requires.0 c.requires.3) _ _ _ c.loop-t.invariant c.loop-t-test.true
+    along-more _ _ _ x.leaving.now.first x.leaving.now.next c.requires.2 (few x.s.now x.shape c.requires.0) x.state (small x.s.now x.shape x.state c.requires.0 c.requires.3) _ _ _ c.loop-t.invariant c.loop-t-test.true
     c.put_reset-place.auto.out
     (puts-as _ (λ i. reset_texts x.edge (map (λ _. clock i) (clocks_of (trigger i)))) c.put_reset-place.ensures)
 
