@@ -36,7 +36,7 @@ fn ages_possible(charts: u16, ages: Ages, cycles: u32) -> bool
     requires { charts ≤ most_charts }
     ensures { result ≡ all (λ k. leb (get_or ages k 0) cycles) (upto charts) }
 {
-    ages.iter().take(charts as usize).all(|age| *age <= cycles)
+    (0..charts).all(|k| ages[k as usize] <= cycles)
 }
 
 fn ages_unused(charts: u16, ages: Ages) -> bool

@@ -4,10 +4,11 @@ use Rattle.model.specs.ChartSet.{read_charts}
 use Rattle.chart_records.specs.declared.Shape.{Shape}
 use Rattle.chart_records.specs.Accepted.{Accepted}
 use Rattle.chart_steps.specs.Tables.{HasRows, HasEnds, HasActions}
+use Rattle.chart_steps.specs.declared.tables.Tables.{Tables}
 
 -- What is known of a set whose turns are taken: it is accepted, and its tables are its own.
-pub record Prepared (s : List ℕ) (sh : Shape) (rows : List (List ℕ)) (ends first next : List ℕ) : Type 0 where
+pub record Prepared (s : List ℕ) (sh : Shape) (t : Tables) : Type 0 where
   pub accepted : Accepted s sh
-  pub has_rows : HasRows (read_charts s) rows
-  pub has_ends : HasEnds (read_charts s) rows ends
-  pub has_actions : HasActions s sh first next
+  pub has_rows : HasRows (read_charts s) t.rows
+  pub has_ends : HasEnds (read_charts s) t.rows t.ends
+  pub has_actions : HasActions s sh t.first t.next

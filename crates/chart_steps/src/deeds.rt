@@ -8,10 +8,11 @@ ghost use Rattle.chart_records.specs.Accepted.{Accepted};
 ghost use Rattle.chart_steps.specs.Tables.{HasActions, deeds_of_three, action_keys};
 
 use super::actions::{condition_of, first_action};
+use super::tables::Tables;
 use super::values::values_of;
 use chart_records::Shape;
 use machines::deeds::do_guarded;
-use records::sizes::{ActionHeads, ActionLinks, Variables};
+use records::sizes::Variables;
 use records::u16_within;
 
 // Action a, if its guard holds.
@@ -31,20 +32,19 @@ fn do_action(s: &[u8], shape: Shape, a: u16, vars: &mut Variables, events: u32) 
 pub fn do_deeds(
     s: &[u8],
     shape: Shape,
-    first: &ActionHeads,
-    next: &ActionLinks,
+    tables: &Tables,
     leaving: u16,
     crossing: u16,
     entering: u16,
     vars: &mut Variables,
     events: u32,
 ) -> u64
-    requires { Accepted s.now shape × HasActions s.now shape first.now next.now × (leaving < action_keys) × (crossing < action_keys) × (entering < action_keys) }
+    requires { Accepted s.now shape × HasActions s.now shape tables.now.first tables.now.next × (leaving < action_keys) × (crossing < action_keys) × (entering < action_keys) }
     ensures { ((m : Moment) → world_by result vars.new m ≡ deeds_of_three s.now shape leaving crossing entering (world_in vars.old events m)) × IsCode result }
 {
     let mut present = events;
     let mut k: u8 = 0;
-    let mut a = first[leaving as usize];
+    let mut a = tables.first[leaving as usize];
     loop {
         if a == 65535 {
             if k == 2 {
@@ -52,14 +52,14 @@ pub fn do_deeds(
             }
             k += 1;
             let key = if k == 1 { crossing } else { entering };
-            a = first[key as usize];
+            a = tables.first[key as usize];
         } else {
             let after = do_action(s, shape, a, vars, present);
             if 4294967295 < after {
                 return after;
             }
             present = after as u32;
-            a = next[a as usize];
+            a = tables.next[a as usize];
         }
     }
 }

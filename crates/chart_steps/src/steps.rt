@@ -7,26 +7,29 @@ ghost use Rattle.model.specs.ChartSet.{read_charts};
 ghost use Rattle.model.specs.Charts.{row, first_that, transition_holds, acted, due, waited, follow as followed, chart_step};
 ghost use Rattle.std.proofs.Math.Option.{some};
 ghost use Rattle.chart_records.specs.Accepted.{Accepted};
-ghost use Rattle.chart_steps.specs.Tables.{HasRows, HasEnds, HasFirsts, HasActions};
 ghost use Rattle.machines.specs.Worlds.{Moment, onward, run_in, world_in, world_by, bare_world, IsCode};
 ghost use Rattle.chart_steps.specs.StepOf.{choice_by, ChoiceOf, slot_holds, answer_by, moved_by, chart_turns};
 ghost use Rattle.chart_steps.specs.Prepared.{Prepared};
 
 use super::actions::wait_of;
 use super::deeds::do_deeds;
-use super::tables::slot_of;
+use super::tables::{Tables, slot_of};
 use super::transitions::{holds, source_of, target_of};
 use chart_records::Shape;
 use expressions::outcomes::Reason;
 use machines::deeds::fault_code;
-use records::sizes::{
-    ActionHeads, ActionLinks, Ages, CROSSING_KEYS, EMPTY_KEY, EXIT_KEYS, Ends, Places, Rows,
-    Variables, WAITING_KEYS,
-};
+use records::sizes::{Ages, CROSSING_KEYS, EMPTY_KEY, EXIT_KEYS, Places, Variables, WAITING_KEYS};
 use timings::{every_holds, ticks};
 
 // A place of a row that names none does not hold.
-fn slot_holds(s: &[u8], shape: Shape, vars: &Variables, events: u32, age: u32, t: u16) -> Result<bool, Reason>
+fn slot_holds(
+    s: &[u8],
+    shape: Shape,
+    vars: &Variables,
+    events: u32,
+    age: u32,
+    t: u16,
+) -> Result<bool, Reason>
     requires { Accepted s.now shape × ((t ≡ 65535 → ⊥) → t < shape.transitions) }
     ensures { truth_of result ≡ slot_holds (transition_holds (read_charts s.now) (bare_world vars.now events) age) t }
 {
@@ -41,23 +44,22 @@ fn slot_holds(s: &[u8], shape: Shape, vars: &Variables, events: u32, age: u32, t
 fn first_that(
     s: &[u8],
     shape: Shape,
-    rows: &Rows,
-    ends: &Ends,
+    tables: &Tables,
     vars: &Variables,
     events: u32,
     age: u32,
     state: u16,
 ) -> u64
-    requires { Accepted s.now shape × HasRows (read_charts s.now) rows.now × HasEnds (read_charts s.now) rows.now ends.now }
+    requires { Prepared s.now shape tables.now }
     ensures { (choice_by result ≡ first_that (transition_holds (read_charts s.now) (bare_world vars.now events) age) (row (read_charts s.now) state)) × ChoiceOf shape.transitions result }
 {
     if shape.states <= state {
         return 65535;
     }
     let i = state as usize;
-    let end = ends[i] as usize;
+    let end = tables.ends[i] as usize;
     for j in 0..end {
-        let t = slot_of(s, shape, rows, state, j);
+        let t = slot_of(s, shape, &tables.rows, state, j);
         match slot_holds(s, shape, vars, events, age, t) {
             Err(w) => return fault_code(w),
             Ok(true) => return t as u64,
@@ -71,29 +73,25 @@ fn first_that(
 fn do_actions(
     s: &[u8],
     shape: Shape,
-    first: &ActionHeads,
-    next: &ActionLinks,
+    tables: &Tables,
     t: u16,
     vars: &mut Variables,
     events: u32,
 ) -> u64
-    requires { Accepted s.now shape × HasActions s.now shape first.now next.now × (t < shape.transitions) }
+    requires { Prepared s.now shape tables.now × (t < shape.transitions) }
     ensures { ((m : Moment) → world_by result vars.new m ≡ acted (read_charts s.now) t (world_in vars.old events m)) × IsCode result }
 {
     let leaving = EXIT_KEYS + source_of(s, shape, t);
     let crossing = CROSSING_KEYS + t;
     let entering = target_of(s, shape, t);
-    do_deeds(
-        s, shape, first, next, leaving, crossing, entering, vars, events,
-    )
+    do_deeds(s, shape, tables, leaving, crossing, entering, vars, events)
 }
 
 // A transition that holds is taken: the state that is entered has the age 0.
 fn follow(
     s: &[u8],
     shape: Shape,
-    first: &ActionHeads,
-    next: &ActionLinks,
+    tables: &Tables,
     chart: u16,
     t: u16,
     states: &mut Places,
@@ -101,10 +99,10 @@ fn follow(
     vars: &mut Variables,
     events: u32,
 ) -> u64
-    requires { Accepted s.now shape × HasActions s.now shape first.now next.now × (chart < most_charts) × (t < shape.transitions) }
+    requires { Prepared s.now shape tables.now × (chart < most_charts) × (t < shape.transitions) }
     ensures { ((m : Moment) → moved_by result (taken t) states.new ages.new vars.new m ≡ followed (read_charts s.now) chart (run_in states.old ages.old vars.old events m) (some t)) × IsCode result }
 {
-    let after = do_actions(s, shape, first, next, t, vars, events);
+    let after = do_actions(s, shape, tables, t, vars, events);
     if 4294967295 < after {
         return after;
     }
@@ -115,14 +113,14 @@ fn follow(
 }
 
 // Whether a state's waiting actions are due; they have the milliseconds of the first. A state that the set does not have has none.
-fn is_due(s: &[u8], shape: Shape, first: &ActionHeads, state: u16, age: u32) -> bool
-    requires { Accepted s.now shape × HasFirsts s.now shape first.now }
+fn is_due(s: &[u8], shape: Shape, tables: &Tables, state: u16, age: u32) -> bool
+    requires { Prepared s.now shape tables.now }
     ensures { (result ≡ due (read_charts s.now) state age) × (result ≡ true → state < shape.states) }
 {
     if shape.states <= state {
         return false;
     }
-    let a = first[(WAITING_KEYS + state) as usize];
+    let a = tables.first[(WAITING_KEYS + state) as usize];
     if a == 65535 {
         return false;
     }
@@ -133,22 +131,20 @@ fn is_due(s: &[u8], shape: Shape, first: &ActionHeads, state: u16, age: u32) -> 
 fn wait(
     s: &[u8],
     shape: Shape,
-    first: &ActionHeads,
-    next: &ActionLinks,
+    tables: &Tables,
     state: u16,
     age: u32,
     vars: &mut Variables,
     events: u32,
 ) -> u64
-    requires { Accepted s.now shape × HasActions s.now shape first.now next.now }
+    requires { Prepared s.now shape tables.now }
     ensures { ((m : Moment) → world_by result vars.new m ≡ waited (read_charts s.now) state age (world_in vars.old events m)) × IsCode result }
 {
-    if is_due(s, shape, first, state, age) {
+    if is_due(s, shape, tables, state, age) {
         do_deeds(
             s,
             shape,
-            first,
-            next,
+            tables,
             WAITING_KEYS + state,
             EMPTY_KEY,
             EMPTY_KEY,
@@ -164,10 +160,7 @@ fn wait(
 fn step_in_place(
     s: &[u8],
     shape: Shape,
-    rows: &Rows,
-    ends: &Ends,
-    first: &ActionHeads,
-    next: &ActionLinks,
+    tables: &Tables,
     chart: u16,
     states: &mut Places,
     ages: &mut Ages,
@@ -175,22 +168,22 @@ fn step_in_place(
     events: u32,
     chosen: &mut u16,
 ) -> u64
-    requires { Prepared s.now shape rows.now ends.now first.now next.now × (chart < shape.charts) }
+    requires { Prepared s.now shape tables.now × (chart < shape.charts) }
     ensures { ((m : Moment) → moved_by result (answer_by chosen.new) states.new ages.new vars.new m ≡ chart_step (read_charts s.now) chart (run_in states.old ages.old vars.old events m)) × IsCode result }
 {
     let i = chart as usize;
     let state = states[i];
     let age = ages[i];
-    let t = first_that(s, shape, rows, ends, vars, events, age, state);
+    let t = first_that(s, shape, tables, vars, events, age, state);
     if 4294967295 < t {
         return t;
     }
     *chosen = t as u16;
     if t == 65535 {
-        return wait(s, shape, first, next, state, age, vars, events);
+        return wait(s, shape, tables, state, age, vars, events);
     }
     follow(
-        s, shape, first, next, chart, t as u16, states, ages, vars, events,
+        s, shape, tables, chart, t as u16, states, ages, vars, events,
     )
 }
 
@@ -198,10 +191,7 @@ fn step_in_place(
 pub fn turns_in_place(
     s: &[u8],
     shape: Shape,
-    rows: &Rows,
-    ends: &Ends,
-    first: &ActionHeads,
-    next: &ActionLinks,
+    tables: &Tables,
     from: u16,
     to: u16,
     states: &mut Places,
@@ -210,15 +200,13 @@ pub fn turns_in_place(
     events: u32,
     chosen: &mut u16,
 ) -> u64
-    requires { Prepared s.now shape rows.now ends.now first.now next.now × (from ≤ to) × (to ≤ shape.charts) }
+    requires { Prepared s.now shape tables.now × (from ≤ to) × (to ≤ shape.charts) }
     ensures { ((m : Moment) → moved_by result (answer_by chosen.new) states.new ages.new vars.new (onward (to - from) m)
         ≡ chart_turns (read_charts s.now) from (to - from) (answer_by chosen.old, run_in states.old ages.old vars.old events m)) × IsCode result }
 {
     let mut present = events;
     for chart in from..to {
-        let after = step_in_place(
-            s, shape, rows, ends, first, next, chart, states, ages, vars, present, chosen,
-        );
+        let after = step_in_place(s, shape, tables, chart, states, ages, vars, present, chosen);
         if 4294967295 < after {
             return after;
         }

@@ -4,12 +4,24 @@ ghost use Rattle.model.specs.Limits.{most_states, most_actions, most_priorities}
 ghost use Rattle.model.specs.ChartSet.{read_charts};
 ghost use Rattle.chart_records.specs.Accepted.{Accepted};
 ghost use Rattle.chart_steps.specs.Tables.{HasRows, HasEnds, HasActions, slot_at, action_keys};
+ghost use Rattle.chart_steps.specs.Prepared.{Prepared};
 
 use super::actions::key_of;
 use super::transitions::source_of;
 use chart_records::Shape;
 use chart_records::fields::priority_of;
-use records::sizes::{ActionHeads, ActionLinks, Ends, Rows};
+use records::sizes::{
+    ACTION_KEYS, ACTIONS, ActionHeads, ActionLinks, Ends, PRIORITIES, Rows, STATES,
+};
+
+// Of each state its leaving transitions and where its row ends; of each key its first action, and of each action the next of its key.
+#[derive(Drop)]
+pub struct Tables {
+    pub rows: Rows,
+    pub ends: Ends,
+    pub first: ActionHeads,
+    pub next: ActionLinks,
+}
 
 fn higher(a: u8, b: u8) -> u8
     ensures { result ≡ max a b }
@@ -52,4 +64,20 @@ pub fn fill_actions(s: &[u8], shape: Shape, first: &mut ActionHeads, next: &mut 
         next[i] = first[key];
         first[key] = a;
     }
+}
+
+pub fn tables_of(s: &[u8], shape: Shape) -> Tables
+    requires { Accepted s.now shape }
+    ensures { Prepared s.now shape result }
+{
+    let empty = [256u16; PRIORITIES];
+    let mut tables = Tables {
+        rows: [empty; STATES],
+        ends: [0u8; STATES],
+        first: [65535u16; ACTION_KEYS],
+        next: [65535u16; ACTIONS],
+    };
+    fill_rows(s, shape, &mut tables.rows, &mut tables.ends);
+    fill_actions(s, shape, &mut tables.first, &mut tables.next);
+    tables
 }

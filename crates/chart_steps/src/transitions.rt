@@ -31,7 +31,14 @@ pub fn target_of(s: &[u8], shape: Shape, t: u16) -> u16
 }
 
 // The trigger first, then the guard only if the trigger holds.
-pub fn holds(s: &[u8], shape: Shape, vars: &Variables, events: u32, age: u32, t: u16) -> Result<bool, Reason>
+pub fn holds(
+    s: &[u8],
+    shape: Shape,
+    vars: &Variables,
+    events: u32,
+    age: u32,
+    t: u16,
+) -> Result<bool, Reason>
     requires { Accepted s.now shape × (t < shape.transitions) }
     ensures { truth_of result ≡ transition_holds (read_charts s.now) (bare_world vars.now events) age t }
 {

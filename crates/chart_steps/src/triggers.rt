@@ -9,6 +9,7 @@ use records::u32_within;
 use timings::{after_holds, every_holds, ticks};
 
 // Of the transition that is record n.
+#[tactic(auto, unfolding(prelude::specs::Lists::case_of))]
 pub fn triggered(s: &[u8], n: usize, age: u32, events: u32) -> bool
     requires { (16 * n + 15 < length s.now) × Holdable (trigger_in s.now n) }
     ensures { result ≡ triggered (trigger_in s.now n) age events }

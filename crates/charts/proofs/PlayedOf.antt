@@ -20,7 +20,7 @@ use Rattle.answers.specs.Answers.{cycles_of}
 use Rattle.machines.specs.Playing.{played, stopped_at, playing, play_call}
 use Rattle.machines.proofs.Turns.{cycle-refused}
 use Rattle.machines.proofs.Playing as P
-use Rattle.answers.specs.declared.Cycles.TheVariants.{Done}
+use Rattle.std.specs.Prelude.{Ok}
 use Rattle.charts.specs.declared.plays.Played.{Played}
 use Rattle.machines.specs.Worlds.{moment, run_in}
 use Rattle.chart_runs.specs.RunOf.{run_of}
@@ -81,7 +81,7 @@ told-late : (n : ℕ) (q : Run) (o : Out (Unit {0})) → stopped_at (1 + n) q o 
 told-late n q (val u) = refl
 told-late n q (fault w) = ap (λ b. cond b (fault w) (val (1 + n, q))) (ne_eqb (1 + n) 0 (λ e. absurd (omega arith)))
 
-pub later-told : (m : Machine) (masks : List ℕ) (r p l : Run) → P.PlayedAfter m masks r 1 p → (x : Played) → x.answer ≡ Done (1 + (played m (drop 1 masks) p).count) → run_of x.run ≡ (played m (drop 1 masks) p).run →
+pub later-told : (m : Machine) (masks : List ℕ) (r p l : Run) → P.PlayedAfter m masks r 1 p → (x : Played) → x.answer ≡ Ok (1 + (played m (drop 1 masks) p).count) → run_of x.run ≡ (played m (drop 1 masks) p).run →
     played_of x ≡ settled l (playing m masks r)
 later-told m masks r p l went x a b =
     (λ i. record { answer = cycles_of (a i); lent = b i })

@@ -7,6 +7,7 @@ use native.Mathlib.Omega.{arith}
 use borrow.Author.Tests.{ltb-true, ltb-false}
 use lib.Dec.{ltb}
 use lib.IntN.{ℤ}
+use Rattle.std.specs.Prelude.{Result}
 use lib.ListN.{get_or}
 use Rattle.prelude.specs.Lists.{map_from}
 use Rattle.records.specs.Refusal.{Out, val, fault, ◌>>=◌}
@@ -17,7 +18,7 @@ use Rattle.chart_records.specs.declared.Shape.{Shape}
 use Rattle.chart_records.specs.Shape.{IsShape}
 use Rattle.chart_records.proofs.PlacesRead.{length-initial}
 use Rattle.machines.specs.Worlds.{Moment, moment, coded_fault, run_in}
-use Rattle.charts.specs.declared.plays.Progress.{Progress}
+use Rattle.answers.specs.declared.Reason.{Reason}
 use Rattle.machines.proofs.WorldsCodes.{coded-value, coded-fault}
 use Rattle.machines.proofs.Turns.{at_part, cycle-more, cycle-stop, cycle-end}
 use Rattle.chart_runs.specs.RunOf.{aged}
@@ -93,7 +94,7 @@ module _ (s : List ℕ) (sh : Shape) (is : IsShape s sh) where
     cycle-young h k l = let passed = (cycle-passed h).0 in omega (arith, passed.unfinished, passed.timers k l)
 
     -- time passes, unless a turn faulted
-    module _ (d : Progress) (ages' : List ℕ) (told : (q : Run) → ran_to d q ≡ ended_by code q) (grown : code ≤ 4_294_967_295 → ages' ≡ map_from 0 (aged sh.charts) ages) where
+    module _ (d : Result (Unit {0}) Reason) (ages' : List ℕ) (told : (q : Run) → ran_to d q ≡ ended_by code q) (grown : code ≤ 4_294_967_295 → ages' ≡ map_from 0 (aged sh.charts) ages) where
       pub cycle-closed : ran_to d (run_in states ages' vars 0 (moment 1 (m.cycles + 1))) ≡ after (charts (read_charts s)) (sh.charts + 2 - r.world.position) r
       cycle-closed = told (run_in states ages' vars 0 (moment 1 (m.cycles + 1))) ∙ go (ltb 4_294_967_295 code) refl
         where

@@ -13,8 +13,7 @@ use super::turns::turn;
 use answers::{Answer, Stop};
 use chart_records::Shape;
 use chart_runs::{Run, start};
-use chart_steps::tables::{fill_actions, fill_rows};
-use records::sizes::{ACTION_KEYS, ACTIONS, PRIORITIES, STATES};
+use chart_steps::tables::tables_of;
 
 // The answer of a call that is done or not, and the run after it.
 #[derive(Clone, Copy)]
@@ -40,17 +39,11 @@ pub fn cycle_by_turns(s: &[u8], shape: Shape, run: Run, events: u32) -> Called
     requires { Accepted s.now shape }
     ensures { called_of result ≡ settled (run_of run) (model-cycle (machine (read_charts s.now)) events (run_of run)) }
 {
-    let empty = [256u16; PRIORITIES];
-    let mut rows = [empty; STATES];
-    let mut ends = [0u8; STATES];
-    let mut first = [65535u16; ACTION_KEYS];
-    let mut next = [65535u16; ACTIONS];
-    fill_rows(s, shape, &mut rows, &mut ends);
-    fill_actions(s, shape, &mut first, &mut next);
+    let tables = tables_of(s, shape);
     let mut present = run;
     let mut given = events;
     loop {
-        let turned = turn(s, shape, &rows, &ends, &first, &next, present, given);
+        let turned = turn(s, shape, &tables, present, given);
         let answer = turned.answer;
         let after = turned.run;
         match answer {

@@ -20,13 +20,10 @@ use answers::{Reason, Stop};
 use chart_records::Shape;
 use chart_runs::{Run, before_turn, grow_ages, run_between_cycles};
 use chart_steps::steps::turns_in_place;
-use chart_steps::tables::{fill_actions, fill_rows};
+use chart_steps::tables::{Tables, tables_of};
 use machines::checks::events_given;
 use machines::deeds::reason_by;
-use records::sizes::{
-    ACTION_KEYS, ACTIONS, ActionHeads, ActionLinks, Ages, Ends, MOST_CYCLES, PRIORITIES, Places,
-    Rows, STATES, Variables,
-};
+use records::sizes::{Ages, MOST_CYCLES, Places, Variables};
 
 // How many cycles were done, or why not even the first was, and the run after them.
 #[derive(Clone, Copy)]
@@ -51,10 +48,7 @@ fn time_after(charts: u16, ages: &mut Ages, events: u64) -> Result<(), Reason>
 fn cycle_or_fault(
     s: &[u8],
     shape: Shape,
-    rows: &Rows,
-    ends: &Ends,
-    first: &ActionHeads,
-    next: &ActionLinks,
+    tables: &Tables,
     states: &mut Places,
     ages: &mut Ages,
     vars: &mut Variables,
@@ -62,7 +56,7 @@ fn cycle_or_fault(
     position: u32,
     cycles: u32,
 ) -> Result<(), Reason>
-    requires { Prepared s.now shape rows.now ends.now first.now next.now × Ready shape.charts (run_in states.old ages.old vars.old events (moment position cycles)) }
+    requires { Prepared s.now shape tables.now × Ready shape.charts (run_in states.old ages.old vars.old events (moment position cycles)) }
     ensures { ran_to result (run_in states.new ages.new vars.new 0 (moment 1 (cycles + 1))) ≡ after (machine (read_charts s.now)) (shape.charts + 2 - position) (run_in states.old ages.old vars.old events (moment position cycles)) }
 {
     let mut chosen: u16 = 65535;
@@ -70,10 +64,7 @@ fn cycle_or_fault(
     let after = turns_in_place(
         s,
         shape,
-        rows,
-        ends,
-        first,
-        next,
+        tables,
         from,
         shape.charts,
         states,
@@ -89,49 +80,41 @@ fn cycle_or_fault(
 fn cycle_or_none(
     s: &[u8],
     shape: Shape,
-    rows: &Rows,
-    ends: &Ends,
-    first: &ActionHeads,
-    next: &ActionLinks,
+    tables: &Tables,
     states: &mut Places,
     ages: &mut Ages,
     vars: &mut Variables,
     events: u32,
     cycles: u32,
 ) -> Result<(), Reason>
-    requires { Prepared s.now shape rows.now ends.now first.now next.now × (checked (machine (read_charts s.now)) events (run_in states.old ages.old vars.old 0 (moment 1 cycles)) ≡ val tt) }
+    requires { Prepared s.now shape tables.now × (checked (machine (read_charts s.now)) events (run_in states.old ages.old vars.old 0 (moment 1 cycles)) ≡ val tt) }
     ensures cycles_after { finish (ran_to result (run_in states.new ages.new vars.new 0 (moment 1 (cycles + 1)))) ≡ model-cycle (machine (read_charts s.now)) events (run_in states.old ages.old vars.old 0 (moment 1 cycles)) }
     ensures states_unchanged { (w : Reason) → result ≡ Err w → (states.new ≡ states.old) × (ages.new ≡ ages.old) × (vars.new ≡ vars.old) }
 {
     let states_before = *states;
     let ages_before = *ages;
     let vars_before = *vars;
-    let cycle = cycle_or_fault(
-        s, shape, rows, ends, first, next, states, ages, vars, events, 1, cycles,
-    );
-    if cycle.is_err() {
+    if let Err(w) = cycle_or_fault(s, shape, tables, states, ages, vars, events, 1, cycles) {
         *states = states_before;
         *ages = ages_before;
         *vars = vars_before;
+        return Err(w);
     }
-    cycle
+    Ok(())
 }
 
 // Cycles from a possible run at position 1, one for each mask, until one faults or none is left to do. Check 12 holds after each that is done, so it is not made again.
 fn further_cycles(
     s: &[u8],
     shape: Shape,
-    rows: &Rows,
-    ends: &Ends,
-    first: &ActionHeads,
-    next: &ActionLinks,
+    tables: &Tables,
     states: &mut Places,
     ages: &mut Ages,
     vars: &mut Variables,
     cycles: u32,
     masks: &[u32],
 ) -> u32
-    requires { Prepared s.now shape rows.now ends.now first.now next.now × T (possible (machine (read_charts s.now)) (run_in states.old ages.old vars.old 0 (moment 1 cycles))) }
+    requires { Prepared s.now shape tables.now × T (possible (machine (read_charts s.now)) (run_in states.old ages.old vars.old 0 (moment 1 cycles))) }
     ensures { ((played (machine (read_charts s.now)) masks.now (run_in states.old ages.old vars.old 0 (moment 1 cycles))).count ≡ result)
         × ((played (machine (read_charts s.now)) masks.now (run_in states.old ages.old vars.old 0 (moment 1 cycles))).run ≡ run_in states.new ages.new vars.new 0 (moment 1 (cycles + result))) }
 {
@@ -140,29 +123,17 @@ fn further_cycles(
         if done == MOST_CYCLES {
             return done - cycles;
         }
-        let cycle = cycle_or_none(
-            s, shape, rows, ends, first, next, states, ages, vars, *mask, done,
-        );
-        if cycle.is_err() {
-            return done - cycles;
+        match cycle_or_none(s, shape, tables, states, ages, vars, *mask, done) {
+            Err(_) => return done - cycles,
+            Ok(()) => done += 1,
         }
-        done += 1;
     }
     done - cycles
 }
 
 // The first cycle led to this run.
-fn play_further(
-    s: &[u8],
-    shape: Shape,
-    rows: &Rows,
-    ends: &Ends,
-    first: &ActionHeads,
-    next: &ActionLinks,
-    run: Run,
-    masks: &[u32],
-) -> Played
-    requires { Prepared s.now shape rows.now ends.now first.now next.now × T (possible (machine (read_charts s.now)) (run_of run)) × (run.position ≡ 1) }
+fn play_further(s: &[u8], shape: Shape, tables: &Tables, run: Run, masks: &[u32]) -> Played
+    requires { Prepared s.now shape tables.now × T (possible (machine (read_charts s.now)) (run_of run)) × (run.position ≡ 1) }
     ensures { (result.answer ≡ Ok (1 + (played (machine (read_charts s.now)) masks.now (run_of run)).count))
         × (run_of result.run ≡ (played (machine (read_charts s.now)) masks.now (run_of run)).run) }
 {
@@ -173,10 +144,7 @@ fn play_further(
     let count = further_cycles(
         s,
         shape,
-        rows,
-        ends,
-        first,
-        next,
+        tables,
         &mut states,
         &mut ages,
         &mut variables,
@@ -190,17 +158,8 @@ fn play_further(
 }
 
 // The first cycle, of a run that passed the checks and has its events, and then the others.
-fn play_from_first(
-    s: &[u8],
-    shape: Shape,
-    rows: &Rows,
-    ends: &Ends,
-    first: &ActionHeads,
-    next: &ActionLinks,
-    run: Run,
-    masks: &[u32],
-) -> Played
-    requires { Prepared s.now shape rows.now ends.now first.now next.now × (0 < length masks.now) × (checked (machine (read_charts s.now)) (get_or masks.now 0 0) (run_of run) ≡ val tt) }
+fn play_from_first(s: &[u8], shape: Shape, tables: &Tables, run: Run, masks: &[u32]) -> Played
+    requires { Prepared s.now shape tables.now × (0 < length masks.now) × (checked (machine (read_charts s.now)) (get_or masks.now 0 0) (run_of run) ≡ val tt) }
     ensures { played_of result ≡ settled (run_of run) (playing (machine (read_charts s.now)) masks.now (run_of run)) }
 {
     let mut states = run.states;
@@ -210,10 +169,7 @@ fn play_from_first(
     match cycle_or_fault(
         s,
         shape,
-        rows,
-        ends,
-        first,
-        next,
+        tables,
         &mut states,
         &mut ages,
         &mut variables,
@@ -227,37 +183,25 @@ fn play_from_first(
         },
         Ok(()) => {
             let after = run_between_cycles(states, ages, variables, run.cycles + 1);
-            play_further(s, shape, rows, ends, first, next, after, &masks[1..])
+            play_further(s, shape, tables, after, &masks[1..])
         }
     }
 }
 
 // Cycles, one for each mask, until one is refused or faults: that is told only of the first.
-fn play_with_tables(
-    s: &[u8],
-    shape: Shape,
-    rows: &Rows,
-    ends: &Ends,
-    first: &ActionHeads,
-    next: &ActionLinks,
-    run: Run,
-    masks: &[u32],
-) -> Played
-    requires { Prepared s.now shape rows.now ends.now first.now next.now }
+fn play_with_tables(s: &[u8], shape: Shape, tables: &Tables, run: Run, masks: &[u32]) -> Played
+    requires { Prepared s.now shape tables.now }
     ensures { played_of result ≡ settled (run_of run) (playing (machine (read_charts s.now)) masks.now (run_of run)) }
 {
     if masks.len() == 0 {
-        return Played {
-            answer: Ok(0),
-            run,
-        };
+        return Played { answer: Ok(0), run };
     }
     match before_turn(s, shape, run, masks[0]) {
         Err(w) => Played {
             answer: Err(Stop::Refused(w)),
             run,
         },
-        Ok(()) => play_from_first(s, shape, rows, ends, first, next, run, masks),
+        Ok(()) => play_from_first(s, shape, tables, run, masks),
     }
 }
 
@@ -266,12 +210,6 @@ pub fn play_in_place(s: &[u8], shape: Shape, run: Run, masks: &[u32]) -> Played
     requires { Accepted s.now shape }
     ensures { played_of result ≡ settled (run_of run) (playing (machine (read_charts s.now)) masks.now (run_of run)) }
 {
-    let empty = [256u16; PRIORITIES];
-    let mut rows = [empty; STATES];
-    let mut ends = [0u8; STATES];
-    let mut first = [65535u16; ACTION_KEYS];
-    let mut next = [65535u16; ACTIONS];
-    fill_rows(s, shape, &mut rows, &mut ends);
-    fill_actions(s, shape, &mut first, &mut next);
-    play_with_tables(s, shape, &rows, &ends, &first, &next, run, masks)
+    let tables = tables_of(s, shape);
+    play_with_tables(s, shape, &tables, run, masks)
 }

@@ -17,12 +17,9 @@ use answers::Answer;
 use chart_records::Shape;
 use chart_runs::{Run, before_turn, give, time_passed};
 use chart_steps::steps::turns_in_place;
-use chart_steps::tables::{fill_actions, fill_rows};
+use chart_steps::tables::{Tables, tables_of};
 use machines::deeds::reason_by;
-use records::sizes::{
-    ACTION_KEYS, ACTIONS, ActionHeads, ActionLinks, Ages, Ends, PRIORITIES, Places, Rows, STATES,
-    Variables,
-};
+use records::sizes::{Ages, Places, Variables};
 
 // A turn's answer, and the run after it.
 #[derive(Clone, Copy)]
@@ -75,17 +72,8 @@ fn chart_turned(
 }
 
 // A chart's turn: in place, on a copy of the run's places.
-fn chart_turn(
-    s: &[u8],
-    shape: Shape,
-    rows: &Rows,
-    ends: &Ends,
-    first: &ActionHeads,
-    next: &ActionLinks,
-    lent: Run,
-    run: Run,
-) -> Turned
-    requires prepared { Prepared s.now shape rows.now ends.now first.now next.now }
+fn chart_turn(s: &[u8], shape: Shape, tables: &Tables, lent: Run, run: Run) -> Turned
+    requires prepared { Prepared s.now shape tables.now }
     requires ready { Ready shape.charts (run_of run) }
     requires position_le_charts { run.position ≤ shape.charts }
     ensures { turn_of result ≡ settled (run_of lent) (stepped (machine (read_charts s.now)) (run_of run)) }
@@ -98,10 +86,7 @@ fn chart_turn(
     let after = turns_in_place(
         s,
         shape,
-        rows,
-        ends,
-        first,
-        next,
+        tables,
         chart,
         chart + 1,
         &mut states,
@@ -123,22 +108,13 @@ fn chart_turn(
 }
 
 // The turn of the present position: a chart's, or time's.
-fn turn_taken(
-    s: &[u8],
-    shape: Shape,
-    rows: &Rows,
-    ends: &Ends,
-    first: &ActionHeads,
-    next: &ActionLinks,
-    lent: Run,
-    run: Run,
-) -> Turned
-    requires prepared { Prepared s.now shape rows.now ends.now first.now next.now }
+fn turn_taken(s: &[u8], shape: Shape, tables: &Tables, lent: Run, run: Run) -> Turned
+    requires prepared { Prepared s.now shape tables.now }
     requires ready { Ready shape.charts (run_of run) }
     ensures { turn_of result ≡ settled (run_of lent) (stepped (machine (read_charts s.now)) (run_of run)) }
 {
     if run.position <= (shape.charts as u32) {
-        chart_turn(s, shape, rows, ends, first, next, lent, run)
+        chart_turn(s, shape, tables, lent, run)
     } else {
         let run = time_passed(shape.charts, run);
         Turned {
@@ -149,17 +125,8 @@ fn turn_taken(
 }
 
 // A turn of an accepted set: what is checked before it, then the turn. Where it is refused or faults the run is the one that was given.
-pub fn turn(
-    s: &[u8],
-    shape: Shape,
-    rows: &Rows,
-    ends: &Ends,
-    first: &ActionHeads,
-    next: &ActionLinks,
-    run: Run,
-    events: u32,
-) -> Turned
-    requires { Prepared s.now shape rows.now ends.now first.now next.now }
+pub fn turn(s: &[u8], shape: Shape, tables: &Tables, run: Run, events: u32) -> Turned
+    requires { Prepared s.now shape tables.now }
     ensures { turn_of result ≡ settled (run_of run) (model-turn (machine (read_charts s.now)) events (run_of run)) }
 {
     match before_turn(s, shape, run, events) {
@@ -169,7 +136,7 @@ pub fn turn(
         },
         Ok(()) => {
             let given = give(run, events);
-            turn_taken(s, shape, rows, ends, first, next, run, given)
+            turn_taken(s, shape, tables, run, given)
         }
     }
 }
@@ -179,12 +146,6 @@ pub fn one_turn(s: &[u8], shape: Shape, run: Run, events: u32) -> Turned
     requires { Accepted s.now shape }
     ensures { turn_of result ≡ settled (run_of run) (model-turn (machine (read_charts s.now)) events (run_of run)) }
 {
-    let empty = [256u16; PRIORITIES];
-    let mut rows = [empty; STATES];
-    let mut ends = [0u8; STATES];
-    let mut first = [65535u16; ACTION_KEYS];
-    let mut next = [65535u16; ACTIONS];
-    fill_rows(s, shape, &mut rows, &mut ends);
-    fill_actions(s, shape, &mut first, &mut next);
-    turn(s, shape, &rows, &ends, &first, &next, run, events)
+    let tables = tables_of(s, shape);
+    turn(s, shape, &tables, run, events)
 }

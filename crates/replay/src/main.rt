@@ -8,14 +8,12 @@ ghost use Rattle.chart_steps.specs.Prepared.{Prepared};
 use chart_files::check;
 use chart_records::Shape;
 use chart_runs::{Run, start};
-use chart_steps::tables::{fill_actions, fill_rows};
+use chart_steps::tables::{Tables, tables_of};
 use messages::files::refuse_set;
 use messages::host::Host;
 use messages::input::{Form, NAME_ROOM, argument, argument_count, arguments, fill, read_file};
 use messages::words::{or_tell, print, tell_stop};
-use records::sizes::{
-    ACTION_KEYS, ACTIONS, ActionHeads, ActionLinks, Ends, FILE_ROOM, PRIORITIES, Rows, STATES,
-};
+use records::sizes::FILE_ROOM;
 use replays::sets::cycle_into;
 use std::io::Read;
 
@@ -24,17 +22,14 @@ fn play_mask(
     rt: &impl Host,
     s: &[u8],
     shape: Shape,
-    rows: &Rows,
-    ends: &Ends,
-    first: &ActionHeads,
-    next: &ActionLinks,
+    tables: &Tables,
     run: Run,
     mask: u32,
 ) -> Option<Run>
-    requires { Prepared s.now shape rows.now ends.now first.now next.now }
+    requires { Prepared s.now shape tables.now }
 {
     let mut text = [0u8; NAME_ROOM];
-    let lined = cycle_into(s, shape, rows, ends, first, next, run, mask, &mut text);
+    let lined = cycle_into(s, shape, tables, run, mask, &mut text);
     let size = lined.size;
     if !print(rt, &text[..size]) {
         return None;
@@ -53,13 +48,10 @@ fn play_next(
     input: &mut impl Read,
     s: &[u8],
     shape: Shape,
-    rows: &Rows,
-    ends: &Ends,
-    first: &ActionHeads,
-    next: &ActionLinks,
+    tables: &Tables,
     run: Run,
 ) -> Option<Run>
-    requires { Prepared s.now shape rows.now ends.now first.now next.now }
+    requires { Prepared s.now shape tables.now }
 {
     let mut four = [0u8; 4];
     let size = or_tell(rt, b"standard input", fill(input, &mut four))?;
@@ -67,25 +59,17 @@ fn play_next(
         return None;
     }
     let mask = records::u32_at(&four, 0);
-    play_mask(rt, s, shape, rows, ends, first, next, run, mask)
+    play_mask(rt, s, shape, tables, run, mask)
 }
 
 // Refusal 14 ends any replay long before the count of turns does.
-fn play(
-    rt: &impl Host,
-    s: &[u8],
-    shape: Shape,
-    rows: &Rows,
-    ends: &Ends,
-    first: &ActionHeads,
-    next: &ActionLinks,
-)
-    requires { Prepared s.now shape rows.now ends.now first.now next.now }
+fn play(rt: &impl Host, s: &[u8], shape: Shape, tables: &Tables)
+    requires { Prepared s.now shape tables.now }
 {
     let mut input = rt.reader();
     let mut run = start(s, shape);
     for _ in 0..u64::MAX {
-        let Some(after) = play_next(rt, &mut input, s, shape, rows, ends, first, next, run) else {
+        let Some(after) = play_next(rt, &mut input, s, shape, tables, run) else {
             return
         };
         run = after;
@@ -97,14 +81,8 @@ fn play_file(rt: &impl Host, s: &[u8]) {
     match check(s) {
         Err(w) => refuse_set(rt, s, w),
         Ok(shape) => {
-            let empty = [256u16; PRIORITIES];
-            let mut rows = [empty; STATES];
-            let mut ends = [0u8; STATES];
-            let mut first = [65535u16; ACTION_KEYS];
-            let mut next = [65535u16; ACTIONS];
-            fill_rows(s, shape, &mut rows, &mut ends);
-            fill_actions(s, shape, &mut first, &mut next);
-            play(rt, s, shape, &rows, &ends, &first, &next);
+            let tables = tables_of(s, shape);
+            play(rt, s, shape, &tables);
         }
     }
 }

@@ -14,8 +14,8 @@ use super::parts::tell;
 use answers::{Answer, Stop};
 use chart_records::Shape;
 use chart_runs::Run;
+use chart_steps::tables::Tables;
 use charts::turns::turn;
-use records::sizes::{ActionHeads, ActionLinks, Ends, Rows};
 
 // The length of the lines written, how the cycle ended, and the run after it.
 #[derive(Clone, Copy)]
@@ -30,15 +30,12 @@ pub struct ReplayedCycle {
 pub fn cycle_into(
     s: &[u8],
     shape: Shape,
-    rows: &Rows,
-    ends: &Ends,
-    first: &ActionHeads,
-    next: &ActionLinks,
+    tables: &Tables,
     run: Run,
     events: u32,
     out: &mut [u8],
 ) -> ReplayedCycle
-    requires { Prepared s.now shape rows.now ends.now first.now next.now }
+    requires { Prepared s.now shape tables.now }
     ensures begins { Begins out.old (trace_lines (read_charts s.now) (trace (machine (read_charts s.now)) (whole_cycle events) (run_of run))) out.new result.size }
     ensures size_bound { result.size ≤ 3856 }
     ensures result_value { replayed_cycle_of result ≡ settled (run_of run) (model-cycle (machine (read_charts s.now)) events (run_of run)) }
@@ -47,7 +44,7 @@ pub fn cycle_into(
     let mut given = events;
     let mut size: usize = 0;
     loop {
-        let turned = turn(s, shape, rows, ends, first, next, present, given);
+        let turned = turn(s, shape, tables, present, given);
         let answer = turned.answer;
         let after = turned.run;
         match answer {

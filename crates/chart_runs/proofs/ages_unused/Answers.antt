@@ -1,22 +1,8 @@
-use mathlib.Core.Path.{sym}
-use native.Mathlib.Omega.{arith}
-use borrow.Author.Tests.{eq-eqb, ne_eqb}
+use borrow.Author.Rules.{rules}
 use lib.Dec.{eqb}
-use Rattle.prelude.proofs.Behind.{behind_more, behind-not, behind-all}
+use Rattle.std.proofs.Common.{tests}
+use Rattle.machines.proofs.Rests.{all_behind}
 use Rattle.chart_runs.proofs.ages_unused.Goals as goal
 
-pub returns-then-ages-k-ne0 : goal.returns-then-ages-k-ne0
-returns-then-ages-k-ne0 c =
-    let a = c.args in
-    sym (behind-not (λ x. eqb x 0) 0 a.charts a.ages c.loop-k.k c.loop-k.invariant.1 (omega arith) (ne_eqb _ 0 c.if-ages-k-ne0.true))
-
-pub loop-k-preserved : goal.loop-k-preserved
-loop-k-preserved c =
-    let a = c.args in
-    let l = c.loop-k in
-    (l.invariant.0, behind_more (λ x. eqb x 0) 0 a.charts a.ages l.k l.invariant.1 (omega arith) (eq-eqb _ 0 c.if-ages-k-ne0.false))
-
 pub returns : goal.returns
-returns c =
-    let a = c.args in
-    sym (behind-all (λ x. eqb x 0) 0 a.charts a.ages c.loop-k.k c.loop-k.invariant.1 (omega arith))
+returns c = all_behind (λ x. eqb x 0) c.args.charts c.args.ages _ _ _ c.all.ensures.ran (search rules) (search rules) (λ x b q k. search (rules, tests))

@@ -1,9 +1,7 @@
-use Prim.Native.Nat.{◌+◌, ◌-◌, ◌≤◌}
-use Rattle.chart_runs.proofs.RunOfAges.{Renewed}
+use Prim.Native.Nat.{◌+◌}
+use lib.ListN.{get_or}
+use Rattle.prelude.proofs.Filled.{Filled}
 use Rattle.chart_runs.proofs.grow_ages.Given as goal
 
 abbrev pub invariant-loop-k : goal.invariant-loop-k
-invariant-loop-k l = (l.k ≤ l.charts) × Renewed (λ age. age + 1) l.initial.ages l.ages l.k
-
-abbrev pub decreases-loop-k : goal.decreases-loop-k
-decreases-loop-k l = l.charts - l.k
+invariant-loop-k l = Filled (λ j. get_or l.initial.ages j 0 + 1) 0 l.initial.ages l.ages l.k

@@ -1,4 +1,3 @@
-use Prim.Native.Nat.{◌-◌}
 use Rattle.model.specs.ChartSet.{read_charts}
 use Rattle.model.specs.Charts.{transition_holds}
 use Rattle.machines.specs.Worlds.{bare_world}
@@ -7,6 +6,3 @@ use Rattle.chart_steps.proofs.steps.first_that.Given as goal
 
 abbrev pub invariant-loop-j : goal.invariant-loop-j
 invariant-loop-j l = Tried (read_charts l.s) l.state (transition_holds (read_charts l.s) (bare_world l.vars l.events) l.age) l.j
-
-abbrev pub decreases-loop-j : goal.decreases-loop-j
-decreases-loop-j l = 16 - l.j

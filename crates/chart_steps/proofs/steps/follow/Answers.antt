@@ -19,7 +19,7 @@ returns c = (
       moved_value f.result (taken x.t) (entered r x.chart c.target_of.result w).at (entered r x.chart c.target_of.result w).timers f.new.vars m fine
       ∙ follow-taken (read_charts x.s.now) x.chart r x.t w
       (sym (world-value f.result f.new.vars m fine) ∙ f.ensures.0 m)
-      c.target_of.result (c.target_of.ensures ∙ sym (ap (λ u. u.target) (transition-is x.s.now x.shape c.requires.0.shape x.t c.requires.3)))
+      c.target_of.result (c.target_of.ensures ∙ sym (ap (λ u. u.target) (transition-is x.s.now x.shape c.requires.0.accepted.shape x.t c.requires.2)))
       (entered r x.chart c.target_of.result w) refl,
   c.do_actions-after.ensures.1,
 )

@@ -18,4 +18,4 @@ follow-requires c =
     let few-charts : c.args.chart < 8 = omega (arith, c.requires.1, most-charts c.args.s.now c.args.shape c.requires.0.accepted.shape) in
     let small : c.first_that-t.result ≤ 65535 = c.first_that-t.ensures.1.small c.if-t-gt4294967295.false in
     let one-chosen : c.first_that-t.result < 65535 = let holds = c.if-t-eq65535.false in omega (arith, holds, small) in
-    (c.requires.0.accepted, c.requires.0.has_actions, few-charts, c.first_that-t.ensures.1.known one-chosen)
+    (c.requires.0, few-charts, c.first_that-t.ensures.1.known one-chosen)

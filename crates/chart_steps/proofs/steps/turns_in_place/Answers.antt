@@ -14,7 +14,7 @@ returns-then-after-gt4294967295 c = (
       let l = c.loop-chart in
       let f = c.step_in_place-after in
       let more = c.loop-chart-test.true in
-      left-fault (read_charts x.s.now) x.from x.to (answer_by x.chosen.now) x.states.now x.ages.now x.vars.now x.events l.chart (answer_by l.chosen) l.states l.ages l.vars l.present l.invariant.3
+      left-fault (read_charts x.s.now) x.from x.to (answer_by x.chosen.now) x.states.now x.ages.now x.vars.now x.events l.chart (answer_by l.chosen) l.states l.ages l.vars l.present l.invariant.1
       f.result (answer_by f.new.chosen) f.new.states f.new.ages f.new.vars f.ensures.0 more c.if-after-gt4294967295.true m (onward (x.to - x.from) m),
   c.step_in_place-after.ensures.1,
 )
@@ -26,12 +26,11 @@ loop-chart-preserved c =
     let f = c.step_in_place-after in
     let more = c.loop-chart-test.true in
     let fine = c.if-after-gt4294967295.false in
-    let begun = l.invariant.1 in
-    (fine, omega (arith, begun), omega (arith, more), left-more (read_charts x.s.now) x.from x.to (answer_by x.chosen.now) x.states.now x.ages.now x.vars.now x.events l.chart (answer_by l.chosen) l.states l.ages l.vars l.present l.invariant.3 f.result (answer_by f.new.chosen) f.new.states f.new.ages f.new.vars f.ensures.0 more begun fine)
+    (fine, left-more (read_charts x.s.now) x.from x.to (answer_by x.chosen.now) x.states.now x.ages.now x.vars.now x.events l.chart (answer_by l.chosen) l.states l.ages l.vars l.present l.invariant.1 f.result (answer_by f.new.chosen) f.new.states f.new.ages f.new.vars f.ensures.0 more (omega arith) fine)
 
 pub returns : goal.returns
 returns c =
     let x = c.args in
     let l = c.loop-chart in
     let past = c.loop-chart-test.false in
-    (left-none (read_charts x.s.now) x.from x.to (answer_by x.chosen.now) x.states.now x.ages.now x.vars.now x.events l.chart (answer_by l.chosen) l.states l.ages l.vars l.present l.invariant.3 (omega (arith, past, l.invariant.2)) l.invariant.0, is_code l.present l.invariant.0)
+    (left-none (read_charts x.s.now) x.from x.to (answer_by x.chosen.now) x.states.now x.ages.now x.vars.now x.events l.chart (answer_by l.chosen) l.states l.ages l.vars l.present l.invariant.1 (omega (arith, past)) l.invariant.0, is_code l.present l.invariant.0)

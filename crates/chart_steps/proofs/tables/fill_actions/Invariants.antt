@@ -7,6 +7,3 @@ use Rattle.chart_steps.proofs.tables.fill_actions.Given as goal
 
 abbrev pub invariant-loop-a : goal.invariant-loop-a
 invariant-loop-a l = Chains (key_at l.s l.shape) action_keys most_actions l.shape.actions l.first l.next l.a × (drop l.shape.actions l.next ≡ drop l.shape.actions l.initial.next)
-
-abbrev pub decreases-loop-a : goal.decreases-loop-a
-decreases-loop-a l = l.a

@@ -1,7 +1,6 @@
 use mathlib.Core.Path.{◌≡◌}
-use Prim.Native.Nat.{◌+◌, ◌-◌}
+use Prim.Native.Nat.{◌+◌}
 use lib.Dec.{T}
-use lib.ListN.{length}
 use Rattle.model.specs.Runs.{possible}
 use Rattle.model.specs.ChartSet.{read_charts}
 use Rattle.model.specs.Charts.{charts}
@@ -9,10 +8,7 @@ use Rattle.machines.proofs.Playing.{PlayedAfter}
 use Rattle.machines.specs.Worlds.{moment, run_in}
 use Rattle.charts.proofs.plays.further_cycles.Given as goal
 
-abbrev pub invariant-loop-k : goal.invariant-loop-k
-invariant-loop-k l = PlayedAfter (charts (read_charts l.s)) l.masks (run_in l.initial.states l.initial.ages l.initial.vars 0 (moment 1 l.cycles)) l.k (run_in l.states l.ages l.vars 0 (moment 1 l.done))
-    × (l.done ≡ l.cycles + l.k)
+abbrev pub invariant-loop-mask : goal.invariant-loop-mask
+invariant-loop-mask l = PlayedAfter (charts (read_charts l.s)) l.masks (run_in l.initial.states l.initial.ages l.initial.vars 0 (moment 1 l.cycles)) l.mask-index (run_in l.states l.ages l.vars 0 (moment 1 l.done))
+    × (l.done ≡ l.cycles + l.mask-index)
     × T (possible (charts (read_charts l.s)) (run_in l.states l.ages l.vars 0 (moment 1 l.done)))
-
-abbrev pub decreases-loop-k : goal.decreases-loop-k
-decreases-loop-k l = length l.masks - l.k

@@ -5,7 +5,7 @@ use Rattle.model.specs.ChartSet.{read_charts}
 use Rattle.model.specs.Charts.{charts}
 use Rattle.machines.specs.Playing.{played}
 use Rattle.machines.proofs.Playing.{most-played}
-use Rattle.answers.specs.declared.Cycles.TheVariants.{Done}
+use Rattle.std.specs.Prelude.{Ok}
 use Rattle.machines.specs.Worlds.{moment, run_in}
 use Rattle.chart_runs.specs.RunOf.{run_of}
 use Rattle.charts.proofs.PlayedOf.{count_kept, few-cycles, no-events}
@@ -25,6 +25,6 @@ pub returns : goal.returns
 returns c =
     let r = c.args.run in
     let rests : run_of r ≡ run_in r.states r.ages r.variables 0 (moment 1 r.cycles) = λ i. run_in r.states r.ages r.variables (no-events (charts (read_charts c.args.s.now)) (run_of r) c.requires.1 c.requires.2 i) (moment (c.requires.2 i) r.cycles) in (
-      ap (λ n. Done (1 + n)) (sym (ap (λ q. (played (charts (read_charts c.args.s.now)) c.args.masks.now q).count) rests ∙ c.further_cycles-count.ensures.0)),
+      ap (λ n. Ok (1 + n)) (sym (ap (λ q. (played (charts (read_charts c.args.s.now)) c.args.masks.now q).count) rests ∙ c.further_cycles-count.ensures.0)),
       c.run_between_cycles.ensures ∙ sym (ap (λ q. (played (charts (read_charts c.args.s.now)) c.args.masks.now q).run) rests ∙ c.further_cycles-count.ensures.1),
     )

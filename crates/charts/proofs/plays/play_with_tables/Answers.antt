@@ -17,9 +17,9 @@ returns-then-masks-eq0 c =
     let none_left = c.if-masks-eq0.true in
     sym (ap (λ p. settled (run_of c.args.run) (stopped_at p.count p.run p.stop)) (played_after-all (charts (read_charts c.args.s.now)) c.args.masks.now (run_of c.args.run) 0 (run_of c.args.run) (omega (arith, none_left)) (played_after-none (charts (read_charts c.args.s.now)) c.args.masks.now (run_of c.args.run))))
 
-pub returns-in-Refused : goal.returns-in-Refused
-returns-in-Refused c =
+pub returns-in-Err : goal.returns-in-Err
+returns-in-Err c =
     let some_left = c.if-masks-eq0.false in
     let m = charts (read_charts c.args.s.now) in
-    let failed = cycle-refused m (get_or c.args.masks.now 0 0) (run_of c.args.run) (refusal_of c.in-Refused.w) (sym c.before_turn.ensures ∙ ap before_of c.in-Refused.is) in
-    sym (ap (λ p. settled (run_of c.args.run) (stopped_at p.count p.run p.stop)) (played_after-stop m c.args.masks.now (run_of c.args.run) 0 (run_of c.args.run) (refusal_of c.in-Refused.w) (omega (arith, some_left)) (played_after-none m c.args.masks.now (run_of c.args.run)) failed))
+    let failed = cycle-refused m (get_or c.args.masks.now 0 0) (run_of c.args.run) (refusal_of c.in-Err.w) (sym c.before_turn.ensures ∙ ap before_of c.in-Err.is) in
+    sym (ap (λ p. settled (run_of c.args.run) (stopped_at p.count p.run p.stop)) (played_after-stop m c.args.masks.now (run_of c.args.run) 0 (run_of c.args.run) (refusal_of c.in-Err.w) (omega (arith, some_left)) (played_after-none m c.args.masks.now (run_of c.args.run)) failed))

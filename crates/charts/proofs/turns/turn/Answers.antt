@@ -11,5 +11,5 @@ use Rattle.charts.proofs.turns.turn.Goals as goal
 
 pub turn_taken-requires-clause-ready : goal.turn_taken-requires-clause-ready
 turn_taken-requires-clause-ready c =
-    let passed : checked (charts (read_charts c.args.s.now)) c.args.events (run_of c.args.run) ≡ val tt = sym c.before_turn.ensures ∙ ap before_of c.in-Passed.is in
+    let passed : checked (charts (read_charts c.args.s.now)) c.args.events (run_of c.args.run) ≡ val tt = sym c.before_turn.ensures ∙ ap before_of c.in-Ok.is in
     subst (Ready c.args.shape.charts) (sym c.give-given.ensures) (ready c.args.s.now c.args.shape c.requires.accepted.shape c.args.events (run_of c.args.run) passed)
