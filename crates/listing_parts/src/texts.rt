@@ -13,6 +13,7 @@ pub fn put_word(out: &mut [u8], at: usize, word: &[u8]) -> usize
     put_text(out, at, word)
 }
 
+#[tactic(auto, using(lines::proofs::Digits::decimal_of_32_bits))]
 fn put_number(out: &mut [u8], at: usize, n: u32) -> usize
     requires { at < 2 ^ 21 }
     ensures { WroteNear 10 out.old at (decimal n) out.new result }
