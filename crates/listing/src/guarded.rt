@@ -13,6 +13,7 @@ use guard_writer::trees::put_tree;
 use listing_parts::texts::{put_named, put_word};
 use records::{byte_at, u16_at};
 
+#[tactic(auto, unfolding(prelude::specs::Lists::case_of))]
 fn guard_of(r: &[u8]) -> Option<u16>
     ensures { guard_for result ≡ guard_of r.now }
 {

@@ -25,6 +25,7 @@ use tables::{
 };
 
 // By the record's kind.
+#[tactic(auto, unfolding(prelude::specs::Lists::case_of))]
 fn put_fields(out: &mut [u8], i: u32, r: &[u8]) -> usize
     ensures { WroteNear 256 out.old 0 (record_text i r.now) out.new result }
 {

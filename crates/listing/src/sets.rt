@@ -24,6 +24,7 @@ pub fn put_state(out: &mut [u8], i: u32, r: &[u8]) -> usize
     put_named(out, next, b": chart ", one(r, 1))
 }
 
+#[tactic(auto, unfolding(prelude::specs::Lists::case_of))]
 fn put_trigger(out: &mut [u8], at: usize, r: &[u8]) -> usize
     requires { at < 2 ^ 18 }
     ensures { WroteNear 52 out.old at (trigger_text (read_transition r.now).trigger) out.new result }

@@ -56,6 +56,7 @@ fn put_sign(out: &mut [u8], at: usize, sign: u8) -> usize
     }
 }
 
+#[tactic(auto, unfolding(prelude::specs::Lists::case_of))]
 fn put_literal_trigger(out: &mut [u8], at: usize, r: &[u8]) -> usize
     requires { at < 2 ^ 18 }
     ensures { WroteNear 32 out.old at (literal_trigger_text (read_literal r.now).1.trigger) out.new result }
@@ -77,6 +78,7 @@ pub fn put_literal(out: &mut [u8], i: u32, r: &[u8]) -> usize
     put_guard(out, guard, u16_at(r, 8))
 }
 
+#[tactic(auto, unfolding(prelude::specs::Lists::case_of))]
 fn put_timing(out: &mut [u8], at: usize, r: &[u8]) -> usize
     requires { at < 2 ^ 18 }
     ensures { WroteNear 52 out.old at (timing_text (read_clock r.now).timing (twoBytes r.now 2)) out.new result }
