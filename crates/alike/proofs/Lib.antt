@@ -1,2 +1,3 @@
 -- Laws that the proofs of several functions use, and that crates above cite.
 pub mod Alike
+mod Same

@@ -12,6 +12,8 @@ use Rattle.prelude.proofs.Bools.{of-true, both_of}
 use lib.ListN.{length, get_or, drop, drop_of_length-le}
 use lib.Seq.{drop-cons}
 use Rattle.prelude.specs.Lists.{all, map_from}
+use Rattle.std.specs.Prelude.{Result}
+use Rattle.records.specs.declared.refusals.Refusal as of-code
 use Rattle.records.specs.Refusal.{Refusal, short_buffer, Out, val, fault, ◌>>◌, fault_if, unless_refused}
 use Rattle.model.specs.Outcome.{settled}
 use Rattle.model.specs.Runs.{Run, Call, start}
@@ -30,7 +32,6 @@ use Rattle.model.proofs.TranslationAccepted.{twin-accepted}
 use Rattle.automata_records.specs.declared.Shape.{Shape}
 use Rattle.automata_records.proofs.PlacesRead.{length-initial}
 use Rattle.automata_records.specs.Accepted.{Accepted}
-use Rattle.translation.specs.declared.Translated.{Translated}
 use Rattle.translation.specs.Answer.{translated_of}
 use Rattle.alike.specs.Alike.{call_for, is_turn}
 use Rattle.twins.specs.Compared.{calls_from}
@@ -62,7 +63,7 @@ pub not-both : {X : Type 0} {o : Option Refusal} {w : Refusal} → o ≡ none �
 not-both {o = o} {w = w} e d = let a : ◌≡◌ {A = Option Refusal} none (some w) = sym e ∙ d in let z : ◌≡◌ {A = ℕ} 0 1 = cc in absurd (omega arith)
 
 -- of an accepted set
-pub translated-is : (s buffer : List ℕ) (x : Translated) (out : List ℕ) → charts_refusal s ≡ none → translated_of x out ≡ settled buffer (written (twin_bytes s) buffer) → translated_of x out ≡ translate s buffer
+pub translated-is : (s buffer : List ℕ) (x : Result ℕ of-code.Refusal) (out : List ℕ) → charts_refusal s ≡ none → translated_of x out ≡ settled buffer (written (twin_bytes s) buffer) → translated_of x out ≡ translate s buffer
 translated-is s buffer x out ok e = e ∙ sym (ap (λ o. settled buffer (unless_refused o (written (twin_bytes s) buffer))) ok)
 
 -- what was written is as long as was answered

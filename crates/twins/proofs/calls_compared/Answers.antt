@@ -37,15 +37,10 @@ returns-then-not-runs_alike c =
 
 pub loop-k-init : goal.loop-k-init
 loop-k-init c = (
-  omega arith,
   fresh-alike c.args.s.now c.args.t.now c.requires.0.unrefused c.requires.1.unrefused c.requires.2 c.start-run.ensures c.start-twin.ensures,
   leads-first chart_sets c.args.s.now c.args.kinds.now c.args.masks.now c.start-run.ensures,
   leads-first automata_tables c.args.t.now c.args.kinds.now c.args.masks.now c.start-twin.ensures,
 )
-
-pub bounds-masks-k : goal.bounds-masks-k
-bounds-masks-k c =
-    omega arith
 
 pub call_both-both-requires : goal.call_both-both-requires
 call_both-both-requires c =
@@ -61,11 +56,7 @@ returns-then-not-both c =
     let f = call_for c.is_turn-turn.result (get_or a.masks.now l.k 0) in
     let r = charts-run.run_of l.run in
     let q = automata-run.run_of l.twin in
-    clash {b = c.call_both-both.result.alike} (of-true (ap (λ z. z.alike) c.call_both-both.ensures ∙ next-alike s t a.table c.requires.1 (charts-are s t a.table c.requires.1 back) r q l.invariant.1 f)) (not-true _ c.if-not-both.true)
-
-pub overflow_add-k : goal.overflow_add-k
-overflow_add-k c =
-    omega (arith, c.well_formed)
+    clash {b = c.call_both-both.result.alike} (of-true (ap (λ z. z.alike) c.call_both-both.ensures ∙ next-alike s t a.table c.requires.1 (charts-are s t a.table c.requires.1 back) r q l.invariant.0 f)) (not-true _ c.if-not-both.true)
 
 pub loop-k-preserved : goal.loop-k-preserved
 loop-k-preserved c =
@@ -78,10 +69,9 @@ loop-k-preserved c =
     let r = charts-run.run_of l.run in
     let q = automata-run.run_of l.twin in
     let more = c.loop-k-test.true in (
-      omega arith,
-      λ calls. moved_to s t calls (sym (ap (λ z. z.run) c.call_both-both.ensures)) (sym (ap (λ z. z.twin) c.call_both-both.ensures)) (then-alike s t a.table c.requires.1 r q l.invariant.1 f calls),
-      leads-next chart_sets s a.kinds.now a.masks.now l.k r (omega (arith, more)) c.is_turn-turn.ensures (ap (λ z. z.run) c.call_both-both.ensures) l.invariant.2,
-      leads-next automata_tables t a.kinds.now a.masks.now l.k q (omega (arith, more)) c.is_turn-turn.ensures (ap (λ z. z.twin) c.call_both-both.ensures) l.invariant.3,
+      λ calls. moved_to s t calls (sym (ap (λ z. z.run) c.call_both-both.ensures)) (sym (ap (λ z. z.twin) c.call_both-both.ensures)) (then-alike s t a.table c.requires.1 r q l.invariant.0 f calls),
+      leads-next chart_sets s a.kinds.now a.masks.now l.k r (omega (arith, more)) c.is_turn-turn.ensures (ap (λ z. z.run) c.call_both-both.ensures) l.invariant.1,
+      leads-next automata_tables t a.kinds.now a.masks.now l.k q (omega (arith, more)) c.is_turn-turn.ensures (ap (λ z. z.twin) c.call_both-both.ensures) l.invariant.2,
     )
 
 pub returns : goal.returns
@@ -89,6 +79,6 @@ returns c =
     let l = c.loop-k in
     let a = c.args in
     let e : l.k ≡ length a.masks.now = omega arith in
-    let run = leads-last chart_sets a.s.now a.kinds.now a.masks.now l.k (omega arith) l.invariant.2 in
-    let twin = leads-last automata_tables a.t.now a.kinds.now a.masks.now l.k (omega arith) l.invariant.3 in
+    let run = leads-last chart_sets a.s.now a.kinds.now a.masks.now l.k (omega arith) l.invariant.1 in
+    let twin = leads-last automata_tables a.t.now a.kinds.now a.masks.now l.k (omega arith) l.invariant.2 in
     λ i. record { verdict = alike (e i); run = run i; twin = twin i }

@@ -4,14 +4,9 @@ use Rattle.chart_runs.specs.RunOf as charts-run
 use Rattle.model.specs.Calls.{chart_sets, automata_tables}
 use Rattle.model.specs.Correspondence.{MoveAlike}
 use Rattle.model.specs.Runs.{Call}
-use lib.ListN.{length}
-use Prim.Native.Nat.{◌-◌, ◌≤◌}
 use mathlib.Core.List.{List}
 use Rattle.twins.proofs.calls_compared.Given as goal
 
 abbrev pub invariant-loop-k : goal.invariant-loop-k
-invariant-loop-k l = (l.k ≤ length l.masks) × ((calls : List Call) → MoveAlike l.s l.t calls (charts-run.run_of l.run) (automata-run.run_of l.twin))
+invariant-loop-k l = ((calls : List Call) → MoveAlike l.s l.t calls (charts-run.run_of l.run) (automata-run.run_of l.twin))
     × LeadsOn chart_sets l.s l.kinds l.masks l.k (charts-run.run_of l.run) × LeadsOn automata_tables l.t l.kinds l.masks l.k (automata-run.run_of l.twin)
-
-abbrev pub decreases-loop-k : goal.decreases-loop-k
-decreases-loop-k l = length l.masks - l.k

@@ -9,12 +9,12 @@ use Rattle.twins.proofs.file_compared.Goals as goal
 
 pub set_compared-requires : goal.set_compared-requires
 set_compared-requires c =
-    accepted-of c.args.s.now _ c.check.ensures c.in-Accepted.shape c.in-Accepted.is
+    accepted-of c.args.s.now _ c.check.ensures c.in-Ok.shape c.in-Ok.is
 
-pub returns-in-Refused : goal.returns-in-Refused
-returns-in-Refused c =
+pub returns-in-Err : goal.returns-in-Err
+returns-in-Err c =
     let s = c.args.s.now in
     let buffer = c.args.twin.now in
-    let e : translate s buffer ≡ settled buffer (fault (refusal_of c.in-Refused.w)) = ap (λ o. settled buffer (unless_refused o (written (twin_bytes s) buffer))) (refused-of s _ c.check.ensures c.in-Refused.w c.in-Refused.is) in
+    let e : translate s buffer ≡ settled buffer (fault (refusal_of c.in-Err.w)) = ap (λ o. settled buffer (unless_refused o (written (twin_bytes s) buffer))) (refused-of s _ c.check.ensures c.in-Err.w c.in-Err.is) in
     let both = moved_both s (twin_bytes s) c.args.masks.now c.args.plays c.args.kinds.now in
     (c.nothing_compared.ensures ∙ sym (ap (λ z. compared z.answer both) e), sym (ap (λ z. z.lent) e))

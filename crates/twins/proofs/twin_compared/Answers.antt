@@ -10,11 +10,11 @@ table_compared-requires c =
     let bytes : T (all (λ b. ltb b 256) c.args.s.now) = bytes_of c.args.s.now (λ k. omega (arith, c.type_inv.s k)) in
     let s = c.args.s.now in
     let t = c.args.t.now in
-    (c.requires.0, accepted-of t _ c.check.ensures c.in-Accepted.table c.in-Accepted.is, twin-reads s t bytes c.requires.0.unrefused c.requires.1)
+    (c.requires.0, accepted-of t _ c.check.ensures c.in-Ok.table c.in-Ok.is, twin-reads s t bytes c.requires.0.unrefused c.requires.1)
 
-pub returns-in-Refused : goal.returns-in-Refused
-returns-in-Refused c =
+pub returns-in-Err : goal.returns-in-Err
+returns-in-Err c =
     let bytes : T (all (λ b. ltb b 256) c.args.s.now) = bytes_of c.args.s.now (λ k. omega (arith, c.type_inv.s k)) in
     let s = c.args.s.now in
     let t = c.args.t.now in
-    not-both (twin-unrefused s t bytes c.requires.0.unrefused c.requires.1) (refused-of t _ c.check.ensures c.in-Refused.w c.in-Refused.is)
+    not-both (twin-unrefused s t bytes c.requires.0.unrefused c.requires.1) (refused-of t _ c.check.ensures c.in-Err.w c.in-Err.is)

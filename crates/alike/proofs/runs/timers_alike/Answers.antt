@@ -1,22 +1,15 @@
-use mathlib.Core.Path.{sym}
-use native.Mathlib.Omega.{arith}
-use Rattle.prelude.proofs.Loops.{passed-more, passed-all, passed-not}
+use mathlib.Core.Path.{refl}
+use borrow.Author.Rules.{rules}
+use Rattle.std.proofs.Common.{tests}
+use Rattle.std.proofs.lemmas.Iterator.{serves_from_Range}
+use Rattle.prelude.proofs.Ranges.{all_upto}
 use Rattle.alike.specs.Alike.{literal_alike}
 use Rattle.alike.proofs.runs.timers_alike.Goals as goal
 
-pub returns-then-not-literal_alike : goal.returns-then-not-literal_alike
-returns-then-not-literal_alike c =
-    let a = c.args in
-    sym
-    (passed-not (literal_alike a.t.now a.shape a.ages a.locations a.clocks) a.shape.literals c.loop-l.l c.loop-l.invariant (omega arith)
-    (sym c.if-not-literal_alike.ensures))
-
-pub loop-l-preserved : goal.loop-l-preserved
-loop-l-preserved c =
-    let a = c.args in
-    passed-more (literal_alike a.t.now a.shape a.ages a.locations a.clocks) a.shape.literals c.loop-l.l c.loop-l.invariant (omega arith) (sym c.if-not-literal_alike.ensures)
+pub all-requires-clause-callable : goal.all-requires-clause-callable
+all-requires-clause-callable c = serves_from_Range (λ x q k. search (rules, tests)) (λ x low high. search rules)
 
 pub returns : goal.returns
 returns c =
     let a = c.args in
-    sym (passed-all (literal_alike a.t.now a.shape a.ages a.locations a.clocks) a.shape.literals c.loop-l.l c.loop-l.invariant (omega arith))
+    all_upto (literal_alike a.t.now a.shape a.ages a.locations a.clocks) _ _ _ _ c.all.ensures.ran refl (λ x b q k. search rules)
