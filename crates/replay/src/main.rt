@@ -17,6 +17,16 @@ use records::sizes::FILE_ROOM;
 use replays::sets::cycle_into;
 use std::io::Read;
 
+// The next mask; None at a partial one, at the end, and where a read fails, which is told.
+fn next_mask(rt: &impl Host, input: &mut impl Read) -> Option<u32> {
+    let mut mask = [0u8; 4];
+    let size = or_tell(rt, b"standard input", fill(input, &mut mask))?;
+    if size < 4 {
+        return None;
+    }
+    Some(records::u32_at(&mask, 0))
+}
+
 // A cycle for a mask: its lines go out, and then its refusal or fault, if it has one. None where there is no further one.
 fn play_mask(
     rt: &impl Host,
@@ -43,25 +53,6 @@ fn play_mask(
     }
 }
 
-fn play_next(
-    rt: &impl Host,
-    input: &mut impl Read,
-    s: &[u8],
-    shape: Shape,
-    tables: &Tables,
-    run: Run,
-) -> Option<Run>
-    requires { Prepared s.now shape tables.now }
-{
-    let mut four = [0u8; 4];
-    let size = or_tell(rt, b"standard input", fill(input, &mut four))?;
-    if size < 4 {
-        return None;
-    }
-    let mask = records::u32_at(&four, 0);
-    play_mask(rt, s, shape, tables, run, mask)
-}
-
 // Refusal 14 ends any replay long before the count of turns does.
 fn play(rt: &impl Host, s: &[u8], shape: Shape, tables: &Tables)
     requires { Prepared s.now shape tables.now }
@@ -69,7 +60,10 @@ fn play(rt: &impl Host, s: &[u8], shape: Shape, tables: &Tables)
     let mut input = rt.reader();
     let mut run = start(s, shape);
     for _ in 0..u64::MAX {
-        let Some(after) = play_next(rt, &mut input, s, shape, tables, run) else {
+        let Some(mask) = next_mask(rt, &mut input) else {
+            return
+        };
+        let Some(after) = play_mask(rt, s, shape, tables, run, mask) else {
             return
         };
         run = after;
