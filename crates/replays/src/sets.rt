@@ -14,7 +14,7 @@ use super::parts::tell;
 use answers::{Answer, Stop};
 use chart_records::Shape;
 use chart_runs::Run;
-use chart_steps::tables::{Tables, Tables};
+use chart_steps::tables::Tables;
 use charts::turns::turn;
 
 // The length of the lines written, how the cycle ended, and the run after it.
