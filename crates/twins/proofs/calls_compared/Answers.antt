@@ -78,7 +78,6 @@ pub returns : goal.returns
 returns c =
     let l = c.loop-k in
     let a = c.args in
-    let e : l.k ≡ length a.masks.now = omega arith in
     let run = leads-last chart_sets a.s.now a.kinds.now a.masks.now l.k (omega arith) l.invariant.1 in
     let twin = leads-last automata_tables a.t.now a.kinds.now a.masks.now l.k (omega arith) l.invariant.2 in
-    λ i. record { verdict = alike (e i); run = run i; twin = twin i }
+    λ i. record { verdict = alike (length a.masks.now); run = run i; twin = twin i }
