@@ -20,7 +20,13 @@ use machines::deeds::{do_guarded, done_by};
 use records::sizes::{Clocks, EFFECT_KEYS, Places, TableHeads, Variables};
 
 // The update that is record n, if its guard holds.
-fn do_update(s: &[u8], shape: Shape, n: u16, vars: &mut Variables, events: u32) -> Result<u32, Reason>
+fn do_update(
+    s: &[u8],
+    shape: Shape,
+    n: u16,
+    vars: &mut Variables,
+    events: u32,
+) -> Result<u32, Reason>
     requires { Accepted s.now shape × (first_update shape ≤ n) × (n < first_reset shape) }
     ensures { (m : Moment) → world_after result vars.new m ≡ action (read_automata s.now).nodes (read_automata s.now).variables (update_in s.now n).1 (world_in vars.old events m) }
 {

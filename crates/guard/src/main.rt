@@ -57,7 +57,7 @@ fn show_named(rt: &impl Host) {
 }
 
 fn is_of(word: &[u8]) -> bool {
-    word == b"--of"
+    word == b"--of".as_slice()
 }
 
 // Whether the first argument is --of.
