@@ -116,10 +116,7 @@ fn play_with_index(
     ensures { played_of result ≡ settled (run_of run) (playing (machine (read_automata s.now)) masks.now (run_of run)) }
 {
     if masks.is_empty() {
-        return Played {
-            answer: Ok(0),
-            run,
-        };
+        return Played { answer: Ok(0), run };
     }
     let mut locations = run.locations;
     let mut clocks = run.clocks;

@@ -85,7 +85,7 @@ returns-then-is_err c =
     let p = run_in y.new.locations y.new.clocks y.new.vars 0 (moment 1 (l.cycles + 1)) in
     let w = not_done y.result (sym c.is_err.ensures.value ∙ c.if-is_err.true) in
     let stops : cycle m given q ≡ fault (reason_of w.0) =
-      cycling x.s.now x.shape ok l.locations l.clocks l.variables l.cycles given l.invariant.1 c.if-cycles-eq-MOST_CYCLES.false y.ensures.cycles_after ∙ ap (λ o. finish (cycled_of o p)) w.1 in
+    cycling x.s.now x.shape ok l.locations l.clocks l.variables l.cycles given l.invariant.1 c.if-cycles-eq-MOST_CYCLES.false y.ensures.cycles_after ∙ ap (λ o. finish (cycled_of o p)) w.1 in
     rest_of _ _
     (ap (played m x.masks.now) (given_is m x.run c.requires.between_cycles)
     ∙ played_after-stop m x.masks.now r₀ l.k q (reason_of w.0) c.loop-k-test.true l.invariant.0 stops)
@@ -104,7 +104,7 @@ loop-k-preserved c =
     let given = get_or x.masks.now l.k 0 in
     let p = run_in y.new.locations y.new.clocks y.new.vars 0 (moment 1 (l.cycles + 1)) in
     let done = cycling x.s.now x.shape ok l.locations l.clocks l.variables l.cycles given l.invariant.1 c.if-cycles-eq-MOST_CYCLES.false y.ensures.cycles_after
-      ∙ ap finish (is_done y.result (sym c.is_err.ensures.value ∙ c.if-is_err.false) p) in (
+    ∙ ap finish (is_done y.result (sym c.is_err.ensures.value ∙ c.if-is_err.false) p) in (
       played_after-more m x.masks.now r₀ l.k q p c.loop-k-test.true l.invariant.0 done,
       (rested-next x.s.now x.shape ok given q p done).0,
       omega (arith, l.invariant.2),
