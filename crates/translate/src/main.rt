@@ -118,7 +118,7 @@ fn translate_arguments(rt: &impl Host, set_at: usize, twin_at: usize, force: boo
 }
 
 fn is_force(word: &[u8]) -> bool {
-    word == b"--force"
+    word == b"--force".as_slice()
 }
 
 // Whether the first argument is --force.
