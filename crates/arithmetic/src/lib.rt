@@ -72,6 +72,7 @@ fn remainder(a: i64, b: i64) -> i64
 }
 
 // By the operator's code, of 3 to 7. Tests take fewer instructions than the table of jumps that a `match` is compiled to.
+#[tactic(auto, unfolding(prelude::specs::Lists::case_of))]
 pub fn compute(code: u8, a: i64, b: i64) -> i64
     requires { BothNarrow a b }
     ensures { StandsFor result (compute (arithmetic_of code) a b) }
@@ -95,6 +96,7 @@ pub fn compute(code: u8, a: i64, b: i64) -> i64
 }
 
 // By the operator's code, of 16 to 18.
+#[tactic(auto, unfolding(prelude::specs::Lists::case_of))]
 pub fn compare(code: u8, a: i64, b: i64) -> bool
     ensures { result ≡ compare (comparison_of code) a b }
 {

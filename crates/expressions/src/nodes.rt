@@ -37,6 +37,7 @@ pub enum Node {
 }
 
 // The node of an operator's code, three operands and a constant.
+#[tactic(auto, unfolding(prelude::specs::Lists::case_of))]
 fn decode(code: u8, a: u16, b: u16, c: u16, z: i32) -> Node
     ensures { node_for result ≡ node_by code a b c z }
 {

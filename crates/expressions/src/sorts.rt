@@ -49,6 +49,7 @@ pub fn has_sort(nodes: &[u8], n: u16, sort: Sort) -> bool
 }
 
 // By the code: 3 to 7 and 16 to 18 take two numbers, 8 a truth and two numbers, 19 a truth, 20 and 21 two.
+#[tactic(auto, unfolding(prelude::specs::Lists::case_of))]
 fn operands_of(f: Fields) -> Operands
     ensures { (z : ℤ) → operands_for result ≡ operands (coded_node f z) }
 {
@@ -77,6 +78,7 @@ fn operands_of(f: Fields) -> Operands
     Operands::Leaf
 }
 
+#[tactic(auto, unfolding(prelude::specs::Lists::all))]
 fn all_below(o: Operands, size: u16) -> bool
     ensures { result ≡ all (λ k. ltb k.0 size) (operands_for o) }
 {
@@ -88,6 +90,7 @@ fn all_below(o: Operands, size: u16) -> bool
     }
 }
 
+#[tactic(auto, unfolding(prelude::specs::Lists::case_of, prelude::specs::Lists::all))]
 fn variable_below(f: Fields, variables: u16) -> bool
     ensures { (z : ℤ) → result ≡ all (λ v. ltb v variables) (variables_of (coded_node f z)) }
 {
@@ -100,6 +103,7 @@ fn operand_fits(nodes: &[u8], n: u16, k: u16, sort: Sort) -> bool
     (k < n) & has_sort(nodes, k, sort)
 }
 
+#[tactic(auto, unfolding(prelude::specs::Lists::all))]
 fn all_fit(nodes: &[u8], n: u16, o: Operands) -> bool
     ensures { result ≡ all (operand_fits (node_at nodes.now) n) (operands_for o) }
 {
@@ -133,6 +137,7 @@ pub fn add_use(uses: &mut [u8], k: u16)
     }
 }
 
+#[tactic(auto, unfolding(crate::specs::Uses::add_uses))]
 fn count_uses(uses: &mut [u8], o: Operands)
     ensures { uses.new ≡ add_uses uses.old (map (λ k. k.0) (operands_for o)) }
 {

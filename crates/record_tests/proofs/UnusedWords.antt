@@ -1,16 +1,15 @@
 -- The unused bytes of a record, read by ones, twos and fours; and by the codes that leave them unused. Assumes nothing.
 use mathlib.Core.Path.{◌≡◌, refl, sym, ap, ◌∙◌, subst}
 use mathlib.Core.Bool.{Bool, true, false, not, cond, ◌&&◌, ◌||◌}
-use mathlib.Core.List.{List, [], ◌∷◌, ◌++◌, map}
+use mathlib.Core.List.{List, [], ◌∷◌, map}
 use Prim.Native.Nat.{ℕ, zero, suc, ◌+◌, ◌-◌, ◌≤◌, ◌<◌}
 use native.Mathlib.Nat.{zero-add}
 use native.Mathlib.Omega.{arith}
-use borrow.Author.Tests.{lt-ltb, le-leb, leb-true, eqb-true, eqb-false, eq-eqb, ne_eqb}
-use lib.Dec.{leb, ltb, eqb}
+use borrow.Author.Tests.{leb-true, eqb-true, eqb-false, eq-eqb, ne_eqb}
+use lib.Dec.{leb, eqb}
 use Rattle.prelude.specs.Lists.{all, case_of}
 use Rattle.records.specs.Bytes.{byte, two, four}
 use Rattle.prelude.proofs.Loops.{and_one, and_assoc}
-use Rattle.prelude.proofs.Numbers.{all_append}
 use Rattle.model.specs.ChartFile.{zero_bytes, unused_are_zero, between}
 use Rattle.record_tests.proofs.RecordLoops.{zeros_from, zeros-next, unused-one, unused-two}
 
@@ -73,31 +72,12 @@ module _ (r : List ℕ) where
 
 -- ---- ranges that codes leave unused: each part is zero, or the code is none of those that leave it unused
 
-abbrev transition_ranges : List (ℕ × List (ℕ × ℕ))
-transition_ranges = (0, (7, 11) ∷ []) ∷ (1, (8, 11) ∷ []) ∷ (2, (7, 7) ∷ []) ∷ (3, (7, 7) ∷ []) ∷ []
-
 abbrev node_ranges : List (ℕ × List (ℕ × ℕ))
 node_ranges =
     (1, (2, 7) ∷ []) ∷ (2, (4, 11) ∷ []) ∷ (8, (8, 11) ∷ []) ∷ (19, (4, 11) ∷ [])
     ∷ map (λ o. (o, (6, 11) ∷ [])) (3 ∷ 4 ∷ 5 ∷ 6 ∷ 7 ∷ 16 ∷ 17 ∷ 18 ∷ 20 ∷ 21 ∷ [])
 
-abbrev wait_ranges : List (ℕ × List (ℕ × ℕ))
-wait_ranges = map (λ p. (p, (12, 15) ∷ [])) (1 ∷ 2 ∷ 3 ∷ [])
-
 module _ (r : List ℕ) where
-  -- an event at 7, milliseconds at 8
-  pub transition-unused : (k : ℕ) →
-      (zero_bytes 14 15 r && ((eqb k 1 || ltb 3 k || zero_bytes 7 7 r) && (leb 2 k || zero_bytes 8 11 r))) ≡ unused_are_zero ((14, 15) ∷ case_of k transition_ranges []) r
-  unfolding case_of
-  transition-unused zero = unused-two r (14, 15) (7, 11) ((7, 11) ∷ []) refl (joined r 7 7 11 (omega arith) (omega arith) refl refl) refl
-  transition-unused (suc zero) = unused-two r (14, 15) (8, 11) ((8, 11) ∷ []) refl refl refl
-  transition-unused (suc (suc zero)) = unused-two r (14, 15) (7, 7) ((7, 7) ∷ []) refl (sym (and_one (zero_bytes 7 7 r))) refl
-  transition-unused (suc (suc (suc zero))) = unused-two r (14, 15) (7, 7) ((7, 7) ∷ []) refl (sym (and_one (zero_bytes 7 7 r))) refl
-  transition-unused (suc (suc (suc (suc n)))) =
-      let k = suc (suc (suc (suc n))) in
-      rw (ne_eqb k 0 (λ e. omega arith), ne_eqb k 1 (λ e. omega arith), ne_eqb k 2 (λ e. omega arith), ne_eqb k 3 (λ e. omega arith), lt-ltb 3 k (omega arith), le-leb 2 k (omega arith))
-      (unused-one r (14, 15) [] (sym (and_one (zero_bytes 14 15 r))) refl)
-
   -- a node at 6, unless it raises
   raise-unused : (k : ℕ) → (not (eqb k 2) || zero_bytes 6 7 r) ≡ unused_are_zero (case_of k ((2, (6, 7) ∷ []) ∷ []) []) r
   unfolding case_of all
@@ -111,27 +91,6 @@ module _ (r : List ℕ) where
   pub deed-unused : (k : ℕ) → (zero_bytes 10 15 r && (not (eqb k 2) || zero_bytes 6 7 r)) ≡ unused_are_zero ((10, 15) ∷ case_of k ((2, (6, 7) ∷ []) ∷ []) []) r
   unfolding all
   deed-unused k = ap (λ b. zero_bytes 10 15 r && b) (raise-unused k)
-
-  -- of an action: a node at 6, unless it raises; milliseconds at 12, if it waits
-  place-unused : (p : ℕ) → (eqb p 0 || ltb 3 p || zero_bytes 12 15 r) ≡ unused_are_zero (case_of p wait_ranges []) r
-  unfolding case_of all
-  place-unused zero = refl
-  place-unused (suc zero) = and_one (zero_bytes 12 15 r)
-  place-unused (suc (suc zero)) = and_one (zero_bytes 12 15 r)
-  place-unused (suc (suc (suc zero))) = and_one (zero_bytes 12 15 r)
-  place-unused (suc (suc (suc (suc n)))) =
-      let p = suc (suc (suc (suc n))) in
-      rw (ne_eqb p 0 (λ e. omega arith), ne_eqb p 1 (λ e. omega arith), ne_eqb p 2 (λ e. omega arith), ne_eqb p 3 (λ e. omega arith), lt-ltb 3 p (omega arith))
-      refl
-
-  pub action-unused : (p k : ℕ) →
-      (zero_bytes 10 11 r && (eqb p 0 || ltb 3 p || zero_bytes 12 15 r) && (not (eqb k 2) || zero_bytes 6 7 r))
-      ≡ unused_are_zero ((10, 11) ∷ case_of p wait_ranges [] ++ case_of k ((2, (6, 7) ∷ []) ∷ []) []) r
-  unfolding all
-  action-unused p k =
-      (λ i. zero_bytes 10 11 r && place-unused p i && raise-unused k i)
-      ∙ sym (and_assoc (zero_bytes 10 11 r) (unused_are_zero (case_of p wait_ranges []) r) (unused_are_zero (case_of k ((2, (6, 7) ∷ []) ∷ []) []) r))
-      ∙ ap (λ b. zero_bytes 10 11 r && b) (sym (all_append (λ x. zero_bytes x.0 x.1 r) (case_of p wait_ranges []) (case_of k ((2, (6, 7) ∷ []) ∷ []) [])))
 
   -- of a node: operands at 2, 4 and 6, a constant at 8
   abbrev operands_unused : ℕ → Bool

@@ -13,6 +13,7 @@ fn is_duration(ms: u32) -> bool
     (1 <= ms) & (ms <= MOST_MILLISECONDS)
 }
 
+#[tactic(auto, unfolding(prelude::specs::Lists::case_of))]
 fn trigger_in_code(code: u8, event: u8, ms: u32) -> bool
     ensures { result ≡ case_of code ((1, is_event event) ∷ (2, is_duration ms) ∷ (3, is_duration ms) ∷ []) true }
 {
@@ -49,12 +50,14 @@ pub fn node_in_code(r: &[u8]) -> bool
     ((1 <= operator) & (operator <= 8)) | ((16 <= operator) & (operator <= 21))
 }
 
+#[tactic(auto, unfolding(prelude::specs::Lists::case_of))]
 pub fn deed_in_code(code: u8, x: u8) -> bool
     ensures { result ≡ deed_in_code code x }
 {
     (1 <= code) & (code <= 2) & ((code != 2) | (x <= LAST_EVENT))
 }
 
+#[tactic(auto, unfolding(prelude::specs::Lists::case_of))]
 fn action_in_code(r: &[u8]) -> bool
     ensures { result ≡ action_in_code r.now }
 {
@@ -65,6 +68,7 @@ fn action_in_code(r: &[u8]) -> bool
         & ((place != 4) | is_duration(u32_at(r, 12)))
 }
 
+#[tactic(auto, unfolding(prelude::specs::Lists::case_of))]
 pub fn in_code(r: &[u8]) -> bool
     ensures { result ≡ in_code r.now }
 {

@@ -44,6 +44,7 @@ pub fn from_four_zero(r: &[u8]) -> bool
 }
 
 // An event stands at 7, milliseconds at 8. An unknown code leaves none unused.
+#[tactic(auto, unfolding(prelude::specs::Lists::case_of, prelude::specs::Lists::all))]
 fn transition_clean(r: &[u8]) -> bool
     ensures { result ≡ F.unused_are_zero (F.unused_transition r.now) r.now }
 {
@@ -74,6 +75,7 @@ pub fn node_clean(r: &[u8]) -> bool
 }
 
 // A node stands at 6, unless the action raises; a guard at 8; milliseconds at 12, if it waits. An unknown place leaves none unused.
+#[tactic(auto, unfolding(prelude::specs::Lists::case_of, prelude::specs::Lists::all))]
 fn action_clean(r: &[u8]) -> bool
     ensures { result ≡ F.unused_are_zero (F.unused_action r.now) r.now }
 {
@@ -85,6 +87,7 @@ fn action_clean(r: &[u8]) -> bool
     rest & ((place == 0) | (3 < place) | ms) & ((code != 2) | node)
 }
 
+#[tactic(auto, unfolding(prelude::specs::Lists::case_of, prelude::specs::Lists::all))]
 pub fn record_clean(r: &[u8]) -> bool
     requires { 16 ≤ length r.now }
     ensures { result ≡ F.unused_are_zero (F.unused r.now) r.now }
