@@ -15,7 +15,7 @@ use Rattle.prelude.specs.Lists.{keep, gather, from, upto, sorted, case_of}
 use Rattle.records.specs.Refusal.{Refusal, Out, val, fault, ◌>>=◌, choose}
 use Rattle.prelude.proofs.Loops.{left-more, left-none}
 use Rattle.prelude.specs.Owned.{of}
-use Rattle.model.specs.Runs.{World, Run, Answer, taken, idle, actions}
+use Rattle.model.specs.Runs.{World, Run, Answer, taken, actions}
 use Rattle.model.specs.ChartSet.{ChartSet, read_actions, read_charts, transition}
 use Rattle.model.specs.Charts.{row, first_that, acted, follow}
 use Rattle.chart_records.specs.declared.Shape.{Shape}
@@ -24,7 +24,7 @@ use Rattle.chart_records.proofs.PlacesRead.{transition-is, length-transitions, m
 use Rattle.chart_records.specs.Accepted.{Accepted}
 use Rattle.chart_steps.specs.Tables.{earliest, named, leaves, slot_at, row_entry, keyed, deeds_of}
 use Rattle.machines.specs.Worlds.{Moment, world_in, run_in, coded, coded_fault, world_by}
-use Rattle.chart_steps.specs.StepOf.{choice_by, slot_holds, entered, answer_by, moved_by}
+use Rattle.chart_steps.specs.StepOf.{choice_by, slot_holds, entered, moved_by}
 use Rattle.machines.proofs.WorldsCodes.{coded-value, coded-fault}
 use Rattle.machines.proofs.ChainsEarliest.{keep-alike, one_found}
 use Rattle.chart_steps.proofs.TablesRow.{row_of}
@@ -96,9 +96,6 @@ choice-none t e = ap choice_by e
 
 pub choice-fault : (n : ℕ) → 4_294_967_295 < n → choice_by n ≡ fault (coded_fault n)
 choice-fault n h = ap then_chosen (coded-fault n h)
-
-pub answer-taken : (t : ℕ) → t < 65535 → answer_by t ≡ taken t
-answer-taken t h = ap (λ b. cond b idle (taken t)) (ne_eqb t 65535 (λ e. absurd (omega arith)))
 
 -- ---- a transition that is taken
 

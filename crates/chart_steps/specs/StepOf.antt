@@ -1,6 +1,6 @@
 -- The answers of a chart's turn, as the model's outcomes. Assumes nothing: these are definitions.
 use Rattle.std.proofs.Math.Option.{Option, some, none}
-use Rattle.std.specs.Prelude.{Bool, false, cond, List, ℕ, zero, suc, ◌+◌, ◌≤◌, ◌<◌, eqb, ℤ, set}
+use Rattle.std.specs.Prelude.{Bool, false, cond, List, ℕ, zero, suc, ◌+◌, ◌≤◌, ◌<◌, eqb, ℤ, set, Option as declared-option, None, Some}
 use Rattle.records.specs.Refusal.{Out, val, ◌>>=◌}
 use Rattle.model.specs.Runs.{World, Run, Answer, taken, idle, moved}
 use Rattle.model.specs.ChartSet.{ChartSet}
@@ -28,8 +28,9 @@ entered r chart target w = record { at = set r.at chart target; timers = set r.t
 -- ---- in place
 
 -- what a turn chose
-abbrev pub answer_by : ℕ → Answer
-answer_by t = cond (eqb t 65535) idle (taken t)
+abbrev pub answer_by : declared-option ℕ → Answer
+answer_by None = idle
+answer_by (Some t) = taken t
 
 -- turns, from the events after them as one number, the last one's answer, and the places after them
 abbrev pub moved_by : ℕ → Answer → List ℕ → List ℕ → List ℤ → Moment → Out (Answer × Run)

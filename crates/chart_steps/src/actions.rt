@@ -10,6 +10,7 @@ use chart_records::fields::{first_variable, owner_of, place_of};
 use records::sizes::{CROSSING_KEYS, EXIT_KEYS, WAITING_KEYS};
 use records::{u16_within, u32_within};
 
+// The place is the number in the action's record: an enum of places would say each number once more.
 #[tactic(auto, unfolding(prelude::specs::Lists::case_of))]
 fn key_for(place: u8, owner: u16) -> u16
     requires { KeyedOwner place owner }

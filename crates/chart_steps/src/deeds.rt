@@ -1,4 +1,4 @@
-// Actions, one by one and in the order of a key's chain.
+// Actions, one by one and in the order of a key's chain: the events after them or the fault as one number, as in machines::deeds.
 ghost use Rattle.std.specs.Prelude.{◌≡◌, ◌<◌};
 ghost use Rattle.model.specs.Runs.{action};
 ghost use Rattle.model.specs.ChartSet.{read_charts};
@@ -28,7 +28,7 @@ fn do_action(s: &[u8], shape: Shape, a: u16, vars: &mut Variables, events: u32) 
     do_guarded(s, values_of(shape), guard, code, x, n, vars, events)
 }
 
-// The deeds of three keys, one key after the other, each in file order and seeing the last. One loop, so that a deed is done at one place of the code.
+// The deeds of three keys, one key after the other, each in file order and seeing the last. One loop over the chains, and none for each key, so that a deed is done at one place of the code (docs/DECISIONS.md, "One loop for turns").
 pub fn do_deeds(
     s: &[u8],
     shape: Shape,

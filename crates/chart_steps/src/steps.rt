@@ -1,4 +1,4 @@
-// A chart's turn.
+// A chart's turn. Its steps answer one number, as deeds do in machines: it stays in a register, where a Result goes through memory (docs/DECISIONS.md, "Inner answers are one number").
 ghost use Rattle.std.specs.Prelude.{◌≡◌, true, ◌+◌, ◌-◌, ◌≤◌, ◌<◌};
 ghost use Rattle.model.specs.Limits.{most_charts};
 ghost use Rattle.expressions.specs.Answers.{truth_of};
@@ -156,7 +156,7 @@ fn wait(
     }
 }
 
-// In place: the events after the turn, and which transition was taken, 65,535 for none. After a fault the variables are as the deeds before it left them.
+// In place: the events after the turn, and which transition was taken, if one was. After a fault the variables are as the deeds before it left them.
 fn step_in_place(
     s: &[u8],
     shape: Shape,
@@ -166,7 +166,7 @@ fn step_in_place(
     ages: &mut Ages,
     vars: &mut Variables,
     events: u32,
-    chosen: &mut u16,
+    chosen: &mut Option<u16>,
 ) -> u64
     requires { Prepared s.now shape tables.now × (chart < shape.charts) }
     ensures { ((m : Moment) → moved_by result (answer_by chosen.new) states.new ages.new vars.new m ≡ chart_step (read_charts s.now) chart (run_in states.old ages.old vars.old events m)) × IsCode result }
@@ -178,10 +178,11 @@ fn step_in_place(
     if 4294967295 < t {
         return t;
     }
-    *chosen = t as u16;
     if t == 65535 {
+        *chosen = None;
         return wait(s, shape, tables, state, age, vars, events);
     }
+    *chosen = Some(t as u16);
     follow(
         s, shape, tables, chart, t as u16, states, ages, vars, events,
     )
@@ -198,7 +199,7 @@ pub fn turns_in_place(
     ages: &mut Ages,
     vars: &mut Variables,
     events: u32,
-    chosen: &mut u16,
+    chosen: &mut Option<u16>,
 ) -> u64
     requires { Prepared s.now shape tables.now × (from ≤ to) × (to ≤ shape.charts) }
     ensures { ((m : Moment) → moved_by result (answer_by chosen.new) states.new ages.new vars.new (onward (to - from) m)

@@ -1,5 +1,5 @@
 // The tables that turns read, made once for a set.
-ghost use Rattle.std.specs.Prelude.{◌≡◌, ◌+◌, ◌<◌, max, drop, replicate};
+ghost use Rattle.std.specs.Prelude.{◌≡◌, ◌+◌, ◌<◌, drop, replicate};
 ghost use Rattle.model.specs.Limits.{most_states, most_actions, most_priorities};
 ghost use Rattle.model.specs.ChartSet.{read_charts};
 ghost use Rattle.chart_records.specs.Accepted.{Accepted};
@@ -14,19 +14,14 @@ use records::sizes::{
     ACTION_KEYS, ACTIONS, ActionHeads, ActionLinks, Ends, PRIORITIES, Rows, STATES,
 };
 
-// Of each state its leaving transitions and where its row ends; of each key its first action, and of each action the next of its key.
+// Of each state its leaving transitions and where its row ends; of each key its first action, and of each action the next of its key. None is 65,535, and 256 in a row: an
+// Option would take twice the bytes.
 #[derive(Drop)]
 pub struct Tables {
     pub rows: Rows,
     pub ends: Ends,
     pub first: ActionHeads,
     pub next: ActionLinks,
-}
-
-fn higher(a: u8, b: u8) -> u8
-    ensures { result ≡ max a b }
-{
-    if a < b { b } else { a }
 }
 
 // Of each state its leaving transitions, by priority, in rows of none, which is 256: a number of two unlike bytes is put by plain stores, and one of two like bytes by one instruction repeated for each byte. And the highest priority of each.
@@ -39,11 +34,11 @@ pub fn fill_rows(s: &[u8], shape: Shape, rows: &mut Rows, ends: &mut Ends)
         let priority = priority_of(s, shape, t);
         let place = (priority - 1) as usize;
         rows[source][place] = t;
-        ends[source] = higher(ends[source], priority);
+        ends[source] = ends[source].max(priority);
     }
 }
 
-// The transition at a place of a state's row; 65535 is none.
+// The transition at a place of a state's row, as the other tables have it: 65,535 is none.
 pub fn slot_of(s: &[u8], shape: Shape, rows: &Rows, state: u16, place: usize) -> u16
     requires { Accepted s.now shape × HasRows (read_charts s.now) rows.now × (state < shape.states) × (place < most_priorities) }
     ensures { result ≡ slot_at (read_charts s.now) state (place + 1) }

@@ -8,7 +8,7 @@ use machines::deeds::present;
 use records::u32_within;
 use timings::{after_holds, every_holds, ticks};
 
-// Of the transition that is record n.
+// Of the transition that is record n. Its kind is tested as the record has it: an enum of kinds would be told apart once more.
 #[tactic(auto, unfolding(prelude::specs::Lists::case_of))]
 pub fn triggered(s: &[u8], n: usize, age: u32, events: u32) -> bool
     requires { (16 * n + 15 < length s.now) × Holdable (trigger_in s.now n) }

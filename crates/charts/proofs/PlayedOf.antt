@@ -1,9 +1,9 @@
--- Many cycles of chart sets: a chart's turn keeps position and count, so they are at most 1,000,000; what is checked of a possible run between two cycles; and a
--- first cycle with those after it. Assumes nothing.
+-- Many cycles of chart sets: a chart's turn keeps position and count, so they are at most 1,000,000; what is checked of a possible run between two cycles; a
+-- cycle from what its turns came to; and a first cycle with those after it. Assumes nothing.
 use mathlib.Core.Path.{◌≡◌, refl, sym, ap, ◌∙◌, subst}
 use mathlib.Core.Bool.{Bool, true, false, not, cond, ◌&&◌, ◌||◌}
 use mathlib.Core.List.{List}
-use Prim.Native.Nat.{ℕ, ◌+◌, ◌≤◌}
+use Prim.Native.Nat.{ℕ, ◌+◌, ◌-◌, ◌≤◌}
 use native.Mathlib.Omega.{arith}
 use borrow.Author.Tests.{eq-eqb, ne_eqb}
 use lib.Dec.{T, leb, eqb, leb→le, eqb→eq}
@@ -11,20 +11,26 @@ use lib.IntN.{ℤ}
 use lib.ListN.{drop}
 use Rattle.records.specs.Refusal.{impossible_run, misplaced_events, cycles_done, Out, val, fault, ◌>>◌, fault_if}
 use Rattle.model.specs.Outcome.{settled}
-use Rattle.model.specs.Runs.{Run, Machine, possible, checked, cycle}
+use Rattle.model.specs.Runs.{Run, Machine, possible, checked, give, cycle}
 use Rattle.model.proofs.ChecksPossible.{possible-rests, checked-possible}
 use Rattle.model.specs.ChartSet.{ChartSet, read_charts}
 use Rattle.model.specs.Charts.{chart_step, charts}
 use Rattle.model.specs.Calls.{chart_sets}
-use Rattle.answers.specs.Answers.{cycles_of}
+use Rattle.answers.specs.declared.Reason.{Reason}
+use Rattle.answers.specs.Answers.{reason_of, cycles_of}
+use Rattle.chart_records.specs.declared.Shape.{Shape}
+use Rattle.chart_records.specs.Shape.{IsShape}
+use Rattle.chart_records.proofs.PlacesRead.{length-initial}
 use Rattle.machines.specs.Playing.{played, stopped_at, playing, play_call}
-use Rattle.machines.proofs.Turns.{cycle-refused}
+use Rattle.machines.proofs.Turns.{cycle-refused, cycle-given}
 use Rattle.machines.proofs.Playing as P
-use Rattle.std.specs.Prelude.{Ok}
+use Rattle.std.specs.Prelude.{Result, Ok, Err}
 use Rattle.charts.specs.declared.plays.Played.{Played}
 use Rattle.machines.specs.Worlds.{moment, run_in}
 use Rattle.chart_runs.specs.RunOf.{run_of}
 use Rattle.charts.specs.PlayedOf.{played_of}
+use Rattle.charts.specs.EndedBy.{ran_to}
+use Rattle.charts.specs.TurnOf.{after, finish}
 use Rattle.charts.proofs.TurnOfKept.{step_kept}
 
 pub count_kept : (cs : ChartSet) (part : ℕ) (r : Run) → P.KeptCount r ((charts cs).step part r)
@@ -74,6 +80,19 @@ module _ (m : Machine) (r : Run) where
           in
           let f : ◌≡◌ {A = Out (Unit {0} × Run)} (fault impossible_run) (val (tt, q)) = sym (cycle-refused m given r impossible_run c) ∙ e in
           let z : ◌≡◌ {A = ℕ} 0 1 = cc in absurd (omega arith)
+
+-- ---- a cycle in place of a run that passed the checks, from what its turns came to
+
+module _ (s : List ℕ) (sh : Shape) (is : IsShape s sh) (given : ℕ) (r q p : Run) (fine : checked (charts (read_charts s)) given r ≡ val tt) (events : q ≡ give given r)
+    (o : Result (Unit {0}) Reason) (turned : ran_to o p ≡ after (charts (read_charts s)) (sh.charts + 2 - q.world.position) q) where
+  by_turns : cycle (charts (read_charts s)) given r ≡ finish (ran_to o p)
+  by_turns = cycle-given (charts (read_charts s)) sh.charts (length-initial s sh is) given r q fine events ∙ ap finish (sym turned)
+
+  pub cycle-ends : (u : Unit {0}) → o ≡ Ok u → cycle (charts (read_charts s)) given r ≡ val (tt, p)
+  cycle-ends u e = by_turns ∙ ap (λ d. finish (ran_to d p)) e
+
+  pub cycle-fails : (w : Reason) → o ≡ Err w → cycle (charts (read_charts s)) given r ≡ fault (reason_of w)
+  cycle-fails w e = by_turns ∙ ap (λ d. finish (ran_to d p)) e
 
 -- ---- the first cycle, and those after it
 

@@ -34,7 +34,7 @@ pub fn fresh(s: &[u8], shape: Shape, lent: Run) -> Called
     }
 }
 
-// The rows and the actions by owner are made once; then the turns from the present position on, the first with the events given. Where one is refused or faults the run is the one that was given: all its turns, or none.
+// The tables are made once; then the turns from the present position on, the first with the events given. Where one is refused or faults the run is the one that was given: all its turns, or none.
 pub fn cycle_by_turns(s: &[u8], shape: Shape, run: Run, events: u32) -> Called
     requires { Accepted s.now shape }
     ensures { called_of result ≡ settled (run_of run) (model-cycle (machine (read_charts s.now)) events (run_of run)) }

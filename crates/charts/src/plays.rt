@@ -59,7 +59,7 @@ fn cycle_or_fault(
     requires { Prepared s.now shape tables.now × Ready shape.charts (run_in states.old ages.old vars.old events (moment position cycles)) }
     ensures { ran_to result (run_in states.new ages.new vars.new 0 (moment 1 (cycles + 1))) ≡ after (machine (read_charts s.now)) (shape.charts + 2 - position) (run_in states.old ages.old vars.old events (moment position cycles)) }
 {
-    let mut chosen: u16 = 65535;
+    let mut chosen = None;
     let from = (position - 1) as u16;
     let after = turns_in_place(
         s,

@@ -28,13 +28,12 @@ pub struct Turned {
     pub run: Run,
 }
 
-fn answer_by(chosen: u16) -> Answer
+fn answer_by(chosen: Option<u16>) -> Answer
     ensures { answer_of result ≡ val (answer_by chosen) }
 {
-    if chosen == 65535 {
-        Answer::Idle
-    } else {
-        Answer::Taken(chosen)
+    match chosen {
+        None => Answer::Idle,
+        Some(t) => Answer::Taken(t),
     }
 }
 
@@ -45,7 +44,7 @@ fn chart_turned(
     ages: Ages,
     variables: Variables,
     after: u64,
-    chosen: u16,
+    chosen: Option<u16>,
     position: u32,
     cycles: u32,
 ) -> Turned
@@ -81,7 +80,7 @@ fn chart_turn(s: &[u8], shape: Shape, tables: &Tables, lent: Run, run: Run) -> T
     let mut states = run.states;
     let mut ages = run.ages;
     let mut variables = run.variables;
-    let mut chosen: u16 = 65535;
+    let mut chosen = None;
     let chart = (run.position - 1) as u16;
     let after = turns_in_place(
         s,

@@ -113,7 +113,7 @@ fn assign_code(s: &[u8], values: Values, v: u8, n: u16, vars: &mut Variables, ev
     }
 }
 
-// A deed by its fields: code 2 raises, another assigns.
+// A deed by its fields: code 2 raises, another assigns. The code is tested as the record has it: an enum would be told apart once more.
 #[tactic(auto, unfolding(prelude::specs::Lists::case_of))]
 fn do_deed(
     s: &[u8],
