@@ -16,6 +16,7 @@ use Rattle.chart_files.specs.Checked.{IsChecked}
 use Rattle.records.specs.RefusalOf.{refusal_of}
 use Rattle.chart_records.specs.declared.Shape.{Shape}
 use Rattle.records.specs.declared.refusals.Refusal as declared-refusal
+use Rattle.records.specs.declared.refusals.Refusal.TheVariants.{StrayByte, BrokenCode, DanglingNumber, BrokenStructure, BrokenNode, ZeroTicks, UnlikeWaits}
 use Rattle.std.specs.Prelude.{Ok, Err}
 
 -- of two lists of tests the first decides where it refuses
@@ -79,5 +80,47 @@ module _ (s : List ℕ) where
 pub refused : (s : List ℕ) (w : declared-refusal.Refusal) → charts_refusal s ≡ some (refusal_of w) → IsChecked s (Err w)
 refused s w e = record { answer = sym e; shape = λ sh q. let z : ◌≡◌ {A = ℕ} 0 1 = cc in absurd (omega arith) }
 
-pub accepted : (s : List ℕ) (sh : Shape) → IsShape s sh → charts_refusal s ≡ none → IsChecked s (Ok sh)
-accepted s sh is e = record { answer = sym e; shape = λ sh' q. let p : sh ≡ sh' = cc in subst (IsShape s) p is }
+-- of a framed file: the first test that it fails, or none
+module _ (s : List ℕ) (framed : framing 1 chart_limits s ≡ none) where
+  pub stray_bytes : all (λ r. unused_are_zero (unused r) r) (records s) ≡ false → IsChecked s (Err StrayByte)
+  unfolding lowest
+  stray_bytes z = refused s StrayByte (refusal_is s framed z refl refl refl refl refl refl)
+
+  module _ (zeros : all (λ r. unused_are_zero (unused r) r) (records s) ≡ true) where
+    pub broken_codes : all in_code (records s) ≡ false → IsChecked s (Err BrokenCode)
+    unfolding lowest
+    broken_codes z = refused s BrokenCode (refusal_is s framed zeros z refl refl refl refl refl)
+
+    module _ (codes : all in_code (records s) ≡ true) where
+      pub dangling_numbers : all_named (read_charts s) ≡ false → IsChecked s (Err DanglingNumber)
+      unfolding lowest
+      dangling_numbers z = refused s DanglingNumber (refusal_is s framed zeros codes z refl refl refl refl)
+
+      module _ (names : all_named (read_charts s) ≡ true) where
+        pub unstructured : structured (read_charts s) ≡ false → IsChecked s (Err BrokenStructure)
+        unfolding lowest
+        unstructured z = refused s BrokenStructure (refusal_is s framed zeros codes names z refl refl refl)
+
+        module _ (shaped : structured (read_charts s) ≡ true) where
+          pub broken_nodes : nodes_fit (read_charts s) ≡ false → IsChecked s (Err BrokenNode)
+          unfolding lowest
+          broken_nodes z = refused s BrokenNode (refusal_is s framed zeros codes names shaped z refl refl)
+
+          module _ (nodes : nodes_fit (read_charts s) ≡ true) where
+            pub without_ticks : all_ticking (read_charts s) ≡ false → IsChecked s (Err ZeroTicks)
+            unfolding lowest
+            without_ticks z = refused s ZeroTicks (refusal_is s framed zeros codes names shaped nodes z refl)
+
+            module _ (ticks : all_ticking (read_charts s) ≡ true) where
+              pub unlike : wait_alike (read_charts s) ≡ false → IsChecked s (Err UnlikeWaits)
+              unfolding lowest
+              unlike z = refused s UnlikeWaits (refusal_is s framed zeros codes names shaped nodes ticks z)
+
+              pub accepted : (sh : Shape) → IsShape s sh → wait_alike (read_charts s) ≡ true → IsChecked s (Ok sh)
+              unfolding lowest
+              accepted sh is z = record {
+                answer = sym (refusal_is s framed zeros codes names shaped nodes ticks z);
+                shape = λ sh' q. let p : sh ≡ sh' = cc in subst (IsShape s) p is;
+              }
+
+pub ruleset outcomes = (stray_bytes, broken_codes, dangling_numbers, unstructured, broken_nodes, without_ticks, unlike, accepted)

@@ -65,6 +65,7 @@ fn test_records(s: &[u8]) -> Tested
 }
 
 // Refusals 4 to 9 of a framed file, and 25, in their order.
+#[tactic(auto, using(crate::proofs::ShapeChecked::outcomes))]
 fn check_framed(s: &[u8], shape: Shape) -> Result<Shape, Refusal>
     requires { IsShape s.now shape }
     ensures { IsChecked s.now result }
