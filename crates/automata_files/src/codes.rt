@@ -8,6 +8,7 @@ use record_tests::codes::{deed_in_code, node_in_code, variable_in_code};
 use records::byte_at;
 use records::sizes::LAST_EVENT;
 
+#[tactic(auto, unfolding(prelude::specs::Lists::case_of))]
 fn literal_trigger_in_code(code: u8, event: u8) -> bool
     ensures { result ≡ case_of code ((1, is_event event) ∷ []) true }
 {
@@ -25,6 +26,7 @@ fn literal_in_code(r: &[u8]) -> bool
     (1 <= sign) & (sign <= 2) & (code <= 2) & literal_trigger_in_code(code, byte_at(r, 5))
 }
 
+#[tactic(auto, unfolding(prelude::specs::Lists::case_of))]
 pub fn in_code(r: &[u8]) -> bool
     ensures { result ≡ table_in_code r.now }
 {

@@ -59,13 +59,7 @@ fn record_sound(r: &[u8]) -> bool
 fn all_sound(s: &[u8]) -> bool
     ensures { result ≡ all (λ r. unused_are_zero (unused_in_table r) r && table_in_code r) (records s.now) }
 {
-    let mut sound = true;
-    for i in 0..s.len() / 16 {
-        let at = 16 * i;
-        let end = at + 16;
-        sound &= record_sound(&s[at..end]);
-    }
-    sound
+    s.chunks_exact(16).all(record_sound)
 }
 
 // The tests behind framing, each one pass over the records of its kinds.

@@ -55,11 +55,9 @@ fn test_records(s: &[u8]) -> Tested
 {
     let mut clean = true;
     let mut coded = true;
-    for i in 0..s.len() / 16 {
-        let at = 16 * i;
-        let end = at + 16;
-        clean &= record_clean(&s[at..end]);
-        coded &= in_code(&s[at..end]);
+    for r in s.chunks_exact(16) {
+        clean &= record_clean(r);
+        coded &= in_code(r);
     }
     Tested { clean, coded }
 }

@@ -1,14 +1,12 @@
-use mathlib.Core.Path.{ap, ◌∙◌}
-use Rattle.record_tests.proofs.RecordLoops.{part-is, flagged-more, flagged-all}
-use Rattle.automata_files.proofs.all_sound.Invariants.{isSound}
+use Rattle.std.proofs.Common.{◌&&◌, rules, tests, ap, ◌∙◌}
+use Rattle.model.specs.ChartFile.{unused_are_zero}
+use Rattle.model.specs.AutomataFile.{unused_in_table, table_in_code}
+use Rattle.prelude.specs.Lists.{all}
+use Rattle.records.specs.Bytes.{records}
+use Rattle.record_tests.proofs.Chunks.{all_records}
 use Rattle.automata_files.proofs.all_sound.Goals as goal
-
-pub loop-i-preserved : goal.loop-i-preserved
-loop-i-preserved c =
-    let s = c.args.s.now in
-    let l = c.loop-i in
-    flagged-more isSound s l.sound l.i l.invariant c.loop-i-test.true (c.record_sound-sound.ensures ∙ ap isSound (part-is s l.i))
 
 pub returns : goal.returns
 returns c =
-    let l = c.loop-i in flagged-all isSound c.args.s.now l.sound l.i l.invariant c.loop-i-test.false
+    all_records (λ r. unused_are_zero (unused_in_table r) r && table_in_code r) _ _ _ c.all.ensures.ran c.chunks_exact.ensures.size (λ x b q k. search (rules, tests))
+    ∙ ap (λ s. all (λ r. unused_are_zero (unused_in_table r) r && table_in_code r) (records s)) c.chunks_exact.ensures.rest

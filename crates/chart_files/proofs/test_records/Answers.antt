@@ -1,20 +1,31 @@
-use mathlib.Core.Path.{ap, ◌∙◌}
-use Rattle.model.specs.ChartFile.{in_code}
-use Rattle.record_tests.proofs.RecordLoops.{part-is, flagged-more, flagged-all}
-use Rattle.chart_files.proofs.test_records.Invariants.{isClean}
+use mathlib.Core.Path.{refl, sym, ap, ◌∙◌}
+use mathlib.Core.Bool.{◌&&◌}
+use Rattle.std.specs.Slice.Iter.{chunks_exact_rest, chunks_exact_size}
+use Rattle.std.proofs.lemmas.Iterator.Consumers.{YieldsList-end}
+use Rattle.prelude.specs.Lists.{all}
+use Rattle.records.specs.Bytes.{records}
+use Rattle.record_tests.proofs.Chunks.{chunks-are, all-push}
+use Rattle.model.specs.ChartFile.{unused, unused_are_zero, in_code}
 use Rattle.chart_files.proofs.test_records.Goals as goal
 
-pub loop-i-preserved : goal.loop-i-preserved
-loop-i-preserved c =
-    let s = c.args.s.now in
-    let l = c.loop-i in
-    let t = c.loop-i-test.true in (
-      flagged-more isClean s l.clean l.i l.invariant.0 t (c.record_clean-clean.ensures ∙ ap isClean (part-is s l.i)),
-      flagged-more in_code s l.coded l.i l.invariant.1 t (c.in_code-coded.ensures ∙ ap in_code (part-is s l.i)),
+pub loop-r-init : goal.loop-r-init
+unfolding all
+loop-r-init c = (refl, refl)
+
+pub loop-r-preserved : goal.loop-r-preserved
+loop-r-preserved c =
+    let l = c.loop-r in (
+      (λ i. l.invariant.0 i && c.record_clean-clean.ensures i) ∙ sym (all-push (λ r. unused_are_zero (unused r) r) l.yielded c.in-Some.r),
+      (λ i. l.invariant.1 i && c.in_code-coded.ensures i) ∙ sym (all-push in_code l.yielded c.in-Some.r),
     )
 
 pub returns : goal.returns
 returns c =
-    let s = c.args.s.now in
-    let l = c.loop-i in
-    (flagged-all isClean s l.clean l.i l.invariant.0 c.loop-i-test.false, flagged-all in_code s l.coded l.i l.invariant.1 c.loop-i-test.false)
+    let l = c.loop-r in
+    let it = c.into_iter-r-iterator.ensures.into_iter_gives in
+    let chunks = chunks-are _ (ap chunks_exact_size it ∙ c.chunks_exact-r-items.ensures.size) in
+    let all-came = (YieldsList-end chunks l.yielded _ l.yielded_by _ _ c.in-None.is c.next.ensures.steps).0 in
+    let bytes = ap chunks_exact_rest it ∙ c.chunks_exact-r-items.ensures.rest in (
+      l.invariant.0 ∙ ap (all (λ r. unused_are_zero (unused r) r)) (all-came ∙ ap records bytes),
+      l.invariant.1 ∙ ap (all in_code) (all-came ∙ ap records bytes),
+    )

@@ -1,12 +1,9 @@
-use mathlib.Core.Bool.{Bool}
-use mathlib.Core.List.{List}
-use Prim.Native.Nat.{ℕ}
+use mathlib.Core.Path.{◌≡◌}
+use mathlib.Core.List.{map}
+use Rattle.prelude.specs.Lists.{all}
 use Rattle.model.specs.ChartFile.{unused, unused_are_zero, in_code}
-use Rattle.record_tests.proofs.RecordLoops.{Flagged}
 use Rattle.chart_files.proofs.test_records.Given as goal
 
-abbrev pub isClean : List ℕ → Bool
-isClean r = unused_are_zero (unused r) r
-
-abbrev pub invariant-loop-i : goal.invariant-loop-i
-invariant-loop-i l = Flagged isClean l.s l.clean l.i × Flagged in_code l.s l.coded l.i
+abbrev pub invariant-loop-r : goal.invariant-loop-r
+invariant-loop-r l =
+    (l.clean ≡ all (λ r. unused_are_zero (unused r) r) (map (λ x. x.now) l.yielded)) × (l.coded ≡ all in_code (map (λ x. x.now) l.yielded))
