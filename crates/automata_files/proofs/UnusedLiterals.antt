@@ -10,7 +10,7 @@ use Rattle.prelude.specs.Lists.{case_of}
 use Rattle.prelude.proofs.Loops.{and_one}
 use Rattle.model.specs.ChartFile.{zero_bytes, unused_are_zero}
 use Rattle.record_tests.proofs.RecordLoops.{unused-one, unused-two}
-use Rattle.record_tests.proofs.UnusedWords.{joined}
+use Rattle.record_tests.proofs.UnusedWords.{joined, deed-unused}
 
 abbrev literal_ranges : List (ℕ × List (ℕ × ℕ))
 literal_ranges = (0, (5, 7) ∷ []) ∷ (1, (6, 7) ∷ []) ∷ (2, (5, 5) ∷ []) ∷ []
@@ -26,3 +26,9 @@ literal-unused r (suc (suc (suc n))) =
     let k = suc (suc (suc n)) in
     rw (ne_eqb k 0 (λ e. omega arith), ne_eqb k 1 (λ e. omega arith), ne_eqb k 2 (λ e. omega arith), lt-ltb 2 k (omega arith), le-leb 2 k (omega arith))
     (unused-one r (10, 15) [] (sym (and_one (zero_bytes 10 15 r))) refl)
+
+-- how the ranges that a record leaves unused are tested
+pub ruleset ranges = (unused-one, unused-two, joined)
+
+-- what the codes of literals and of deeds leave unused
+pub ruleset by_code = (literal-unused, deed-unused)

@@ -9,6 +9,7 @@ use record_tests::unused::{
 use records::byte_at;
 
 // An event stands at 5, a clock at 6. An unknown code leaves none unused.
+#[tactic(auto, using(crate::proofs::UnusedLiterals::by_code))]
 fn literal_clean(r: &[u8]) -> bool
     ensures { result ≡ unused_are_zero (unused_literal r.now) r.now }
 {
@@ -20,6 +21,7 @@ fn literal_clean(r: &[u8]) -> bool
 }
 
 // A node stands at 6, unless the update raises; a guard at 8.
+#[tactic(auto, using(crate::proofs::UnusedLiterals::by_code), unfolding(prelude::specs::Lists::all))]
 fn update_clean(r: &[u8]) -> bool
     ensures { result ≡ unused_are_zero (unused_update r.now) r.now }
 {
@@ -30,6 +32,7 @@ fn update_clean(r: &[u8]) -> bool
     first & (rest & ((code != 2) | node))
 }
 
+#[tactic(auto, using(crate::proofs::UnusedLiterals::ranges), unfolding(prelude::specs::Lists::all, prelude::specs::Lists::case_of))]
 pub fn record_clean(r: &[u8]) -> bool
     requires { 16 ≤ length r.now }
     ensures { result ≡ unused_are_zero (unused_in_table r.now) r.now }
