@@ -25,6 +25,7 @@ use Rattle.automata_records.specs.declared.Shape.{Shape}
 use Rattle.automata_records.specs.Shape.{IsShape}
 use Rattle.automata_records.specs.Places.{edge_at, literal_at, update_at, node_part}
 use Rattle.automata_records.specs.Structure.{edge_inside, initial_inside, idle_stays, guard_at, condition_at, assigned_at}
+use Rattle.automata_records.proofs.NamedTests.{named-is}
 use Rattle.automata_records.proofs.PlacesRead.{length-initial, length-nodes, edges_are, literals-are, updates-are, initial-is, lookup-is}
 
 module _ (s : List ℕ) (sh : Shape) (is : IsShape s sh) where
@@ -99,3 +100,6 @@ used-is node size uses l e =
     ap (λ u. leb (get_or u n 0) 1) (e ∙ counted 1024 (all_operands node size))
     ∙ ap (λ m. leb m 1) (get_or-upto (λ k. min 2 (operand_uses node size k)) 0 1024 n (omega arith))
     ∙ at-most-once (operand_uses node size n))
+
+-- what the names of all things come to
+pub ruleset names = (named-is)

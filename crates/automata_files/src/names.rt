@@ -110,6 +110,7 @@ fn resets_named(s: &[u8], shape: Shape) -> bool
 }
 
 // Of the nodes it is known by what `test_nodes` found.
+#[tactic(auto, using(crate::proofs::StructureTests::names))]
 pub fn table_named(s: &[u8], shape: Shape, named: bool) -> bool
     requires { IsShape s.now shape × (named ≡ nodes_named (node_at (node_part s.now shape)) shape.nodes shape.variables) }
     ensures { result ≡ table_named (read_automata s.now) }

@@ -71,6 +71,7 @@ fn initials_inside(s: &[u8], shape: Shape) -> bool
     (0..shape.automata).all(|a| initial_inside(s, shape, a))
 }
 
+#[tactic(auto, using(crate::proofs::StructureTests::inside_is))]
 pub fn inside_automata(s: &[u8], shape: Shape) -> bool
     requires { IsShape s.now shape }
     ensures { result ≡ inside_automata (read_automata s.now) }
