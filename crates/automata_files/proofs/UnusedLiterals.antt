@@ -9,7 +9,7 @@ use lib.Dec.{leb, ltb, eqb}
 use Rattle.prelude.specs.Lists.{case_of}
 use Rattle.prelude.proofs.Loops.{and_one}
 use Rattle.model.specs.ChartFile.{zero_bytes, unused_are_zero}
-use Rattle.record_tests.proofs.RecordLoops.{unused-one, unused-two}
+use Rattle.record_tests.proofs.UnusedRanges.{unused-one, unused-two}
 use Rattle.record_tests.proofs.UnusedWords.{joined, deed-unused}
 
 abbrev literal_ranges : List (ℕ × List (ℕ × ℕ))

@@ -112,3 +112,6 @@ module _ (s : List ℕ) (sh : Shape) (is : IsShape s sh) where
 
   pub initials-known : all_named (read_charts s) ≡ true → all (initial_named s sh) (upto sh.charts) ≡ true
   initials-known e = (and-true _ _ (and-true _ _ (and-true _ _ (and-true _ _ (sym named-is ∙ e)).0).0).0).0
+
+-- what the names of all things come to
+pub ruleset names = (named-is)

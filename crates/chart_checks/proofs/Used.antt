@@ -207,3 +207,6 @@ module _ (f : ℕ → List ℕ) (size : ℕ) where
   pub gathered-all : (u₀ u : List ℕ) (i : ℕ) → Gathered u₀ u i → size ≤ i → u ≡ add_uses u₀ (gather f (upto size))
   unfolding gather add_uses
   gathered-all u₀ u i h l = sym (h.2 ∙ ap (λ r. add_uses u (gather f r)) (left-none i size l))
+
+-- uses of two lists, one after the other
+pub ruleset appended = (adds-append)

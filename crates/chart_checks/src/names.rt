@@ -88,6 +88,7 @@ fn actions_named(s: &[u8], shape: Shape) -> bool
 }
 
 // Of the nodes it is known by what `test_nodes` found.
+#[tactic(auto, using(crate::proofs::NamesFramed::names))]
 pub fn all_named(s: &[u8], shape: Shape, named: bool) -> bool
     requires { IsShape s.now shape × (named ≡ nodes_named (node_at (node_part s.now shape)) shape.nodes shape.variables) }
     ensures { result ≡ all_named (read_charts s.now) }

@@ -76,6 +76,7 @@ fn count_assigned(deed: Deed, uses: &mut [u8])
     }
 }
 
+#[tactic(auto, using(crate::proofs::Used::appended))]
 fn action_fits(s: &[u8], shape: Shape, nodes: &[u8], i: u16, uses: &mut [u8]) -> bool
     ensures { (result ≡ (truths (node_at nodes.now) (condition_at s.now shape i) && numbers (node_at nodes.now) (assigned_at s.now shape i)))
         × (uses.new ≡ add_uses uses.old (condition_at s.now shape i ++ assigned_at s.now shape i)) }

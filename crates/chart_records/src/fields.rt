@@ -140,7 +140,8 @@ pub fn guard_of(s: &[u8], shape: Shape, t: u16) -> Option<u16>
     guard_by(u16_in(s, transition_record(shape, t), 12))
 }
 
-// The place of action i: 1 entry, 2 exit, 3 transition, 4 waiting.
+// The place of action i, as its byte has it: 1 entry, 2 exit, 3 transition, 4 waiting. An unchecked file may have any other byte there, so an enum would
+// give every test of a place a case for the rest.
 pub fn place_of(s: &[u8], shape: Shape, i: u16) -> u8
     ensures { result ≡ place_at s.now shape i }
 {

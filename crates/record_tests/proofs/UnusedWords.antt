@@ -11,7 +11,7 @@ use Rattle.prelude.specs.Lists.{all, case_of}
 use Rattle.records.specs.Bytes.{byte, two, four}
 use Rattle.prelude.proofs.Loops.{and_one, and_assoc}
 use Rattle.model.specs.ChartFile.{zero_bytes, unused_are_zero, between}
-use Rattle.record_tests.proofs.RecordLoops.{zeros_from, zeros-next, unused-one, unused-two}
+use Rattle.record_tests.proofs.UnusedRanges.{zeros_from, zeros-next, unused-one, unused-two}
 
 -- a number of two parts is 0 where both are
 both_zero : (a b n : ℕ) → (a ≡ 0 → b ≡ 0 → n ≡ 0) → (n ≡ 0 → (a ≡ 0) × (b ≡ 0)) → eqb n 0 ≡ (eqb a 0 && eqb b 0)
