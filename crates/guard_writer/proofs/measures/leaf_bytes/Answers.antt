@@ -25,7 +25,7 @@ returns-then-code-eq2 c =
     let v = c.u16_at-v.ensures in
     let e = q.is_variable k in (
       own-leaf (node_at s) x.n _ (omega (arith, d.0)) (omega (arith, d.1, ap (λ v. length (decimal v)) v, ap (λ t. length (text_of t)) e)),
-      passes-variable (node_at s) x.n (two s (16 * x.n + 2)) (t.none (q.same ∙ c.requires)) (t.its_variable k) (t.known (λ d n. absurd (n k))) (omega (arith, v, c.if-v-gt63.false)),
+      passes-variable (node_at s) x.n (two s (16 * x.n + 2)) (t.none (q.same ∙ c.requires)) (t.its_variable k) (t.known (λ d n. absurd (n k))) (omega (arith, v)),
     )
 
 pub returns-then-code-eq1 : goal.returns-then-code-eq1
