@@ -13,7 +13,7 @@ use answers::Reason;
 use automata_records::Shape;
 use records::sizes::{Clocks, LITERAL_KEYS, TableHeads, Variables};
 
-// What the edges read so far come to.
+// What the edges read so far come to: three cases, of which an Option has two, and two or more are told only when all are read.
 #[derive(Clone, Copy)]
 pub enum Tally {
     Nothing,

@@ -2,10 +2,14 @@
 ghost use Rattle.std.specs.Prelude.{◌≡◌};
 ghost use Rattle.automata_records.specs.Accepted.{Accepted, InFile};
 ghost use Rattle.automata_steps.specs.Index.{owner_in, HasIndex, KeepsUnchained, RoomFor, Blank, Linkable, Links};
+ghost use Rattle.automata_steps.specs.Prepared.{Prepared};
 
 use super::fields::{first_edge, first_literal, first_reset, first_update, two_of};
 use automata_records::Shape;
-use records::sizes::{EDGE_OWNERS, EFFECT_KEYS, LITERAL_KEYS, LOCATION_OWNERS, TableHeads};
+use records::sizes::{
+    EDGE_OWNERS, EFFECT_KEYS, LITERAL_KEYS, LOCATION_OWNERS, NO_RECORD, TABLE_KEYS, TABLE_RECORDS,
+    TableHeads,
+};
 
 // Where a kind stands: its records from `start` up to `end`, and its owners' keys, so many from `base` on.
 #[derive(Clone, Copy)]
@@ -37,7 +41,8 @@ fn link(s: &[u8], span: Span, first: &mut TableHeads, next: &mut [u16])
     }
 }
 
-// Of each key its first record, and of each record the next of its key; 65535 is none. What is lent names none.
+// Of each key its first record, and of each record the next of its key; 65535 is none, as two bytes a place are cleared in each call (docs/SPEED.md, "Fixed
+// tables"). The records are a slice, as the index has two lengths. What is lent names none.
 pub fn index_of(s: &[u8], shape: Shape, first: &mut TableHeads, next: &mut [u16])
     requires accepted { Accepted s.now shape }
     requires blank { Blank first.old }
@@ -82,4 +87,23 @@ pub fn index_of(s: &[u8], shape: Shape, first: &mut TableHeads, next: &mut [u16]
         first,
         next,
     );
+}
+
+// What is read by a table's index, made for this once. It is short for a short file. The long one is filled with `NO_RECORD`, whose two bytes
+// differ, so that it is stored by vectors and not by one instruction that is repeated for each byte.
+pub fn with_index<T, F: FnOnce(&TableHeads, &[u16]) -> T>(s: &[u8], shape: Shape, read: F) -> T
+    requires accepted { Accepted s.now shape }
+    requires may_read { (first : _) (next : _) → Prepared s.now shape first.now next.now → F.pre read first next }
+    ensures { (first : _) × (next : _) × Prepared s.now shape first.now next.now × F.post read first next result }
+{
+    let mut first = [65535u16; TABLE_KEYS];
+    if s.len() <= 16384 {
+        let mut next = [65535u16; 1024];
+        index_of(s, shape, &mut first, &mut next);
+        read(&first, &next)
+    } else {
+        let mut next = [NO_RECORD; TABLE_RECORDS];
+        index_of(s, shape, &mut first, &mut next);
+        read(&first, &next)
+    }
 }

@@ -19,7 +19,7 @@ use automata_records::Shape;
 use machines::deeds::{do_guarded, done_by};
 use records::sizes::{Clocks, EFFECT_KEYS, Places, TableHeads, Variables};
 
-// The update that is record n, if its guard holds.
+// The update that is record n, if its guard holds. Its deed answers one number, in a register (docs/DECISIONS.md, "Inner answers are one number").
 fn do_update(
     s: &[u8],
     shape: Shape,
