@@ -174,7 +174,7 @@ fn pair(s: &[u8], shape: Shape, t: u16) -> usize
     16 * source + (priority - 1)
 }
 
-// No pair comes twice, from what is seen on.
+// No pair comes twice, from what is seen on. Each is written down on the way, so that `all` would need a closure that changes what it borrows.
 fn pairs_within(s: &[u8], shape: Shape, seen: &mut [u8]) -> bool
     requires { IsShape s.now shape × (all file.in_code (records s.now) ≡ true) }
     ensures { (result ≡ none_above 1 seen.old (map (pair_at s.now shape) (upto shape.transitions))) × (seen.new ≡ tally 1 seen.old (map (pair_at s.now shape) (upto shape.transitions))) }
@@ -208,7 +208,7 @@ fn owner_at(s: &[u8], shape: Shape, i: u16) -> usize
     }
 }
 
-// No owner comes more than eight times, from what is counted on.
+// No owner comes more than eight times, from what is counted on, as pairs are.
 fn owners_within(s: &[u8], shape: Shape, counts: &mut [u8]) -> bool
     ensures { (result ≡ none_above most_owned counts.old (map (owner_at s.now shape) (upto shape.actions))) × (counts.new ≡ tally most_owned counts.old (map (owner_at s.now shape) (upto shape.actions))) }
 {

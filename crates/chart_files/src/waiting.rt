@@ -11,7 +11,8 @@ use chart_records::Shape;
 use chart_records::fields::{owner_of, place_of, wait_of};
 use records::sizes::STATES;
 
-// Whether a waiting action's milliseconds are those of its state's first, which is noted; 0 stands for none so far.
+// Whether a waiting action's milliseconds are those of its state's first, which is noted; 0 stands for none so far: none that ticks has 0, and an Option
+// would double what each check clears.
 fn note_wait(first: &mut [u32; STATES], state: usize, ms: u32) -> bool
     requires { state < most_states }
     ensures { (result ≡ fits_wait first.old (state, ms)) × (first.new ≡ note_wait first.old (state, ms)) }
@@ -37,7 +38,8 @@ fn wait_fits(s: &[u8], shape: Shape, i: u16, first: &mut [u32; STATES]) -> bool
     note_wait(first, state, wait_of(s, shape, i))
 }
 
-// Of a framed file whose numbers name things and whose waiting actions tick, so that none has 0 milliseconds.
+// Of a framed file whose numbers name things and whose waiting actions tick, so that none has 0 milliseconds. Each is noted on the way, so that `all` would
+// need a closure that changes what it borrows.
 pub fn waits_alike(s: &[u8], shape: Shape) -> bool
     requires { IsShape s.now shape × (file.all_named (read_charts s.now) ≡ true) × (file.all_ticking (read_charts s.now) ≡ true) }
     ensures { result ≡ file.wait_alike (read_charts s.now) }
