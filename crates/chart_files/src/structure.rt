@@ -62,12 +62,7 @@ fn free(s: &[u8], shape: Shape, t: u16) -> bool
 fn unconditional(s: &[u8], shape: Shape, t: u16) -> bool
     ensures { result ≡ file.unconditional (transition_at s.now shape t).trigger (transition_at s.now shape t).guard }
 {
-    match trigger_of(s, shape, t) {
-        Trigger::Always => free(s, shape, t),
-        Trigger::Event(_) => false,
-        Trigger::After(_) => false,
-        Trigger::Every(_) => false,
-    }
+    matches!(trigger_of(s, shape, t), Trigger::Always) && free(s, shape, t)
 }
 
 // How many charts have each state as their initial one, up to 2; and how many transitions leave it.

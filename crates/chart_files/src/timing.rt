@@ -16,10 +16,8 @@ pub fn ticking(t: Trigger) -> bool
     ensures { result ≡ F.ticking (trigger_for t) }
 {
     match t {
-        Trigger::Always => true,
-        Trigger::Event(_) => true,
-        Trigger::After(ms) => 0 < ticks(ms),
-        Trigger::Every(ms) => 0 < ticks(ms),
+        Trigger::Always | Trigger::Event(_) => true,
+        Trigger::After(ms) | Trigger::Every(ms) => 0 < ticks(ms),
     }
 }
 
