@@ -13,7 +13,7 @@ pub struct Sign {
     pub next: usize,
 }
 
-// The first place from `at` on that has no space.
+// The first place from `at` on that has no space. The loop names that place, where `position` would count from `at`.
 pub fn skip(text: &[u8], at: usize) -> usize
     requires { at ≤ length text.now }
     ensures { Skipped text.now at result }

@@ -1,25 +1,19 @@
 // The rules of the grammar: a function for each.
 ghost use Rattle.std.specs.Prelude.{◌≡◌, Some, ◌-◌, ◌≤◌, ◌<◌, length, drop};
 ghost use Rattle.guards.specs.Grammar.{choice_at, binary_at, operand_at};
-ghost use Rattle.guard_reader.specs.Parts.{flag, parsed_of, Reads, Placed, leaf_at, operand_depth, binary_depth, choice_depth};
+ghost use Rattle.guard_reader.specs.Parts.{parsed_of, Reads, Placed, leaf_at, operand_depth, binary_depth, choice_depth};
 
 use super::lexemes::{number_at, past, sign_at, skip};
 use super::trees::{Part, chosen, constant, joined, negated, negative, variable};
 use records::byte_at;
 
-fn bit(b: bool) -> u32
-    ensures { result ≡ flag b }
-{
-    if b { 1 } else { 0 }
-}
-
-// What a rule came to as one number, which stays in a register where an Option would go through memory (docs/SPEED.md, "Guards typed as a line"); 0 is outside the
-// grammar.
+// What a rule came to as one number, 0 outside the grammar. It stays in a register, where an Option would go through memory (docs/DECISIONS.md, "Guards typed as a
+// line").
 fn packed(p: Part) -> u32
     requires { (0 < p.next) × (p.next ≤ 256) × (p.size ≤ 256) }
     ensures { parsed_of result ≡ Some p }
 {
-    (p.next as u32) + 512 * p.size + 262144 * bit(p.fits) + 524288 * bit(p.truth)
+    (p.next as u32) + 512 * p.size + 262144 * u32::from(p.fits) + 524288 * u32::from(p.truth)
 }
 
 pub fn unpacked(r: u32) -> Option<Part>

@@ -7,8 +7,8 @@ ghost use Rattle.guard_reader.specs.Parts.{node_bits, LeafIs, NegationIs, JoinIs
 
 use records::{put_byte, put_u32};
 
-// A tree that was read: the place behind it, the number of nodes written with it, whether all operands have the sort that their operator takes, and whether it is a
-// truth.
+// A tree that was read: the place behind it, the number of nodes written with it, whether all operands have the sort that their operator takes, and whether it is
+// a truth.
 #[derive(Clone, Copy)]
 pub struct Part {
     pub next: usize,
@@ -17,7 +17,7 @@ pub struct Part {
     pub truth: bool,
 }
 
-// Two bytes and four that have room: the test is the caller's.
+// Two bytes and four that have room: a record is written with one test (docs/SPEED.md, "Guards typed as a line"), which is the caller's.
 fn put_two(s: &mut [u8], at: usize, v: u32)
     requires { at + 1 < length s.old }
     ensures { s.new ≡ sets s.old at (bytes2 v) }

@@ -5,12 +5,13 @@ use mathlib.Core.List.{List, [], ◌∷◌}
 use Prim.Native.Nat.{ℕ, ◌+◌, ◌*◌, ◌<◌}
 use native.Mathlib.Omega.{arith}
 use borrow.Author.Tests.{eqb-true, ne_eqb}
+use Rattle.std.proofs.Common.{Option}
 use lib.Dec.{ltb, leb, eqb}
 use lib.IntN.{ℤ, pos}
 use Rattle.prelude.specs.Lists.{case_of}
 use Rattle.records.specs.Bytes.{byte, two, four±}
 use Rattle.expressions.specs.Nodes.{Node, node_by, node_at}
-use Rattle.expressions.specs.Sorts.{a_number, a_truth, sort_of, is_number, is_truth, same_sort, operands, variables_of}
+use Rattle.expressions.specs.Sorts.{Sort, a_number, a_truth, neither, sort_of, is_number, is_truth, same_sort, operands, variables_of}
 use Rattle.expressions.specs.Coded.{HasFields, coded_node}
 use Rattle.expressions.specs.declared.nodes.Fields.{Fields}
 use Rattle.expressions.proofs.Codes.{Other, by_code}
@@ -18,7 +19,7 @@ use Rattle.expressions.proofs.Fields.{coded-at, number_at, truth-at}
 use Rattle.guards.specs.Trees.{Tree, constant, variable, negation, binary, choice, level}
 use Rattle.guards.specs.Texts.{sign, text_of, text_in}
 use Rattle.guards.specs.Lists.{tree_by, tree_of}
-use Rattle.guard_writer.specs.Codes.{code_level, code_binary, first_byte, second_byte, sign_bytes}
+use Rattle.guard_writer.specs.Codes.{code_level, code_sort, code_binary, first_byte, second_byte, sign_bytes}
 use Rattle.guard_writer.specs.Operands.{operand_tree}
 use Rattle.guard_writer.proofs.Rules.{tree-rule, bare-operand}
 
@@ -168,9 +169,10 @@ pub record-told : (s : List ℕ) (n : ℕ) → Told (two s (16 * n + 2)) (two s 
 record-told s n = node-told s n (fields s n) (record { code = refl; a = refl; b = refl; c = refl })
 
 -- the sort that is asked for, by the code
-pub sort-told : (s : List ℕ) (n : ℕ) (truth : Bool) → cond truth (leb 16 (byte s (16 * n + 1)) && leb (byte s (16 * n + 1)) 21) (leb 1 (byte s (16 * n + 1)) && leb (byte s (16 * n + 1)) 8) ≡ same_sort (cond truth a_truth a_number) (sort_of (node_at s n))
-sort-told s n true = truth-at s n
-sort-told s n false = number_at s n
+pub sort-told : (s : List ℕ) (n : ℕ) (sort : Sort) → code_sort (byte s (16 * n + 1)) sort ≡ same_sort sort (sort_of (node_at s n))
+sort-told s n a_number = number_at s n
+sort-told s n a_truth = truth-at s n
+sort-told s n neither = refl
 
 -- the text of an operand that is a negation, where a negation takes it
 pub negated-operand : (s : List ℕ) (n a : ℕ) → a < n → byte s (16 * a + 1) ≡ 19 → text_of (negation (operand_tree (node_at s) a (two s (16 * a + 2)))) ≡ text_in 1 (operand_tree (node_at s) n a)
@@ -202,3 +204,6 @@ sign-bytes code =
     one_of Q code 18 refl (λ n18.
     one_of Q code 20 refl (λ n20.
     rw (n3, n4, n5, n6, n7, n16, n17, n18, n20))))))))))
+
+pub sign-told : (code : ℕ) {first : ℕ} {second : Option ℕ} → first ≡ first_byte code → second ≡ second_byte code → sign_bytes first second ≡ sign (code_binary code)
+sign-told code e f = (λ i. sign_bytes (e i) (f i)) ∙ sign-bytes code

@@ -59,11 +59,11 @@ pub fn list_refusal(nodes: &[u8]) -> Result<u16, Refusal>
         return Err(Refusal::BrokenCode);
     }
     let mut uses = [0u8; NODES];
-    let found = test_nodes(nodes, size, VARIABLES as u16, &mut uses);
-    if !found.named {
+    let tests = test_nodes(nodes, size, VARIABLES as u16, &mut uses);
+    if !tests.named {
         return Err(Refusal::DanglingNumber);
     }
-    if !one_tree(nodes, size, found.fit, &uses) {
+    if !one_tree(nodes, size, tests.fit, &uses) {
         return Err(Refusal::BrokenNode);
     }
     Ok(size - 1)

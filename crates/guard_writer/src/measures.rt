@@ -1,22 +1,24 @@
 // How many bytes are enough for the line of a list that is one tree, in one pass and without the tree. Why a list is no tree is not told here.
-ghost use Rattle.std.specs.Prelude.{◌≡◌, cond, ◌&&◌, ℕ, ◌*◌, ◌≤◌, ◌<◌, leb, length, IfSome};
+ghost use Rattle.std.specs.Prelude.{◌≡◌, cond, ℕ, ◌*◌, ◌≤◌, ◌<◌, ltb, length, IfSome};
 ghost use Rattle.model.specs.Replay.{decimal};
 ghost use Rattle.expressions.specs.Nodes.{node_at};
 ghost use Rattle.expressions.specs.Sorts.{a_truth, a_number};
+ghost use Rattle.expressions.specs.Answers.{sort_for};
 ghost use Rattle.expressions.specs.Uses.{operand_numbers, all_operands, add_uses};
 ghost use Rattle.guards.specs.Trees.{constant, level as levelOf};
 ghost use Rattle.guards.specs.Texts.{sign, text_of};
 ghost use Rattle.guards.specs.Lists.{tree_of};
-ghost use Rattle.guard_writer.specs.Codes.{code_binary};
+ghost use Rattle.guard_writer.specs.Codes.{code_binary, code_sort};
 ghost use Rattle.guard_writer.specs.Measures.{Around, Own, OwnAll, Passes, Fits};
 
 use super::lists::one_tree;
 use super::operators::{level, second_byte};
 use expressions::nodes::fields_at;
-use expressions::sorts::add_use;
+use expressions::sorts::{Sort, add_use};
 use records::sizes::NODES;
 use records::{byte_at, i32_at, u16_at, unsigned32};
 
+// A test for each length, in place of a division for each digit.
 fn digits(n: u32) -> usize
     ensures { (result ≤ 10) × (length (decimal n) ≤ result) }
 {
@@ -84,32 +86,41 @@ fn leaf_bytes(nodes: &[u8], n: u16) -> Option<usize>
 fn sign_bytes(code: u8) -> usize
     ensures { (result ≤ 2) × (length (sign (code_binary code)) ≤ result) }
 {
-    if second_byte(code) == 0 { 1 } else { 2 }
-}
-
-fn is_sort(code: u8, truth: bool) -> bool
-    ensures { result ≡ cond truth (leb 16 code && leb code 21) (leb 1 code && leb code 8) }
-{
-    if truth {
-        (16 <= code) & (code <= 21)
-    } else {
-        (1 <= code) & (code <= 8)
+    match second_byte(code) {
+        None => 1,
+        Some(_) => 2,
     }
 }
 
-// Operand a of node n, which must be a truth or a number.
-fn operand_bytes(nodes: &[u8], n: u16, k: u8, a: u16, truth: bool) -> Option<usize>
+fn is_sort(code: u8, sort: Sort) -> bool
+    ensures { result ≡ code_sort code (sort_for sort) }
+{
+    match sort {
+        Sort::Number => (1 <= code) & (code <= 8),
+        Sort::Truth => (16 <= code) & (code <= 21),
+    }
+}
+
+// Operand a of node n, which must have a sort.
+fn operand_bytes(nodes: &[u8], n: u16, k: u8, a: u16, sort: Sort) -> Option<usize>
     requires { 16 * n ≤ length nodes.now }
-    ensures { IfSome result (λ b. Around (node_at nodes.now) n k a (cond truth a_truth a_number) b) }
+    ensures { IfSome result (λ b. Around (node_at nodes.now) n k a (sort_for sort) b) }
 {
     if n <= a {
         return None;
     }
     let code = nodes[16 * (a as usize) + 1];
-    if !is_sort(code, truth) {
+    if !is_sort(code, sort) {
         return None;
     }
     Some(if level(code) <= k { 0 } else { 2 })
+}
+
+// The sort of both operands of an operator of two.
+fn operand_sort(code: u8) -> Sort
+    ensures { sort_for result ≡ cond (ltb 19 code) a_truth a_number }
+{
+    if 19 < code { Sort::Truth } else { Sort::Number }
 }
 
 fn node_bytes(nodes: &[u8], n: u16, uses: &mut [u8]) -> Option<usize>
@@ -124,25 +135,25 @@ fn node_bytes(nodes: &[u8], n: u16, uses: &mut [u8]) -> Option<usize>
     }
     if k == 1 {
         add_use(uses, f.a);
-        return Some(1 + operand_bytes(nodes, n, 1, f.a, true)?);
+        return Some(1 + operand_bytes(nodes, n, 1, f.a, Sort::Truth)?);
     }
     if k == 7 {
         add_use(uses, f.a);
         add_use(uses, f.b);
         add_use(uses, f.c);
         return Some(
-            2 + operand_bytes(nodes, n, 6, f.a, true)?
-                + operand_bytes(nodes, n, 7, f.b, false)?
-                + operand_bytes(nodes, n, 7, f.c, false)?,
+            2 + operand_bytes(nodes, n, 6, f.a, Sort::Truth)?
+                + operand_bytes(nodes, n, 7, f.b, Sort::Number)?
+                + operand_bytes(nodes, n, 7, f.c, Sort::Number)?,
         );
     }
     add_use(uses, f.a);
     add_use(uses, f.b);
-    let truths = 19 < code;
+    let sort = operand_sort(code);
     Some(
         sign_bytes(code)
-            + operand_bytes(nodes, n, k, f.a, truths)?
-            + operand_bytes(nodes, n, k - 1, f.b, truths)?,
+            + operand_bytes(nodes, n, k, f.a, sort)?
+            + operand_bytes(nodes, n, k - 1, f.b, sort)?,
     )
 }
 

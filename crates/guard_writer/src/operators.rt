@@ -13,15 +13,10 @@ pub fn level(code: u8) -> u8
     ensures { result ≡ code_level code }
 {
     match code {
-        3 => 3,
-        4 => 3,
-        5 => 2,
-        6 => 2,
-        7 => 2,
+        3 | 4 => 3,
+        5 | 6 | 7 => 2,
         8 => 7,
-        16 => 4,
-        17 => 4,
-        18 => 4,
+        16 | 17 | 18 => 4,
         19 => 1,
         20 => 5,
         21 => 6,
@@ -35,7 +30,7 @@ pub fn level_at(nodes: &[u8], n: u16) -> u8
     level(byte_at(nodes, 16 * (n as usize) + 1))
 }
 
-// The sign of an operator that stands between its operands: its first byte, and its second, 0 where there is none.
+// The sign of an operator that stands between its operands: its first byte, and its second, if it has one.
 #[tactic(auto, unfolding(prelude::specs::Lists::case_of))]
 pub fn first_byte(code: u8) -> u8
     ensures { result ≡ first_byte code }
@@ -47,27 +42,20 @@ pub fn first_byte(code: u8) -> u8
         6 => b'/',
         7 => b'%',
         16 => b'=',
-        17 => b'<',
-        18 => b'<',
+        17 | 18 => b'<',
         20 => b'&',
         _ => b'|',
     }
 }
 
 #[tactic(auto, unfolding(prelude::specs::Lists::case_of))]
-pub fn second_byte(code: u8) -> u8
+pub fn second_byte(code: u8) -> Option<u8>
     ensures { result ≡ second_byte code }
 {
     match code {
-        3 => 0,
-        4 => 0,
-        5 => 0,
-        6 => 0,
-        7 => 0,
-        16 => b'=',
-        17 => 0,
-        18 => b'=',
-        20 => b'&',
-        _ => b'|',
+        3 | 4 | 5 | 6 | 7 | 17 => None,
+        16 | 18 => Some(b'='),
+        20 => Some(b'&'),
+        _ => Some(b'|'),
     }
 }

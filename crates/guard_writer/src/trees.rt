@@ -1,6 +1,6 @@
 // The text of a tree, written into a lent buffer from a place on; each function answers the place behind what it wrote. Bytes past the end are counted and not
 // written, so a text must end near enough for its place not to wrap. An operand is lower than its node, so the node's number bounds the calls.
-ghost use Rattle.std.specs.Prelude.{◌≡◌, true, [], ◌∷◌, ◌+◌, ◌*◌, ◌≤◌, ◌<◌, ◌^◌};
+ghost use Rattle.std.specs.Prelude.{◌≡◌, true, ◌+◌, ◌*◌, ◌≤◌, ◌<◌, ◌^◌};
 ghost use Rattle.records.specs.Bytes.{byte};
 ghost use Rattle.records.specs.Wrote.{Wrote};
 ghost use Rattle.model.specs.Replay.{decimal};
@@ -13,27 +13,18 @@ ghost use Rattle.guard_writer.specs.Operands.{operand_tree, Near};
 
 use super::operators::{first_byte, level_at, second_byte};
 use expressions::nodes::fields_at;
-use lines::{put_decimal, put_text};
-use records::{byte_at, i32_at, put_byte, u16_at, unsigned32};
-
-fn put_one(out: &mut [u8], at: usize, b: u8) -> usize
-    requires { at < 2 ^ 62 }
-    ensures { Wrote out.old at (b ∷ []) out.new result }
-{
-    put_byte(out, at, b);
-    at + 1
-}
+use lines::{put_char, put_decimal, put_text};
+use records::{byte_at, i32_at, u16_at, unsigned32};
 
 fn put_sign(code: u8, out: &mut [u8], at: usize) -> usize
     requires { Near at (sign (code_binary code)) }
     ensures { Wrote out.old at (sign (code_binary code)) out.new result }
 {
-    let next = put_one(out, at, first_byte(code));
-    let second = second_byte(code);
-    if second == 0 {
-        return next;
+    let next = put_char(out, at, first_byte(code));
+    match second_byte(code) {
+        None => next,
+        Some(b) => put_char(out, next, b),
     }
-    put_one(out, next, second)
 }
 
 // Most numbers of a guard have one digit.
@@ -42,7 +33,7 @@ fn put_number(n: u32, out: &mut [u8], at: usize) -> usize
     ensures { Wrote out.old at (decimal n) out.new result }
 {
     if n < 10 {
-        return put_one(out, at, 48 + ((n % 10) as u8));
+        return put_char(out, at, b'0' + (n as u8));
     }
     put_decimal(out, at, n)
 }

@@ -9,7 +9,7 @@ ghost use Rattle.lines.specs.Text.{chosen_of, head_text, variables_text, line_te
 use records::put_byte;
 
 // Answers the place behind what it wrote, as all of these do.
-fn put_char(out: &mut [u8], at: usize, b: u8) -> usize
+pub fn put_char(out: &mut [u8], at: usize, b: u8) -> usize
     requires { at < 2 ^ 63 }
     ensures { Wrote out.old at (b ∷ []) out.new result }
 {
@@ -133,23 +133,6 @@ pub fn put_bounded_line(
     put_char(out, feed_at, b'\n')
 }
 
-// A line from `at` on.
-pub fn put_line(
-    out: &mut [u8],
-    at: usize,
-    cycle: u32,
-    chart: u32,
-    chosen: Option<u16>,
-    state: u16,
-    variables: &[i16],
-    count: u16,
-) -> usize
-    requires { at < 2 ^ 59 }
-    ensures { Wrote out.old at (line_text cycle chart (chosen_of chosen) state (take count variables.now)) out.new result }
-{
-    put_bounded_line(out, at, cycle, chart, chosen, state, variables, count)
-}
-
 // A line at the start; answers its length.
 pub fn line_into(
     out: &mut [u8],
@@ -162,5 +145,5 @@ pub fn line_into(
 ) -> usize
     ensures { Begins out.old (line_text cycle chart (chosen_of chosen) state (take count variables.now)) out.new result }
 {
-    put_line(out, 0, cycle, chart, chosen, state, variables, count)
+    put_bounded_line(out, 0, cycle, chart, chosen, state, variables, count)
 }

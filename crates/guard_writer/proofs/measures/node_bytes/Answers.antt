@@ -9,6 +9,7 @@ use lib.Dec.{ltb}
 use Rattle.prelude.specs.Lists.{case_of}
 use Rattle.expressions.specs.Nodes.{Node, node_at}
 use Rattle.expressions.specs.Sorts.{Sort, a_truth, a_number, operands}
+use Rattle.expressions.specs.Answers.{sort_for}
 use Rattle.expressions.specs.Uses.{operand_numbers, add_use, add_uses}
 use Rattle.guards.specs.Trees.{binary_level, level}
 use Rattle.guards.specs.Lists.{tree_of}
@@ -92,8 +93,8 @@ returns c =
     let sign = c.sign_bytes in
     let w = c.in_ok-operand_bytes-5 in
     let v = c.in_ok-operand_bytes-6 in
-    let first = subst (λ j. Around (node_at s) x.n j f.result.a sort w.field-0) k w.ensures in
-    let second = subst (λ j. Around (node_at s) x.n (j - 1) f.result.b sort v.field-0) k v.ensures in (
+    let first = subst (λ o. Around (node_at s) x.n (binary_level (code_binary f.result.code)) f.result.a o w.field-0) c.operand_sort-sort.ensures (subst (λ j. Around (node_at s) x.n j f.result.a (sort_for c.operand_sort-sort.result) w.field-0) k w.ensures) in
+    let second = subst (λ o. Around (node_at s) x.n (binary_level (code_binary f.result.code) - 1) f.result.b o v.field-0) c.operand_sort-sort.ensures (subst (λ j. Around (node_at s) x.n (j - 1) f.result.b (sort_for c.operand_sort-sort.result) v.field-0) k v.ensures) in (
       own-binary (node_at s) x.n (code_binary f.result.code) sort f.result.a f.result.b sign.result w.field-0 v.field-0 first second (t.both l h) sign.ensures.0 sign.ensures.1 e,
       passes-binary (node_at s) x.n (code_binary f.result.code) sort f.result.a f.result.b sign.result w.field-0 v.field-0 first second (t.both l h) (t.without_variable (λ d. two_none f.result.code d (omega (arith, l)))) (t.known (λ d n. absurd (omega (arith, l, d)))),
       c.add_use-3.ensures ∙ ap (λ u. add_use u f.result.b) c.add_use-2.ensures ∙ used x.uses.now (node_at s x.n) (t.both l h),
