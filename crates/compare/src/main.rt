@@ -1,5 +1,6 @@
-// Compares a chart set with its twin: the set is translated, and the same calls are made on both, from fresh runs: a cycle for each event mask, then a turn for each, then all cycles as one long run. Event masks of four
-// bytes, little-endian, come from standard input; a last partial one is left out. After each call answers and runs are compared. It is proved that they never differ; here it is seen, on one's own set and events.
+// Compares a chart set with its twin: the set is translated, and the same calls are made on both, from fresh runs: a cycle for each event mask, then a turn for
+// each, then all cycles as one long run. Event masks of four bytes, little-endian, come from standard input; a last partial one is left out. After each call
+// answers and runs are compared. It is proved that they never differ; here it is seen, on one's own set and events.
 #![tactic(auto)]
 
 ghost use Rattle.std.specs.Prelude.{◌≡◌, ◌*◌, ◌/◌, ◌≤◌, length};

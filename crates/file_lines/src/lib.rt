@@ -15,7 +15,8 @@ use messages::words::print;
 use records::sizes::{FILE_ROOM, TABLE_RECORDS};
 use refusals::{tell_set, tell_table};
 
-// What is shown of a file: all records, or its guards alone.
+// What is shown of a file: all records, or its guards alone. Two values, and no closure from the caller: it would ask what `wanted_into` asks, of a file that
+// only this crate has checked.
 #[derive(Clone, Copy)]
 pub enum Wanted {
     Records,

@@ -1,5 +1,5 @@
-// Leads a path of a set's twin back to the set's transitions. The path is a file of 16-bit numbers, little-endian, of edges, and 65535 for time. Prints a line for each edge that came of a transition: cycle, chart,
-// transition. A refusal's number and meaning go to standard error, and nothing is printed.
+// Leads a path of a set's twin back to the set's transitions. The path is a file of 16-bit numbers, little-endian, of edges, and 65535 for time. Prints a line
+// for each edge that came of a transition: cycle, chart, transition. A refusal's number and meaning go to standard error, and nothing is printed.
 #![tactic(auto)]
 
 ghost use Rattle.std.specs.Prelude.{◌≡◌, ◌*◌, ◌/◌, ◌≤◌, length};

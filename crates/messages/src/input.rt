@@ -1,6 +1,7 @@
 // Arguments and files: a file named by an argument, - for standard input, read whole; one that is longer than any set or table is refused as it is read.
 ghost use Rattle.std.specs.Io.{ReadsAtMost};
-ghost use Rattle.std.specs.Prelude.{◌≤◌, IfSome};
+ghost use Rattle.std.specs.Prelude.{◌≡◌, ◌≤◌, ◌<◌, IfSome, None, Some, length};
+ghost use Rattle.records.specs.Bytes.{four};
 ghost use Rattle.messages.specs.Counts.{IsPrefixLen};
 
 use crate::files::tell_file;
@@ -38,7 +39,8 @@ impl<F: Read, I: Read> Read for Source<F, I> {
     }
 }
 
-// What a file is read as; either is told by the first record's kind.
+// What a file is read as; either is told by the first record's kind. A value that is passed on, and no choice of a step: what is said of a refused file
+// depends on it and on what the file seems to be.
 #[derive(Clone, Copy)]
 pub enum Form {
     Set,
@@ -116,6 +118,24 @@ pub fn fill(input: &mut impl Read, buf: &mut [u8]) -> io::Result<usize>
     Ok(size)
 }
 
+// The event mask in the first four bytes; None where there are fewer.
+pub fn mask_in(bytes: &[u8]) -> Option<u32>
+    ensures partial { length bytes.now < 4 → result ≡ None }
+    ensures whole { 4 ≤ length bytes.now → result ≡ Some (four bytes.now 0) }
+{
+    if bytes.len() < 4 {
+        return None;
+    }
+    Some(records::u32_at(bytes, 0))
+}
+
+// The next event mask of standard input; None at a partial one, at the end, and where a read fails, which is told.
+pub fn next_mask(rt: &impl Host, input: &mut impl Read) -> Option<u32> {
+    let mut mask = [0u8; 4];
+    let size = or_tell(rt, b"standard input", fill(input, &mut mask))?;
+    mask_in(&mask[..size])
+}
+
 // ---- files that are longer than any set or table
 
 // A set with more than the first part, which is more than the most of all kinds together: it is read on, as refusals 1 and 2 depend on its end.
@@ -168,7 +188,8 @@ pub fn open_input<R: Host>(rt: &R, name: &[u8]) -> io::Result<Source<R::File, R:
     Ok(Source::File(fs::open(rt, path_of(name)?)?))
 }
 
-// Reads a file into a buffer that is longer than any set or table; answers how many bytes it has. None where it is missing, unreadable or fills the buffer, which is told.
+// Reads a file into a buffer that is longer than any set or table; answers how many bytes it has. None where it is missing, unreadable or fills the buffer,
+// which is told.
 pub fn read_file(rt: &impl Host, name: &[u8], buf: &mut [u8], form: Form) -> Option<usize>
     ensures { IfSome result (λ n. IsPrefixLen n buf.new) }
 {

@@ -1,4 +1,5 @@
-// A refusal of a file that is named, told on standard error: its number and meaning, with the first record that breaks the rule where one does by itself, and what the file is where it is neither a set nor a table.
+// A refusal of a file that is named, told on standard error: its number and meaning, with the first record that breaks the rule where one does by itself, and
+// what the file is where it is neither a set nor a table.
 #![tactic(auto)]
 
 use file_kinds::seen_as;
@@ -41,15 +42,8 @@ pub fn tell_set(rt: &impl Host, s: &[u8], w: Refusal) {
 // What is told of 11 is the first of 2, 4 and 5 that a record breaks.
 pub fn tell_table(rt: &impl Host, s: &[u8]) {
     say(rt, Refusal::BadTable);
-    if !tell_record(rt, s, Rule::TableKinds, b": kind unknown") {
-        if !tell_record(
-            rt,
-            s,
-            Rule::TableBytes,
-            b": an unnamed or unused byte not zero",
-        ) {
-            tell_record(rt, s, Rule::TableCodes, b": a code or range broken");
-        }
-    }
+    let _ = tell_record(rt, s, Rule::TableKinds, b": kind unknown")
+        || tell_record(rt, s, Rule::TableBytes, b": an unnamed or unused byte not zero")
+        || tell_record(rt, s, Rule::TableCodes, b": a code or range broken");
     end_line(rt, s);
 }

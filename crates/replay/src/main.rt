@@ -11,21 +11,10 @@ use chart_runs::{Run, start};
 use chart_steps::tables::{Tables, tables_of};
 use messages::files::refuse_set;
 use messages::host::Host;
-use messages::input::{Form, NAME_ROOM, argument, argument_count, arguments, fill, read_file};
-use messages::words::{or_tell, print, tell_stop};
+use messages::input::{Form, NAME_ROOM, argument, argument_count, arguments, next_mask, read_file};
+use messages::words::{print, tell_stop};
 use records::sizes::FILE_ROOM;
 use replays::sets::cycle_into;
-use std::io::Read;
-
-// The next mask; None at a partial one, at the end, and where a read fails, which is told.
-fn next_mask(rt: &impl Host, input: &mut impl Read) -> Option<u32> {
-    let mut mask = [0u8; 4];
-    let size = or_tell(rt, b"standard input", fill(input, &mut mask))?;
-    if size < 4 {
-        return None;
-    }
-    Some(records::u32_at(&mask, 0))
-}
 
 // A cycle for a mask: its lines go out, and then its refusal or fault, if it has one. None where there is no further one.
 fn play_mask(

@@ -17,7 +17,7 @@ use chart_runs::Run;
 use chart_steps::tables::Tables;
 use charts::turns::turn;
 
-// The length of the lines written, how the cycle ended, and the run after it.
+// The length of the lines in the lent buffer (memory is fixed), how the cycle ended, and the run after it.
 #[derive(Clone, Copy)]
 pub struct ReplayedCycle {
     pub size: usize,

@@ -1,4 +1,5 @@
-// A cycle of automata played with its lines, as `sets` has it of charts.
+// A cycle of automata played with its lines, as `sets` has it of charts. The two are one proof (proofs/Lines.antt), of any machine; a trait for one function
+// would have to bring the run's fields, the tables and what holds of them beside the turn, and be longer than this loop.
 ghost use Rattle.std.specs.Prelude.{◌≡◌, ◌≤◌};
 ghost use Rattle.model.specs.Outcome.{settled};
 ghost use Rattle.model.specs.Runs.{whole_cycle, trace, cycle as model-cycle};
@@ -17,7 +18,7 @@ use automata::turns::turn;
 use automata_records::Shape;
 use records::sizes::TableHeads;
 
-// The length of the lines written, how the cycle ended, and the run after it.
+// The length of the lines in the lent buffer (memory is fixed), how the cycle ended, and the run after it.
 #[derive(Clone, Copy)]
 pub struct ReplayedCycle {
     pub size: usize,

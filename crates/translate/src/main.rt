@@ -1,6 +1,6 @@
 // Translates a chart set into its automata twin, which it writes to a file, and tells the twin's length and how many records it has of each kind. The file is
-// made, or emptied, only once the twin is there, and without --force never where an accepted chart set stands, such as the set itself under any name. Where the file is -, the twin goes to
-// standard output, and nothing else does. A refusal's number and meaning go to standard error.
+// made, or emptied, only once the twin is there, and without --force never where an accepted chart set stands, such as the set itself under any name. Where the
+// file is -, the twin goes to standard output, and nothing else does. A refusal's number and meaning go to standard error.
 #![tactic(auto)]
 
 ghost use Rattle.std.specs.Io.{ReadsAtMost};
