@@ -1,5 +1,5 @@
 // Sums, products and comparisons of 32-bit numbers, worked out in 64 bits. An outcome is one number, so that a register holds it: a number of 32 bits is
-// itself, and a fault is above them.
+// itself, and a fault is above them. A Result goes through memory, which is slower (docs/DECISIONS.md, "Inner answers are one number").
 #![tactic(auto)]
 
 ghost use Rattle.std.specs.Prelude.{◌≡◌};

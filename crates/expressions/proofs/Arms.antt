@@ -1,6 +1,6 @@
 -- What the arms of the two evaluators show, from what their calls ensure. Assumes nothing.
 use mathlib.Core.Path.{◌≡◌, refl, sym, ap, ◌∙◌}
-use mathlib.Core.Bool.{Bool, true, false, cond}
+use mathlib.Core.Bool.{Bool, true, false}
 use mathlib.Core.List.{List}
 use Prim.Native.Nat.{ℕ, ◌+◌, ◌*◌, ◌≤◌, ◌<◌}
 use lib.Dec.{eqb}
@@ -20,10 +20,6 @@ use Rattle.expressions.proofs.Fields.{coded-at}
 use Rattle.expressions.proofs.Depth.{number-rule, truth-rule}
 
 -- ---- outcomes
-
-pub picked-one : {A : Type 0} (f : ℕ → Out A) (first : Bool) (a b : ℕ) → f (cond first a b) ≡ choose (val first) (f a) (f b)
-picked-one f true a b = refl
-picked-one f false a b = refl
 
 -- ---- nodes
 

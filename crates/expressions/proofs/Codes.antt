@@ -1,11 +1,11 @@
 -- A node by its record's code: what is shown of each entry of the table of codes, and of what no entry has, holds of the node. Assumes nothing.
 use mathlib.Core.Path.{◌≡◌, refl, sym, ◌∙◌, subst}
 use mathlib.Core.Bool.{Bool, true, false, cond, ◌&&◌}
-use mathlib.Core.List.{List, [], ◌∷◌}
+use mathlib.Core.List.{List}
 use Prim.Native.Nat.{ℕ, suc, ◌≤◌, ◌<◌}
 use native.Mathlib.Omega.{arith}
-use borrow.Author.Tests.{leb-true, ltb-true, ltb-false, eqb-true, eqb-false}
-use lib.Dec.{T, leb, ltb, eqb}
+use borrow.Author.Tests.{leb-true, eqb-true, eqb-false}
+use lib.Dec.{T, leb, eqb}
 use lib.IntN.{ℤ, pos}
 use Rattle.prelude.specs.Lists.{case_of}
 use Rattle.records.specs.Refusal.{Out, val}
@@ -13,7 +13,7 @@ use Rattle.expressions.specs.Nodes.{Node, constant, variable, arithmetic, choice
 use Rattle.arithmetic.specs.Operators.{sum, difference, product, quotient, remainder, equal, less, at_most, arithmetic_of, comparison_of}
 use Rattle.expressions.specs.Values.{number_by, truth_by}
 use Rattle.expressions.specs.OperandValues.{decide}
-use Rattle.expressions.specs.Sorts.{Sort, a_number, a_truth, sort_of, is_number, is_truth, operands, variables_of}
+use Rattle.expressions.specs.Sorts.{sort_of, is_number, is_truth}
 
 -- a code that no entry has
 abbrev pub Other : ℕ → Type 0
@@ -84,46 +84,12 @@ outside lo hi k h = go (leb lo k) (leb k hi) (leb-true lo k) (leb-true k hi)
     go true false p q = refl
     go false u p q = refl
 
--- d, whichever way a test goes
-either_way : {A : Type 0} (d : A) (t : Bool) {x y : A} → (t ≡ true → x ≡ d) → (t ≡ false → y ≡ d) → cond t x y ≡ d
-either_way d true p q = p refl
-either_way d false p q = q refl
-
 module _ (code a b c : ℕ) (z : ℤ) where
   pub number-codes : (leb 1 code && leb code 8) ≡ is_number (sort_of (node_by code a b c z))
   number-codes = by_code (λ k x. (leb 1 k && leb k 8) ≡ is_number (sort_of x)) a b c z refl refl refl refl refl refl refl refl refl refl refl refl refl refl (λ k o. outside 1 8 k o.0) code
 
   pub truth-codes : (leb 16 code && leb code 21) ≡ is_truth (sort_of (node_by code a b c z))
   truth-codes = by_code (λ k x. (leb 16 k && leb k 21) ≡ is_truth (sort_of x)) a b c z refl refl refl refl refl refl refl refl refl refl refl refl refl refl (λ k o. outside 16 21 k o.1) code
-
-  pub variable-code : cond (eqb code 2) (a ∷ []) [] ≡ variables_of (node_by code a b c z)
-  variable-code =
-      by_code (λ k x. cond (eqb k 2) (a ∷ []) [] ≡ variables_of x) a b c z refl refl refl refl refl refl refl refl refl refl refl refl refl refl
-      (λ k o. either_way [] (eqb k 2) (λ t. absurd (o.0 (omega (arith, eqb-true k 2 t)) (omega (arith, eqb-true k 2 t)))) (λ t. refl)) code
-
--- operands by the code
-abbrev pub operands_by : ℕ → ℕ → ℕ → ℕ → List (ℕ × Sort)
-operands_by code a b c =
-    cond (ltb code 3) []
-    (cond (ltb code 8) ((a, a_number) ∷ (b, a_number) ∷ [])
-    (cond (eqb code 8) ((a, a_truth) ∷ (b, a_number) ∷ (c, a_number) ∷ [])
-    (cond (ltb code 16) []
-    (cond (ltb code 19) ((a, a_number) ∷ (b, a_number) ∷ [])
-    (cond (eqb code 19) ((a, a_truth) ∷ [])
-    (cond (ltb code 22) ((a, a_truth) ∷ (b, a_truth) ∷ []) []))))))
-
-no-operands : (k a b c : ℕ) → Other k → operands_by k a b c ≡ []
-no-operands k a b c o =
-    either_way [] (ltb k 3) (λ t. refl) (λ p.
-    either_way [] (ltb k 8) (λ t. absurd (o.0 (omega (arith, ltb-false k 3 p)) (omega (arith, ltb-true k 8 t)))) (λ q.
-    either_way [] (eqb k 8) (λ t. absurd (o.0 (omega (arith, eqb-true k 8 t)) (omega (arith, eqb-true k 8 t)))) (λ r.
-    either_way [] (ltb k 16) (λ t. refl) (λ u.
-    either_way [] (ltb k 19) (λ t. absurd (o.1 (omega (arith, ltb-false k 16 u)) (omega (arith, ltb-true k 19 t)))) (λ v.
-    either_way [] (eqb k 19) (λ t. absurd (o.1 (omega (arith, eqb-true k 19 t)) (omega (arith, eqb-true k 19 t)))) (λ w.
-    either_way [] (ltb k 22) (λ t. absurd (o.1 (omega (arith, ltb-false k 16 u)) (omega (arith, ltb-true k 22 t)))) (λ t. refl)))))))
-
-pub operands-by : (code a b c : ℕ) (z : ℤ) → operands_by code a b c ≡ operands (node_by code a b c z)
-operands-by code a b c z = by_code (λ k x. operands_by k a b c ≡ operands x) a b c z refl refl refl refl refl refl refl refl refl refl refl refl refl refl (λ k o. no-operands k a b c o) code
 
 module _ (code a b c : ℕ) (z : ℤ) where
   pub arithmetic-codes : 2 < code → code < 8 → arithmetic (arithmetic_of code) a b ≡ node_by code a b c z

@@ -18,18 +18,9 @@ use Rattle.expressions.specs.Nodes.{node_at}
 use Rattle.expressions.specs.Values.{number, truth}
 use Rattle.expressions.specs.OperandValues.{operand_number, operand_truth, compute_operands, compare_operands, decide}
 use Rattle.expressions.specs.Coded.{HasFields}
-use Rattle.expressions.specs.WholeRecords.{RecordAt}
 use Rattle.expressions.specs.declared.nodes.Fields.{Fields}
 use Rattle.expressions.proofs.Decided.{undecided, stays}
 use Rattle.expressions.proofs.Arms.{no-number-arm, choice-arm, arithmetic-arm, no-truth-arm, comparison-arm, negation-arm, decided-arm}
-
--- ---- records below one
-
-pub lower-record : {s : List ℕ} {at : ℕ} → RecordAt s at → (a : ℕ) → 16 * a < at → RecordAt s (16 * a)
-lower-record {s} {at} r a l =
-    let b : at ≡ 16 * r.node = r.begins in
-    let w : at + 16 ≤ length s = r.whole in
-    record { node = a; begins = refl; whole = omega (arith, b, w, l) }
 
 -- ---- the arms of node n, whose record begins at a place
 
@@ -118,12 +109,6 @@ LeftToOperand s vars start node flip a = (n : ℕ) → start ≡ 16 * n → trut
 module _ {s : List ℕ} {vars : List ℤ} {start at : ℕ} {flip : Bool} {code : ℕ} (l : LeftTo s vars start at flip code) where
   abbrev B : ℕ → Out Bool
   B = operand_truth (node_at s) vars l.node
-
-  pub left-record : RecordAt s at
-  left-record =
-      let b : at ≤ start = l.below in
-      let w : start + 16 ≤ length s = l.whole in
-      record { node = l.node; begins = l.begins; whole = omega (arith, b, w) }
 
   between : 19 ≤ code → code ≤ 21 → (code ≡ 19 → ⊥) → (19 < byte s (at + 1)) × (byte s (at + 1) < 22)
   between f g h =

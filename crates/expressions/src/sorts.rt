@@ -25,6 +25,7 @@ pub enum Operands {
     Choice(u16, u16, u16),
 }
 
+#[tactic(auto, unfolding(prelude::specs::Lists::case_of))]
 pub fn is_number(nodes: &[u8], n: u16) -> bool
     ensures { result ≡ is_number (sort_of (node_at nodes.now n)) }
 {
@@ -32,6 +33,7 @@ pub fn is_number(nodes: &[u8], n: u16) -> bool
     (1 <= code) & (code <= 8)
 }
 
+#[tactic(auto, unfolding(prelude::specs::Lists::case_of))]
 pub fn is_truth(nodes: &[u8], n: u16) -> bool
     ensures { result ≡ is_truth (sort_of (node_at nodes.now n)) }
 {

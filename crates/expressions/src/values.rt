@@ -1,5 +1,6 @@
 // What a node comes to, as a number and as a truth. Operands are lower than their node, so the node's number bounds the calls. Outcomes are plain numbers
-// until the end: what a call hands back then stays in a register.
+// until the end, which stay in a register: as an enum or a Result, through memory, a guard of 1,024 nodes took up to four times as long (docs/DECISIONS.md,
+// "Inner answers are one number", "Tried for evaluation and given up").
 ghost use Rattle.std.specs.Prelude.{◌≡◌, cond, ◌&&◌, ℕ, ◌-◌, ◌*◌, ◌+◌, ltb, leb, eqb, get_or, pos};
 ghost use Rattle.std.specs.Int.Signed.{le_z};
 ghost use Rattle.records.specs.Refusal.{val, fault, choose};
@@ -28,7 +29,7 @@ fn variable(vars: &[i16], v: u16) -> i64
 fn truth_value(t: bool) -> u8
     ensures { result ≡ cond t 1 0 }
 {
-    if t { 1 } else { 0 }
+    t as u8
 }
 
 // A fault that a truth comes to, of a number, and the other way round.

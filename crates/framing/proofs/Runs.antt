@@ -30,9 +30,6 @@ walk Q i e h q step = subst Q (let x : i + (e - i) ≡ e = omega arith in x) (go
 abbrev pub Running : List ℕ → ℕ → ℕ → ℕ → Type 0
 Running s start k i = (j : ℕ) → start ≤ j → j < i → byte s (16 * j) ≡ k
 
-pub running_more : (s : List ℕ) (start k i : ℕ) → Running s start k i → byte s (16 * i) ≡ k → Running s start k (i + 1)
-running_more s start k i h e j a b = below_more (λ m. start ≤ m → byte s (16 * m) ≡ k) i (λ m l g. h m g l) (λ g. e) j b a
-
 -- ---- how many of a kind are among the records from i on
 
 abbrev pub left : List ℕ → ℕ → ℕ → ℕ

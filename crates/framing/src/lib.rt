@@ -18,7 +18,7 @@ pub struct Frame {
 fn kinds_of(most: &[u16]) -> usize
     ensures { (result ≡ length (take 9 most.now)) × (result ≤ 9) × (result ≤ length most.now) }
 {
-    if most.len() < 9 { most.len() } else { 9 }
+    most.len().min(9)
 }
 
 // The end of the run of a kind's records that starts at a record.
