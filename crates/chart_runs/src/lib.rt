@@ -1,10 +1,10 @@
-// Runs of chart sets: the fresh run, what is checked before a turn, and time.
+// Runs of chart sets: the fresh run, what is checked before a turn, and time. Those of automata are apart: the C interface has a struct for each.
 #![tactic(auto)]
 
 ghost use Rattle.std.specs.Prelude.{◌≡◌, ℕ, ◌≤◌, ◌<◌, leb, length, get_or};
 ghost use Rattle.model.specs.Limits.{most_charts};
 ghost use Rattle.prelude.specs.Lists.{all, upto, map_from};
-ghost use Rattle.model.specs.Runs.{start as started, possible, checked, give as model-give, time_passed, rest_zero};
+ghost use Rattle.model.specs.Runs.{start as started, possible, checked, give as model-give, time_passed};
 ghost use Rattle.model.specs.ChartSet.{ChartSet, read_charts};
 ghost use Rattle.model.specs.Charts.{charts as machine};
 ghost use Rattle.chart_records.specs.Shape.{IsShape};
@@ -14,7 +14,7 @@ ghost use Rattle.chart_runs.specs.RunOf.{run_of, AgesPossible, aged};
 
 use chart_records::Shape;
 use chart_steps::values::values_of;
-use machines::checks::{decide, events_given, initial_places, shared_possible};
+use machines::checks::{decide, events_given, initial_places, shared_possible, unused};
 use machines::values::start_values;
 use records::refusals::Refusal;
 use records::sizes::{Ages, CHARTS, Places, Variables};
@@ -37,12 +37,6 @@ fn ages_possible(charts: u16, ages: Ages, cycles: u32) -> bool
     ensures { result ≡ all (λ k. leb (get_or ages k 0) cycles) (upto charts) }
 {
     (0..charts).all(|k| ages[k as usize] <= cycles)
-}
-
-fn ages_unused(charts: u16, ages: Ages) -> bool
-    ensures { result ≡ rest_zero charts ages }
-{
-    ages.iter().skip(charts as usize).all(|age| *age == 0)
 }
 
 // The fresh run of a set.
@@ -84,7 +78,7 @@ fn is_possible(s: &[u8], shape: Shape, run: Run) -> bool
         run.position,
         run.cycles,
     );
-    shared & ages_possible(shape.charts, ages, run.cycles) & ages_unused(shape.charts, ages)
+    shared & ages_possible(shape.charts, ages, run.cycles) & unused(shape.charts, &ages, 0)
 }
 
 // What is checked before a turn, or a cycle.

@@ -1,4 +1,5 @@
-// The key of an action's owner, its guard, and its waiting time.
+// The key of an action's owner, its guard, and its waiting time. Its record is in an accepted file, so that reads need no test of the length, as those of
+// chart_records::fields do.
 ghost use Rattle.std.specs.Prelude.{◌≡◌, ◌<◌};
 ghost use Rattle.model.specs.ChartSet.{read_plus_one};
 ghost use Rattle.chart_records.specs.Places.{first_action, action_at, wait_at};

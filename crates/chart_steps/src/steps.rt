@@ -1,4 +1,6 @@
-// A chart's turn. Its steps answer one number, as deeds do in machines: it stays in a register, where a Result goes through memory (docs/DECISIONS.md, "Inner answers are one number").
+// A chart's turn, in place on the arrays of a run: a run by value is copied (docs/SPEED.md, "A run lent and given back"). Its steps answer one number, as
+// deeds do in machines: events or a choice, 65,535 for no choice, or a fault. It stays in a register, where a Result or an Option would go through memory
+// (docs/DECISIONS.md, "Inner answers are one number").
 ghost use Rattle.std.specs.Prelude.{◌≡◌, true, ◌+◌, ◌-◌, ◌≤◌, ◌<◌};
 ghost use Rattle.model.specs.Limits.{most_charts};
 ghost use Rattle.expressions.specs.Answers.{truth_of};
@@ -84,7 +86,17 @@ fn do_actions(
     let leaving = EXIT_KEYS + source_of(s, shape, t);
     let crossing = CROSSING_KEYS + t;
     let entering = target_of(s, shape, t);
-    do_deeds(s, shape, tables, leaving, crossing, entering, vars, events)
+    do_deeds(
+        s,
+        shape,
+        &tables.first,
+        &tables.next,
+        leaving,
+        crossing,
+        entering,
+        vars,
+        events,
+    )
 }
 
 // A transition that holds is taken: the state that is entered has the age 0.
@@ -144,7 +156,8 @@ fn wait(
         do_deeds(
             s,
             shape,
-            tables,
+            &tables.first,
+            &tables.next,
             WAITING_KEYS + state,
             EMPTY_KEY,
             EMPTY_KEY,
@@ -188,7 +201,8 @@ fn step_in_place(
     )
 }
 
-// The turns of the charts from one up to another, in place: the events after them, and what the last of them chose. One turn goes by it too, so that a step stands at one place of the code.
+// The turns of the charts from one up to another, in place: the events after them, and what the last of them chose. One turn goes by it too, so that a step
+// stands at one place of the code (docs/DECISIONS.md, "One loop for turns").
 pub fn turns_in_place(
     s: &[u8],
     shape: Shape,

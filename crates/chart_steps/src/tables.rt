@@ -14,8 +14,8 @@ use records::sizes::{
     ACTION_KEYS, ACTIONS, ActionHeads, ActionLinks, Ends, PRIORITIES, Rows, STATES,
 };
 
-// Of each state its leaving transitions and where its row ends; of each key its first action, and of each action the next of its key. None is 65,535, and 256 in a row: an
-// Option would take twice the bytes.
+// Of each state its leaving transitions and where its row ends; of each key its first action, and of each action the next of its key. None is 65,535, and 256
+// in a row: an Option would take twice the bytes (docs/SPEED.md, "Fixed tables").
 #[derive(Drop)]
 pub struct Tables {
     pub rows: Rows,
@@ -24,7 +24,8 @@ pub struct Tables {
     pub next: ActionLinks,
 }
 
-// Of each state its leaving transitions, by priority, in rows of none, which is 256: a number of two unlike bytes is put by plain stores, and one of two like bytes by one instruction repeated for each byte. And the highest priority of each.
+// Of each state its leaving transitions, by priority, and the highest priority of each. The rows are of none before, which is 256: a number of two unlike
+// bytes is put by plain stores, and one of two like bytes by one instruction repeated for each byte.
 pub fn fill_rows(s: &[u8], shape: Shape, rows: &mut Rows, ends: &mut Ends)
     requires { Accepted s.now shape × (rows.old ≡ replicate most_states (replicate most_priorities 256)) × (ends.old ≡ replicate most_states 0) }
     ensures { HasRows (read_charts s.now) rows.new × HasEnds (read_charts s.now) rows.new ends.new }
@@ -38,7 +39,7 @@ pub fn fill_rows(s: &[u8], shape: Shape, rows: &mut Rows, ends: &mut Ends)
     }
 }
 
-// The transition at a place of a state's row, as the other tables have it: 65,535 is none.
+// The transition at a place of a state's row. As in the other tables 65,535 is none, so that the choice made of it (steps.rt) stays one number.
 pub fn slot_of(s: &[u8], shape: Shape, rows: &Rows, state: u16, place: usize) -> u16
     requires { Accepted s.now shape × HasRows (read_charts s.now) rows.now × (state < shape.states) × (place < most_priorities) }
     ensures { result ≡ slot_at (read_charts s.now) state (place + 1) }

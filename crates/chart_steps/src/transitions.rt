@@ -1,4 +1,5 @@
-// The fields of a transition that a turn reads, and whether it holds.
+// The fields of a transition that a turn reads, and whether it holds. Its record is in an accepted file, so that reads need no test of the length, as those of
+// chart_records::fields do.
 ghost use Rattle.std.specs.Prelude.{◌≡◌, ◌<◌};
 ghost use Rattle.expressions.specs.Answers.{truth_of};
 ghost use Rattle.model.specs.ChartSet.{read_charts};

@@ -1,8 +1,8 @@
 // What is checked before a turn, but for the timers; and the places of a fresh run.
-ghost use Rattle.std.specs.Prelude.{◌≡◌, cond, not, ◌&&◌, ◌||◌, [], ◌+◌, ◌≤◌, leb, ltb, eqb};
+ghost use Rattle.std.specs.Prelude.{◌≡◌, cond, not, ◌&&◌, ◌||◌, [], ◌+◌, ◌≤◌, leb, ltb, eqb, drop};
 ghost use Rattle.model.specs.Limits.{most_charts};
-ghost use Rattle.prelude.specs.Lists.{padded};
-ghost use Rattle.model.specs.Runs.{in_bounds, places_possible, variables_possible, rest_zero, rest_zero_values, checked_by};
+ghost use Rattle.prelude.specs.Lists.{all, padded};
+ghost use Rattle.model.specs.Runs.{in_bounds, places_possible, variables_possible, rest_zero_values, checked_by};
 ghost use Rattle.machines.specs.Files.{initials_in, home_in, homes_in, variable_in, variables_in, HasValues};
 ghost use Rattle.machines.specs.Worlds.{moment, world_in};
 ghost use Rattle.machines.specs.Checks.{counts_possible, shared_possible, before_of};
@@ -46,11 +46,14 @@ fn counts_possible(parts: u16, events: u32, position: u32, cycles: u32) -> bool
         & events_possible(position, events)
 }
 
-// Places behind the parts' are 0.
-fn places_unused(parts: u16, at: Places) -> bool
-    ensures { result ≡ rest_zero parts at }
+// Places behind those that are used are empty.
+pub fn unused<T: Copy + PartialEq>(used: u16, places: &[T], empty: T) -> bool
+    ensures { result ≡ all (λ place. T.eq place empty) (drop used places.now) }
 {
-    at.iter().skip(parts as usize).all(|place| *place == 0)
+    places
+        .iter()
+        .skip(used as usize)
+        .all(|place| *place == empty)
 }
 
 // All are looked at, so that the compiler takes several at once.
@@ -113,7 +116,7 @@ pub fn shared_possible(
     places_possible(s, parts, places, at)
         & variables_possible(s, values, variables)
         & counts_possible(parts, events, position, cycles)
-        & places_unused(parts, at)
+        & unused(parts, &at, 0)
         & variables_unused(values.variables, variables)
 }
 

@@ -1,7 +1,8 @@
 // Events, and deeds on variables and events.
-ghost use Rattle.std.specs.Prelude.{◌≡◌, true, ◌&&◌, List, ◌+◌, ◌<◌, ◌^◌, ℤ, get_or};
+ghost use Rattle.std.specs.Prelude.{◌≡◌, true, ◌&&◌, List, ℕ, ◌+◌, ◌<◌, ◌^◌, ℤ, get_or};
 ghost use Rattle.std.specs.Int.Signed.{le_z, mag};
 ghost use Rattle.records.specs.Refusal.{refusal_number, fault};
+ghost use Rattle.records.specs.RefusalOf.{out_of};
 ghost use Rattle.expressions.specs.Answers as expressions-answers;
 ghost use Rattle.model.specs.Runs.{in_bounds, no_variable, present, raised, assign, deed, action};
 ghost use Rattle.model.specs.ChartSet.{read_deed, action_by};
@@ -33,17 +34,11 @@ pub fn raised(e: u8, events: u32) -> u32
     }
 }
 
-fn widened(z: i16) -> i32
-    ensures { result ≡ z }
-{
-    z as i32
-}
-
 // What is within bounds of 16 bits has 16 bits.
 fn is_between(z: i32, lowest: i16, highest: i16) -> bool
     ensures { (result ≡ (le_z lowest z && le_z z highest)) × (result ≡ true → mag z < 2 ^ 15) }
 {
-    (widened(lowest) <= z) & (z <= widened(highest))
+    ((lowest as i32) <= z) & (z <= (highest as i32))
 }
 
 fn is_within(s: &[u8], values: Values, v: u8, z: i32) -> bool
@@ -57,11 +52,14 @@ fn is_within(s: &[u8], values: Values, v: u8, z: i32) -> bool
     )
 }
 
-// Answers as one number: events are below 2^32, and a fault is 2^32 and its number in the refusal table. It stays in a register, where a Result goes through memory and a guard took up to four times as long (docs/DECISIONS.md, "Inner answers are one number").
+// Answers as one number: events are below 2^32, and a fault is 2^32 and its number in the refusal table. It stays in a register, where a Result would go
+// through memory (docs/DECISIONS.md, "Inner answers are one number").
+const FAULTS: u64 = 4294967296;
+
 fn fault_number(w: Reason) -> u64
     ensures { result ≡ 4_294_967_296 + refusal_number (reason_of w) }
 {
-    4294967296 + (reason_number(w) as u64)
+    FAULTS + (reason_number(w) as u64)
 }
 
 pub fn fault_code(w: expressions::outcomes::Reason) -> u64
@@ -70,12 +68,13 @@ pub fn fault_code(w: expressions::outcomes::Reason) -> u64
     fault_number(w.into())
 }
 
+// By tests: a `match` on the numbers becomes a table of jumps (docs/DECISIONS.md, "Nodes below a root have whole records").
 pub fn reason_by(code: u64) -> Reason
     ensures { reason_of result ≡ coded_fault code }
 {
-    if code == 4294967311 {
+    if code == FAULTS + (Reason::Range as u64) {
         Reason::Range
-    } else if code == 4294967312 {
+    } else if code == FAULTS + (Reason::Divisor as u64) {
         Reason::Divisor
     } else {
         Reason::Bounds
@@ -84,7 +83,8 @@ pub fn reason_by(code: u64) -> Reason
 
 // The events afterwards, or why there are none.
 pub fn done_by(code: u64) -> Result<u32, Reason>
-    ensures { ((vars : List ℤ) (m : Moment) → world_after result vars m ≡ world_by code vars m) × ((w : Reason) → result ≡ Err w → 4_294_967_295 < code) }
+    ensures { ((vars : List ℤ) (m : Moment) → world_after result vars m ≡ world_by code vars m) × ((w : Reason) → result ≡ Err w → 4_294_967_295 < code)
+        × (out_of reason_of result ≡ coded code) × ((events : ℕ) → result ≡ Ok events → events ≡ code) }
 {
     if 4294967295 < code {
         Err(reason_by(code))
@@ -113,7 +113,8 @@ fn assign_code(s: &[u8], values: Values, v: u8, n: u16, vars: &mut Variables, ev
     }
 }
 
-// A deed by its fields: code 2 raises, another assigns. The code is tested as the record has it: an enum would be told apart once more.
+// A deed by its fields, which stay in registers: code 2 raises, another assigns. The code is tested as the record has it: an enum would be told apart once
+// more.
 #[tactic(auto, unfolding(prelude::specs::Lists::case_of))]
 fn do_deed(
     s: &[u8],
@@ -135,7 +136,8 @@ fn do_deed(
     }
 }
 
-// An action or update by the fields of its record: it is skipped where its guard is false. The events afterwards, or the fault, as one number.
+// An action or update by the fields of its record, as do_deed takes them: it is skipped where its guard is false. The events afterwards, or the fault, as one
+// number.
 pub fn do_guarded(
     s: &[u8],
     values: Values,

@@ -99,7 +99,7 @@ pub fn truth_at(s: &[u8], values: Values, vars: &Variables, n: u16) -> Result<bo
     truth_of(node_records(s, values), vars, n)
 }
 
-// A guard that is none holds.
+// A guard that is none holds. The field is tested as the record has it, 65,535 for none: an Option of it would be made by each caller, to be taken apart here.
 pub fn guard_holds(s: &[u8], values: Values, vars: &Variables, guard: u16) -> Result<bool, Reason>
     requires { HasValues s.now values }
     ensures { truth_of result ≡ guard_holds (nodes_in s.now values) vars.now (read_guard guard) }
@@ -111,7 +111,7 @@ pub fn guard_holds(s: &[u8], values: Values, vars: &Variables, guard: u16) -> Re
     }
 }
 
-// The guard of an action or update, as its node plus one, or 0 for none.
+// The guard of an action or update, as its record has it: its node plus one, or 0 for none.
 pub fn plus_one_holds(
     s: &[u8],
     values: Values,

@@ -26,7 +26,7 @@ returns c =
     let sh = c.args.shape in
     let v = c.values_of-values in
     let n = sym (length-initial s sh c.requires) in
-    (λ i. c.shared_possible-shared.ensures i && c.ages_possible.ensures i && c.ages_unused.ensures i)
+    (λ i. c.shared_possible-shared.ensures i && c.ages_possible.ensures i && c.unused.ensures i)
     ∙ (λ i. shared_possible (n i) (homes_in_lem s sh c.requires i) (variables-in s sh c.requires v.result v.ensures i) r.states (run_of r).world
     && all (λ k. leb (get_or r.ages k 0) r.cycles) (upto (n i))
     && rest_zero (n i) r.ages)

@@ -11,5 +11,5 @@ returns c =
     λ i. c.places_possible.ensures i
     && c.variables_possible.ensures i
     && c.counts_possible.ensures i
-    && c.places_unused.ensures i
+    && c.unused.ensures i
     && behind i

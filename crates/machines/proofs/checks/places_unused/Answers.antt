@@ -1,8 +1,0 @@
-use borrow.Author.Rules.{rules}
-use lib.Dec.{eqb}
-use Rattle.std.proofs.Common.{tests}
-use Rattle.machines.proofs.Rests.{all_behind}
-use Rattle.machines.proofs.checks.places_unused.Goals as goal
-
-pub returns : goal.returns
-returns c = all_behind (λ x. eqb x 0) c.args.parts c.args.at _ _ _ c.all.ensures.ran (search rules) (search rules) (λ x b q k. search (rules, tests))
