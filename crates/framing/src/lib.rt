@@ -52,15 +52,7 @@ fn tally_of(s: &[u8], first: u8, most: &[u16]) -> Option<[usize; 9]>
 fn wrong_amounts(counts: [usize; 9], most: &[u16]) -> bool
     ensures { result ≡ exceeds counts most.now }
 {
-    if counts[0] == 0 {
-        return true;
-    }
-    for k in 0..kinds_of(most) {
-        if (most[k] as usize) < counts[k] {
-            return true;
-        }
-    }
-    false
+    counts[0] == 0 || (0..kinds_of(most)).any(|k| (most[k] as usize) < counts[k])
 }
 
 // The kinds' records stand one kind after the other, so a kind's first record has the sum of the counts before it.
