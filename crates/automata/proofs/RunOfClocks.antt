@@ -2,12 +2,12 @@
 use mathlib.Core.Path.{◌≡◌, refl, sym, ap, ◌∙◌}
 use mathlib.Core.Bool.{Bool, true, false, cond}
 use mathlib.Core.List.{List}
-use Prim.Native.Nat.{ℕ, ◌≤◌}
+use Prim.Native.Nat.{ℕ, ◌≤◌, ◌<◌}
 use native.Mathlib.Nat.{zero-add}
 use native.Mathlib.Omega.{arith}
 use borrow.Author.Tests.{leb-true, ltb-true, lt-ltb}
 use lib.Dec.{leb, ltb}
-use lib.ListN.{length, get_or, replicate, length-replicate}
+use lib.ListN.{length, get_or}
 use Rattle.model.specs.Limits.{most_clocks}
 use Rattle.prelude.specs.Lists.{all, upto, map_from}
 use Rattle.model.specs.Runs.{Run, timers_possible}
@@ -25,6 +25,7 @@ use Rattle.machines.proofs.ChecksClauses.{all-upto}
 use Rattle.automata_records.specs.Accepted.{Accepted}
 use Rattle.timings.specs.Growth.{most_top, turn_for, cap_for}
 use Rattle.timings.proofs.GrowthBounds.{top-most}
+use Rattle.automata.specs.declared.runs.Limits.{Limits}
 use Rattle.automata.specs.RunOf.{top_at, grown_at, ClocksPossible, turn_at, cap_at, HasLimits}
 
 module _ (s : List ℕ) (sh : Shape) (is : IsShape s sh) (r : Run) where
@@ -55,19 +56,21 @@ low_of s sh ok r e k h =
     let l : get_or r.timers k 0 ≤ top_at s sh k = leb-true (get_or r.timers k 0) (top_at s sh k) (all-upto (λ j. leb (get_or r.timers j 0) (top_at s sh j)) sh.clocks k (sym (clocks-are s sh ok.shape r) ∙ e) h) in
     omega arith
 
--- arrays in which the limits are written have them
-pub room-for-limits : (length (replicate {A = ℕ} most_clocks 65535) ≡ most_clocks) × (length (replicate {A = ℕ} most_clocks 65535) ≡ most_clocks)
-room-for-limits = (length-replicate {A = ℕ} most_clocks 65535, length-replicate {A = ℕ} most_clocks 65535)
+-- the limits written over any numbers
+module _ (s : List ℕ) (sh : Shape) (is : IsShape s sh) (l₀ : List ℕ) (long : length l₀ ≡ most_clocks) where
+  turn-limits : (turn : List ℕ) → turn ≡ map_from 0 (turn_at s sh) l₀ → (k : ℕ) → k < sh.clocks → get_or turn k 0 ≡ turn_for (clock_at s sh k).timing (clock_at s sh k).ticks
+  turn-limits turn e k h =
+      ap (λ l. get_or l k 0) e
+      ∙ get_or-map_from (turn_at s sh) 0 0 0 l₀ k (omega (arith, h, most-clocks s sh is, long))
+      ∙ ap (λ n. turn_at s sh n (get_or l₀ k 0)) (zero-add k)
+      ∙ ap (λ b. cond b (turn_for (clock_at s sh k).timing (clock_at s sh k).ticks) (get_or l₀ k 0)) (lt-ltb k sh.clocks h)
 
-pub has-limits : (s : List ℕ) (sh : Shape) → IsShape s sh → (turn₀ cap₀ turn cap : List ℕ) → (length turn₀ ≡ most_clocks) × (length cap₀ ≡ most_clocks) →
-    (turn ≡ map_from 0 (turn_at s sh) turn₀) × (cap ≡ map_from 0 (cap_at s sh) cap₀) → HasLimits s sh turn cap
-has-limits s sh is turn₀ cap₀ turn cap long e = record {
-  turns = λ k h. ap (λ l. get_or l k 0) e.0
-      ∙ get_or-map_from (turn_at s sh) 0 0 0 turn₀ k (omega (arith, h, most-clocks s sh is, long.0))
-      ∙ ap (λ n. turn_at s sh n (get_or turn₀ k 0)) (zero-add k)
-      ∙ ap (λ b. cond b (turn_for (clock_at s sh k).timing (clock_at s sh k).ticks) (get_or turn₀ k 0)) (lt-ltb k sh.clocks h);
-  caps = λ k h. ap (λ l. get_or l k 0) e.1
-      ∙ get_or-map_from (cap_at s sh) 0 0 0 cap₀ k (omega (arith, h, most-clocks s sh is, long.1))
-      ∙ ap (λ n. cap_at s sh n (get_or cap₀ k 0)) (zero-add k)
-      ∙ ap (λ b. cond b (cap_for (clock_at s sh k).timing (clock_at s sh k).ticks) (get_or cap₀ k 0)) (lt-ltb k sh.clocks h);
-}
+  cap-limits : (cap : List ℕ) → cap ≡ map_from 0 (cap_at s sh) l₀ → (k : ℕ) → k < sh.clocks → get_or cap k 0 ≡ cap_for (clock_at s sh k).timing (clock_at s sh k).ticks
+  cap-limits cap e k h =
+      ap (λ l. get_or l k 0) e
+      ∙ get_or-map_from (cap_at s sh) 0 0 0 l₀ k (omega (arith, h, most-clocks s sh is, long))
+      ∙ ap (λ n. cap_at s sh n (get_or l₀ k 0)) (zero-add k)
+      ∙ ap (λ b. cond b (cap_for (clock_at s sh k).timing (clock_at s sh k).ticks) (get_or l₀ k 0)) (lt-ltb k sh.clocks h)
+
+  pub has-limits : (x : Limits) → (x.turn ≡ map_from 0 (turn_at s sh) l₀) × (x.cap ≡ map_from 0 (cap_at s sh) l₀) → HasLimits s sh x
+  has-limits x e = record { turns = turn-limits x.turn e.0; caps = cap-limits x.cap e.1 }

@@ -9,6 +9,7 @@ use Rattle.automata_records.specs.Places.{clock_at}
 use Rattle.timings.specs.Growth.{most_top, turn_for, cap_for}
 use Rattle.machines.specs.Worlds.{moment, run_in}
 use Rattle.automata.specs.declared.runs.Run as declared-run
+use Rattle.automata.specs.declared.runs.Limits.{Limits}
 
 -- the places that its arrays have by their types
 abbrev pub Sized : List ℕ → List ℕ → List ℤ → Type 0
@@ -35,6 +36,6 @@ turn_at s sh k x = cond (ltb k sh.clocks) (turn_for (clock_at s sh k).timing (cl
 abbrev pub cap_at : List ℕ → Shape → ℕ → ℕ → ℕ
 cap_at s sh k x = cond (ltb k sh.clocks) (cap_for (clock_at s sh k).timing (clock_at s sh k).ticks) x
 
-pub record HasLimits (s : List ℕ) (sh : Shape) (turn cap : List ℕ) : Type 0 where
-  pub turns : (k : ℕ) → k < sh.clocks → get_or turn k 0 ≡ turn_for (clock_at s sh k).timing (clock_at s sh k).ticks
-  pub caps : (k : ℕ) → k < sh.clocks → get_or cap k 0 ≡ cap_for (clock_at s sh k).timing (clock_at s sh k).ticks
+pub record HasLimits (s : List ℕ) (sh : Shape) (limits : Limits) : Type 0 where
+  pub turns : (k : ℕ) → k < sh.clocks → get_or limits.turn k 0 ≡ turn_for (clock_at s sh k).timing (clock_at s sh k).ticks
+  pub caps : (k : ℕ) → k < sh.clocks → get_or limits.cap k 0 ≡ cap_for (clock_at s sh k).timing (clock_at s sh k).ticks

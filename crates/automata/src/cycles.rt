@@ -1,4 +1,4 @@
-// Cycles of automata: by turns, one call after the other; and in place, for many cycles.
+// Cycles of automata: by turns, one call after the other; and in place, on the arrays of a run, for many cycles. Beside those of charts, as turns are.
 ghost use Rattle.std.specs.Prelude.{◌≡◌, ◌+◌, ◌-◌, length, Err};
 ghost use Rattle.model.specs.Limits.{most_clocks};
 ghost use Rattle.model.specs.Outcome.{settled};
@@ -7,20 +7,19 @@ ghost use Rattle.model.specs.AutomataTable.{read_automata};
 ghost use Rattle.model.specs.Automata.{automata as machine};
 ghost use Rattle.machines.specs.Turns.{after};
 ghost use Rattle.automata_records.specs.Accepted.{Accepted};
-ghost use Rattle.automata_steps.specs.Index.{RoomFor};
 ghost use Rattle.machines.specs.Worlds.{moment, run_in};
 ghost use Rattle.automata.specs.RunOf.{run_of, Sized, HasLimits};
 ghost use Rattle.automata_steps.specs.Prepared.{Prepared};
 ghost use Rattle.automata.specs.TurnOf.{called_of, Ready, progress_of, ClocksLeft, cycled_of, ended_of};
 
-use super::runs::{Run, before_turn, grow};
+use super::runs::{Limits, Run, before_turn, grow};
 use super::turns::turn;
 use answers::{Answer, Reason, Stop};
 use automata_records::Shape;
-use automata_steps::index::index_of;
+use automata_steps::index::with_index;
 use automata_steps::steps::edge_step;
 use machines::checks::events_given;
-use records::sizes::{Clocks, NO_RECORD, Places, TABLE_KEYS, TABLE_RECORDS, TableHeads, Variables};
+use records::sizes::{Clocks, Places, TableHeads, Variables};
 
 // The answer of a call that is done or not, and the run after it.
 #[derive(Clone, Copy)]
@@ -74,29 +73,14 @@ fn turns_of_cycle(
     }
 }
 
-// The same, with the index in what is lent, which names nothing yet.
-fn cycle_making_index(s: &[u8], shape: Shape, next: &mut [u16], run: Run, events: u32) -> Called
-    requires accepted { Accepted s.now shape }
-    requires room_for { RoomFor shape next.old }
-    ensures { called_of result ≡ settled (run_of run) (model-cycle (machine (read_automata s.now)) events (run_of run)) }
-{
-    let mut first = [65535u16; TABLE_KEYS];
-    index_of(s, shape, &mut first, next);
-    turns_of_cycle(s, shape, &first, next, run, events)
-}
-
-// A cycle of an accepted table: all its turns, or none. The index is that of a turn.
+// A cycle of an accepted table: all its turns, or none.
 pub fn cycle_by_turns(s: &[u8], shape: Shape, run: Run, events: u32) -> Called
     requires { Accepted s.now shape }
     ensures { called_of result ≡ settled (run_of run) (model-cycle (machine (read_automata s.now)) events (run_of run)) }
 {
-    if s.len() <= 16384 {
-        let mut next = [65535u16; 1024];
-        cycle_making_index(s, shape, &mut next, run, events)
-    } else {
-        let mut next = [NO_RECORD; TABLE_RECORDS];
-        cycle_making_index(s, shape, &mut next, run, events)
-    }
+    with_index(s, shape, |first, next| {
+        turns_of_cycle(s, shape, first, next, run, events)
+    })
 }
 
 // The automata's turns of a cycle, in place, from the present position on: all were taken, or why one was not.
@@ -119,10 +103,10 @@ fn automata_turns(
 {
     let mut present = events;
     for automaton in (position - 1) as u16..shape.automata {
-        let (_, x) = edge_step(
+        let (_, after) = edge_step(
             s, shape, first, next, automaton, locations, clocks, vars, present,
         )?;
-        present = x;
+        present = after;
     }
     Ok(())
 }
@@ -133,8 +117,7 @@ fn cycle_or_fault(
     shape: Shape,
     first: &TableHeads,
     next: &[u16],
-    turn: &Clocks,
-    cap: &Clocks,
+    limits: &Limits,
     locations: &mut Places,
     clocks: &mut Clocks,
     vars: &mut Variables,
@@ -145,13 +128,13 @@ fn cycle_or_fault(
     requires prepared { Prepared s.now shape first.now next.now }
     requires ready { Ready shape (run_in locations.old clocks.old vars.old events (moment position cycles)) }
     requires clocks_len { length clocks.old ≡ most_clocks }
-    requires has_limits { HasLimits s.now shape turn.now cap.now }
+    requires has_limits { HasLimits s.now shape limits.now }
     ensures { cycled_of result (run_in locations.new clocks.new vars.new 0 (moment 1 (cycles + 1))) ≡ after (machine (read_automata s.now)) (shape.automata + 2 - position) (run_in locations.old clocks.old vars.old events (moment position cycles)) }
 {
     automata_turns(
         s, shape, first, next, locations, clocks, vars, events, position, cycles,
     )?;
-    grow(s, shape, turn, cap, clocks);
+    grow(s, shape, limits, clocks);
     Ok(())
 }
 
@@ -161,8 +144,7 @@ pub fn cycle_or_none(
     shape: Shape,
     first: &TableHeads,
     next: &[u16],
-    turn: &Clocks,
-    cap: &Clocks,
+    limits: &Limits,
     locations: &mut Places,
     clocks: &mut Clocks,
     vars: &mut Variables,
@@ -173,7 +155,7 @@ pub fn cycle_or_none(
     requires prepared { Prepared s.now shape first.now next.now }
     requires ready { Ready shape (run_in locations.old clocks.old vars.old events (moment position cycles)) }
     requires clocks_len { length clocks.old ≡ most_clocks }
-    requires has_limits { HasLimits s.now shape turn.now cap.now }
+    requires has_limits { HasLimits s.now shape limits.now }
     ensures cycles_after { cycled_of result (run_in locations.new clocks.new vars.new 0 (moment 1 (cycles + 1))) ≡ after (machine (read_automata s.now)) (shape.automata + 2 - position) (run_in locations.old clocks.old vars.old events (moment position cycles)) }
     ensures vars_unchanged { (w : Reason) → result ≡ Err w → run_in locations.new clocks.new vars.new ≡ run_in locations.old clocks.old vars.old }
 {
@@ -181,7 +163,7 @@ pub fn cycle_or_none(
     let clocks_before = *clocks;
     let vars_before = *vars;
     let done = cycle_or_fault(
-        s, shape, first, next, turn, cap, locations, clocks, vars, events, position, cycles,
+        s, shape, first, next, limits, locations, clocks, vars, events, position, cycles,
     );
     if done.is_err() {
         *locations = locations_before;
@@ -197,8 +179,7 @@ pub fn cycle_after_checks(
     shape: Shape,
     first: &TableHeads,
     next: &[u16],
-    turn: &Clocks,
-    cap: &Clocks,
+    limits: &Limits,
     locations: &mut Places,
     clocks: &mut Clocks,
     vars: &mut Variables,
@@ -209,7 +190,7 @@ pub fn cycle_after_checks(
 ) -> Result<(), Stop>
     requires prepared { Prepared s.now shape first.now next.now }
     requires sized { Sized locations.old clocks.old vars.old }
-    requires has_limits { HasLimits s.now shape turn.now cap.now }
+    requires has_limits { HasLimits s.now shape limits.now }
     ensures { ended_of result (run_in locations.new clocks.new vars.new 0 (moment 1 (cycles + 1))) ≡ model-cycle (machine (read_automata s.now)) events (run_in locations.old clocks.old vars.old present (moment position cycles)) }
 {
     before_turn(
@@ -217,7 +198,7 @@ pub fn cycle_after_checks(
     )?;
     let given = events_given(events, position, present);
     cycle_or_none(
-        s, shape, first, next, turn, cap, locations, clocks, vars, given, position, cycles,
+        s, shape, first, next, limits, locations, clocks, vars, given, position, cycles,
     )?;
     Ok(())
 }

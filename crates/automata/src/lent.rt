@@ -1,4 +1,5 @@
-// A run that the caller lends, moved on in place, of an accepted table. Where a call is refused or faults the run is as it was.
+// A run that the caller lends, moved on in place, of an accepted table. Where a call is refused or faults the run is as it was. Beside the calls of charts, as
+// turns are.
 ghost use Rattle.std.specs.Prelude.{◌≡◌};
 ghost use Rattle.records.specs.Refusal.{val};
 ghost use Rattle.model.specs.Outcome.{settled};

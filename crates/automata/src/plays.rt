@@ -1,25 +1,21 @@
-// Many cycles of automata, the run checked once.
+// Many cycles of automata, the run checked once, in place on its arrays. Beside those of charts, as turns are.
 ghost use Rattle.std.specs.Prelude.{◌≡◌};
 ghost use Rattle.model.specs.Outcome.{settled};
 ghost use Rattle.model.specs.AutomataTable.{read_automata};
 ghost use Rattle.model.specs.Automata.{automata as machine};
 ghost use Rattle.machines.specs.Playing.{played, playing};
 ghost use Rattle.automata_records.specs.Accepted.{Accepted};
-ghost use Rattle.automata_steps.specs.Index.{RoomFor};
 ghost use Rattle.machines.specs.Worlds.{moment, run_in};
 ghost use Rattle.automata.specs.RunOf.{run_of, HasLimits};
 ghost use Rattle.automata_steps.specs.Prepared.{Prepared};
 ghost use Rattle.automata.specs.PlayedOf.{BetweenCycles, PlayedTo, played_of};
 
 use super::cycles::{cycle_after_checks, cycle_or_none};
-use super::runs::{Run, limits_of, run_in};
+use super::runs::{Limits, Run, limits_of, run_in};
 use answers::Stop;
 use automata_records::Shape;
-use automata_steps::index::index_of;
-use records::sizes::{
-    CLOCKS, Clocks, MOST_CYCLES, NO_RECORD, Places, TABLE_KEYS, TABLE_RECORDS, TableHeads,
-    Variables,
-};
+use automata_steps::index::with_index;
+use records::sizes::{Clocks, MOST_CYCLES, Places, TableHeads, Variables};
 
 #[derive(Clone, Copy)]
 pub struct Played {
@@ -43,14 +39,7 @@ fn further_to(
 ) -> Rest
     ensures { (result.count ≡ count) × (run_of result.run ≡ run_in locations clocks variables 0 (moment 1 cycles)) }
 {
-    let run = Run {
-        locations,
-        clocks,
-        variables,
-        events: 0,
-        position: 1,
-        cycles,
-    };
+    let run = run_in(&locations, &clocks, &variables, 0, 1, cycles);
     Rest { count, run }
 }
 
@@ -60,13 +49,12 @@ fn further_cycles(
     shape: Shape,
     first: &TableHeads,
     next: &[u16],
-    turn: &Clocks,
-    cap: &Clocks,
+    limits: &Limits,
     run: Run,
     masks: &[u32],
 ) -> Rest
     requires prepared { Prepared s.now shape first.now next.now }
-    requires has_limits { HasLimits s.now shape turn.now cap.now }
+    requires has_limits { HasLimits s.now shape limits.now }
     requires between_cycles { BetweenCycles (machine (read_automata s.now)) (run_of run) }
     ensures { PlayedTo (played (machine (read_automata s.now)) masks.now (run_of run)) result.count (run_of result.run) }
 {
@@ -83,8 +71,7 @@ fn further_cycles(
             shape,
             first,
             next,
-            turn,
-            cap,
+            limits,
             &mut locations,
             &mut clocks,
             &mut variables,
@@ -106,13 +93,12 @@ fn play_with_index(
     shape: Shape,
     first: &TableHeads,
     next: &[u16],
-    turn: &Clocks,
-    cap: &Clocks,
+    limits: &Limits,
     run: Run,
     masks: &[u32],
 ) -> Played
     requires prepared { Prepared s.now shape first.now next.now }
-    requires has_limits { HasLimits s.now shape turn.now cap.now }
+    requires has_limits { HasLimits s.now shape limits.now }
     ensures { played_of result ≡ settled (run_of run) (playing (machine (read_automata s.now)) masks.now (run_of run)) }
 {
     if masks.is_empty() {
@@ -126,8 +112,7 @@ fn play_with_index(
         shape,
         first,
         next,
-        turn,
-        cap,
+        limits,
         &mut locations,
         &mut clocks,
         &mut variables,
@@ -138,7 +123,7 @@ fn play_with_index(
     ) {
         Ok(()) => {
             let after = run_in(&locations, &clocks, &variables, 0, 1, run.cycles + 1);
-            let rest = further_cycles(s, shape, first, next, turn, cap, after, &masks[1..]);
+            let rest = further_cycles(s, shape, first, next, limits, after, &masks[1..]);
             let last = rest.run;
             Played {
                 answer: Ok(rest.count + 1),
@@ -152,30 +137,13 @@ fn play_with_index(
     }
 }
 
-// The same, with the clocks' limits, and the index in what is lent, which names nothing yet.
-fn play_making_index(s: &[u8], shape: Shape, next: &mut [u16], run: Run, masks: &[u32]) -> Played
-    requires accepted { Accepted s.now shape }
-    requires room_for { RoomFor shape next.old }
-    ensures { played_of result ≡ settled (run_of run) (playing (machine (read_automata s.now)) masks.now (run_of run)) }
-{
-    let mut first = [65535u16; TABLE_KEYS];
-    let mut turn = [65535u16; CLOCKS];
-    let mut cap = [65535u16; CLOCKS];
-    index_of(s, shape, &mut first, next);
-    limits_of(s, shape, &mut turn, &mut cap);
-    play_with_index(s, shape, &first, next, &turn, &cap, run, masks)
-}
-
-// Many cycles of an accepted table. The index is that of a turn.
+// Many cycles of an accepted table.
 pub fn play_in_place(s: &[u8], shape: Shape, run: Run, masks: &[u32]) -> Played
     requires { Accepted s.now shape }
     ensures { played_of result ≡ settled (run_of run) (playing (machine (read_automata s.now)) masks.now (run_of run)) }
 {
-    if s.len() <= 16384 {
-        let mut next = [65535u16; 1024];
-        play_making_index(s, shape, &mut next, run, masks)
-    } else {
-        let mut next = [NO_RECORD; TABLE_RECORDS];
-        play_making_index(s, shape, &mut next, run, masks)
-    }
+    let limits = limits_of(s, shape);
+    with_index(s, shape, |first, next| {
+        play_with_index(s, shape, first, next, &limits, run, masks)
+    })
 }

@@ -1,5 +1,5 @@
-// Runs of automata: the fresh run, what is checked before a turn, and time.
-ghost use Rattle.std.specs.Prelude.{◌≡◌, ◌≤◌, ◌<◌, leb, length, get_or};
+// Runs of automata: the fresh run, what is checked before a turn, and time. Beside those of charts, as turns are.
+ghost use Rattle.std.specs.Prelude.{◌≡◌, ◌≤◌, ◌<◌, leb, length, get_or, replicate};
 ghost use Rattle.model.specs.Limits.{most_clocks};
 ghost use Rattle.prelude.specs.Lists.{all, upto, map_from};
 ghost use Rattle.model.specs.Runs.{start as started, possible, checked, rest_zero};
@@ -97,7 +97,7 @@ fn clocks_possible(s: &[u8], shape: Shape, clocks: &Clocks) -> bool
     possible
 }
 
-// All are read, so that many are compared at once.
+// All are read, without a way out of the loop, so that many are compared at once.
 fn clocks_unused(count: u16, clocks: &Clocks) -> bool
     requires { length clocks.now ≡ most_clocks }
     ensures { result ≡ rest_zero count clocks.now }
@@ -157,37 +157,48 @@ pub fn before_turn(
     decide(possible, events, position, cycles)
 }
 
-// Of each clock where it turns and where it stops, read once for many cycles.
-pub fn limits_of(s: &[u8], shape: Shape, turn: &mut Clocks, cap: &mut Clocks)
-    requires accepted { Accepted s.now shape }
-    requires turn_len { (length turn.old ≡ most_clocks) × (length cap.old ≡ most_clocks) }
-    ensures { (turn.new ≡ map_from 0 (turn_at s.now shape) turn.old) × (cap.new ≡ map_from 0 (cap_at s.now shape) cap.old) }
-{
-    for k in 0..shape.clocks {
-        let i = k as usize;
-        turn[i] = turn_for(is_after(s, shape, k), ticks_of(s, shape, k));
-        cap[i] = cap_for(is_after(s, shape, k), ticks_of(s, shape, k));
-    }
+// Of each clock where it turns and where it stops, read once for many cycles; 65,535, which is none, behind the table's clocks.
+#[derive(Drop)]
+pub struct Limits {
+    pub turn: Clocks,
+    pub cap: Clocks,
 }
 
-fn clock_grown(s: &[u8], shape: Shape, turn: &Clocks, cap: &Clocks, k: u16, x: u16) -> u16
-    requires { Accepted s.now shape × HasLimits s.now shape turn.now cap.now × (k < shape.clocks) × (x ≤ most_top) }
+pub fn limits_of(s: &[u8], shape: Shape) -> Limits
+    requires { Accepted s.now shape }
+    ensures written { (result.turn ≡ map_from 0 (turn_at s.now shape) (replicate most_clocks 65535)) × (result.cap ≡ map_from 0 (cap_at s.now shape) (replicate most_clocks 65535)) }
+    ensures has_limits { HasLimits s.now shape result }
+{
+    let mut limits = Limits {
+        turn: [65535u16; CLOCKS],
+        cap: [65535u16; CLOCKS],
+    };
+    for k in 0..shape.clocks {
+        let i = k as usize;
+        limits.turn[i] = turn_for(is_after(s, shape, k), ticks_of(s, shape, k));
+        limits.cap[i] = cap_for(is_after(s, shape, k), ticks_of(s, shape, k));
+    }
+    limits
+}
+
+fn clock_grown(s: &[u8], shape: Shape, limits: &Limits, k: u16, x: u16) -> u16
+    requires { Accepted s.now shape × HasLimits s.now shape limits.now × (k < shape.clocks) × (x ≤ most_top) }
     ensures { result ≡ grown (clock_at s.now shape k).timing (clock_at s.now shape k).ticks x }
 {
     let i = k as usize;
-    grown_to(turn[i], cap[i], x)
+    grown_to(limits.turn[i], limits.cap[i], x)
 }
 
 // Each clock in use grows.
-pub fn grow(s: &[u8], shape: Shape, turn: &Clocks, cap: &Clocks, clocks: &mut Clocks)
-    requires accepted { Accepted s.now shape × HasLimits s.now shape turn.now cap.now }
+pub fn grow(s: &[u8], shape: Shape, limits: &Limits, clocks: &mut Clocks)
+    requires accepted { Accepted s.now shape × HasLimits s.now shape limits.now }
     requires clocks_len { length clocks.old ≡ most_clocks }
     requires clocks_possible { ClocksPossible shape.clocks clocks.old }
     ensures { clocks.new ≡ map_from 0 (grown_at s.now shape) clocks.old }
 {
     for k in 0..shape.clocks {
         let i = k as usize;
-        clocks[i] = clock_grown(s, shape, turn, cap, k, clocks[i]);
+        clocks[i] = clock_grown(s, shape, limits, k, clocks[i]);
     }
 }
 
@@ -198,8 +209,6 @@ pub fn pass_time(s: &[u8], shape: Shape, clocks: &mut Clocks)
     requires clocks_possible { ClocksPossible shape.clocks clocks.old }
     ensures { clocks.new ≡ map_from 0 (grown_at s.now shape) clocks.old }
 {
-    let mut turn = [65535u16; CLOCKS];
-    let mut cap = [65535u16; CLOCKS];
-    limits_of(s, shape, &mut turn, &mut cap);
-    grow(s, shape, &turn, &cap, clocks);
+    let limits = limits_of(s, shape);
+    grow(s, shape, &limits, clocks);
 }

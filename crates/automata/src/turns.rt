@@ -1,4 +1,5 @@
-// Turns of automata.
+// Turns of automata, in place on the arrays of a run, where a run by value is copied (docs/SPEED.md, "A run lent and given back"). They stand beside
+// those of charts, as the two runs are structs of the C interface and document 01 names both (docs/DECISIONS.md, "Forms that document 01 names").
 ghost use Rattle.std.specs.Prelude.{◌≡◌, ℕ, ◌≤◌, length};
 ghost use Rattle.model.specs.Limits.{most_clocks};
 ghost use Rattle.model.specs.Outcome.{settled};
@@ -6,7 +7,6 @@ ghost use Rattle.model.specs.Runs.{stepped, turn as model-turn};
 ghost use Rattle.model.specs.AutomataTable.{read_automata};
 ghost use Rattle.model.specs.Automata.{automata as machine};
 ghost use Rattle.automata_records.specs.Accepted.{Accepted};
-ghost use Rattle.automata_steps.specs.Index.{RoomFor};
 ghost use Rattle.machines.specs.Worlds.{moment, run_in};
 ghost use Rattle.automata.specs.RunOf.{run_of, Sized};
 ghost use Rattle.automata_steps.specs.Prepared.{Prepared};
@@ -15,10 +15,10 @@ ghost use Rattle.automata.specs.TurnOf.{turn_of, taken_of, Ready};
 use super::runs::{Run, before_turn, pass_time, run_in};
 use answers::Answer;
 use automata_records::Shape;
-use automata_steps::index::index_of;
+use automata_steps::index::with_index;
 use automata_steps::steps::edge_step;
 use machines::checks::events_given;
-use records::sizes::{Clocks, NO_RECORD, Places, TABLE_KEYS, TABLE_RECORDS, TableHeads, Variables};
+use records::sizes::{Clocks, Places, TableHeads, Variables};
 
 // A turn's answer, and the run after it.
 #[derive(Clone, Copy)]
@@ -56,10 +56,10 @@ fn automaton_turn(
         *events,
     ) {
         Err(w) => Answer::Fault(w),
-        Ok((e, x)) => {
-            *events = x;
+        Ok((edge, after)) => {
+            *events = after;
             *position = place + 1;
-            Answer::Taken(e)
+            Answer::Taken(edge)
         }
     }
 }
@@ -184,28 +184,12 @@ pub fn turn(
     )
 }
 
-// The same, with the index in what is lent, which names nothing yet.
-fn turn_making_index(s: &[u8], shape: Shape, next: &mut [u16], run: Run, events: u32) -> Turned
-    requires accepted { Accepted s.now shape }
-    requires room_for { RoomFor shape next.old }
-    ensures { turn_of result ≡ settled (run_of run) (model-turn (machine (read_automata s.now)) events (run_of run)) }
-{
-    let mut first = [65535u16; TABLE_KEYS];
-    index_of(s, shape, &mut first, next);
-    turn(s, shape, &first, next, run, events)
-}
-
-// A turn of an accepted table. The index is short for a short file. The long one is filled with `NO_RECORD`, whose two bytes differ, so that
-// it is stored by vectors and not by one instruction that is repeated for each byte.
+// A turn of an accepted table.
 pub fn one_turn(s: &[u8], shape: Shape, run: Run, events: u32) -> Turned
     requires { Accepted s.now shape }
     ensures { turn_of result ≡ settled (run_of run) (model-turn (machine (read_automata s.now)) events (run_of run)) }
 {
-    if s.len() <= 16384 {
-        let mut next = [65535u16; 1024];
-        turn_making_index(s, shape, &mut next, run, events)
-    } else {
-        let mut next = [NO_RECORD; TABLE_RECORDS];
-        turn_making_index(s, shape, &mut next, run, events)
-    }
+    with_index(s, shape, |first, next| {
+        turn(s, shape, first, next, run, events)
+    })
 }

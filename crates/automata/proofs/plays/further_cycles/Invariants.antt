@@ -1,5 +1,4 @@
-use Prim.Native.Nat.{◌-◌, ◌≤◌}
-use lib.ListN.{length}
+use Prim.Native.Nat.{◌≤◌}
 use Rattle.model.specs.AutomataTable.{read_automata}
 use Rattle.model.specs.Automata.{automata}
 use Rattle.machines.proofs.Playing.{PlayedAfter}

@@ -1,6 +1,4 @@
-use Prim.Native.Nat.{◌-◌}
 use lib.Dec.{eqb}
-use Rattle.model.specs.Limits.{most_clocks}
 use Rattle.prelude.proofs.Behind.{BehindBy}
 use Rattle.automata.proofs.runs.clocks_unused.Given as goal
 
