@@ -1,5 +1,5 @@
-// Literals by edge: of each leaving transition of higher priority, ascending, one that must not hold; then the edge's own. An idle edge has the must-nots of all;
-// where its state waits, a due or not-due edge then reads the clock.
+// Literals by edge: of each leaving transition of higher priority, ascending, one that must not hold; then the edge's own. An idle edge has the
+// must-nots of all; where its state waits, a due or not-due edge then reads the clock.
 ghost use Rattle.std.specs.Prelude.{◌≡◌, ◌∷◌, ◌++◌, map, false, ◌+◌, ◌≤◌, ◌<◌, ◌^◌};
 ghost use Rattle.std.proofs.Math.Option.{none};
 ghost use Rattle.prelude.specs.Lists.{gather, upto};
@@ -17,12 +17,12 @@ use chart_records::Shape;
 use chart_records::fields::Trigger;
 use chart_steps::tables::slot_of;
 use chart_steps::transitions::source_of;
-use records::sizes::{Ends, Rows};
+use records::sizes::{Ends, Rows, TRANSITIONS};
 use twin_records::clocks::{ClockNumbers, count_of};
 use twin_records::fields::{guard_of, priority_of, trigger_of};
 use twin_records::writing::{literal_bytes, put_record};
 
-// 65535 is none.
+// As the records of document 01 have a guard: 65535 is none.
 fn guard_number(guard: Option<u16>) -> u16
     ensures { bytes2 result ≡ write_guard (guard_for guard) }
 {
@@ -33,21 +33,20 @@ fn guard_number(guard: Option<u16>) -> u16
 fn literal_record(
     s: &[u8],
     shape: Shape,
-    clocks: &ClockNumbers,
+    clocks: &[u16; TRANSITIONS],
     sign: u8,
     edge: u16,
     t: u16,
 ) -> [u8; 16]
-    requires { Accepted s.now shape × HasClocks (read_charts s.now) clocks.now.own × (t < shape.transitions) }
+    requires { Accepted s.now shape × HasClocks (read_charts s.now) clocks.now × (t < shape.transitions) }
     ensures { result ≡ record_text 36 (sign ∷ bytes2 edge ++ write_literal_trigger (literal_trigger_of (read_charts s.now) t (transition (read_charts s.now) t).trigger) ++ write_guard (transition (read_charts s.now) t).guard) }
 {
     let guard = guard_number(guard_of(s, shape, t));
-    let clock = clocks.own[t as usize];
+    let clock = clocks[t as usize];
     match trigger_of(s, shape, t) {
         Trigger::Always => literal_bytes(sign, edge, 0, 0, 0, guard),
         Trigger::Event(e) => literal_bytes(sign, edge, 1, e, 0, guard),
-        Trigger::After(_) => literal_bytes(sign, edge, 2, 0, clock, guard),
-        Trigger::Every(_) => literal_bytes(sign, edge, 2, 0, clock, guard),
+        Trigger::After(_) | Trigger::Every(_) => literal_bytes(sign, edge, 2, 0, clock, guard),
     }
 }
 
@@ -55,13 +54,13 @@ fn literal_record(
 fn put_negation(
     s: &[u8],
     shape: Shape,
-    clocks: &ClockNumbers,
+    clocks: &[u16; TRANSITIONS],
     out: &mut [u8],
     at: usize,
     edge: u16,
     t: u16,
 ) -> usize
-    requires { Accepted s.now shape × HasClocks (read_charts s.now) clocks.now.own × ((t ≡ 65535 → ⊥) → t < shape.transitions) × (at < 2 ^ 62) }
+    requires { Accepted s.now shape × HasClocks (read_charts s.now) clocks.now × ((t ≡ 65535 → ⊥) → t < shape.transitions) × (at < 2 ^ 62) }
     ensures { Puts out.old at (literal_texts edge (map (literal (read_charts s.now) false) (named t))) out.new result 16 }
 {
     if t == 65535 {
@@ -76,7 +75,7 @@ fn put_negation(
 fn put_negations(
     s: &[u8],
     shape: Shape,
-    clocks: &ClockNumbers,
+    clocks: &[u16; TRANSITIONS],
     rows: &Rows,
     out: &mut [u8],
     at: usize,
@@ -84,7 +83,7 @@ fn put_negations(
     state: u16,
     count: usize,
 ) -> usize
-    requires { Accepted s.now shape × HasClocks (read_charts s.now) clocks.now.own × HasRows (read_charts s.now) rows.now × (state < shape.states) × (count ≤ 16) × (at < 2 ^ 61) }
+    requires { Accepted s.now shape × HasClocks (read_charts s.now) clocks.now × HasRows (read_charts s.now) rows.now × (state < shape.states) × (count ≤ 16) × (at < 2 ^ 61) }
     ensures { Puts out.old at (literal_texts edge (map (literal (read_charts s.now) false) (tried_before (read_charts s.now) state (count + 1)))) out.new result (2 ^ 20) }
 {
     let mut next = at;
@@ -99,13 +98,13 @@ fn put_negations(
 fn put_literals_of(
     s: &[u8],
     shape: Shape,
-    clocks: &ClockNumbers,
+    clocks: &[u16; TRANSITIONS],
     rows: &Rows,
     out: &mut [u8],
     at: usize,
     t: u16,
 ) -> usize
-    requires { Accepted s.now shape × HasClocks (read_charts s.now) clocks.now.own × HasRows (read_charts s.now) rows.now × (t < shape.transitions) × (at < 2 ^ 61) }
+    requires { Accepted s.now shape × HasClocks (read_charts s.now) clocks.now × HasRows (read_charts s.now) rows.now × (t < shape.transitions) × (at < 2 ^ 61) }
     ensures { Puts out.old at (literals_text (read_charts s.now) (from_transition t)) out.new result (2 ^ 22) }
 {
     let higher = (priority_of(s, shape, t) - 1) as usize;
@@ -118,12 +117,12 @@ fn put_literals_of(
 pub fn put_literals(
     s: &[u8],
     shape: Shape,
-    clocks: &ClockNumbers,
+    clocks: &[u16; TRANSITIONS],
     rows: &Rows,
     out: &mut [u8],
     at: usize,
 ) -> usize
-    requires { Accepted s.now shape × HasClocks (read_charts s.now) clocks.now.own × HasRows (read_charts s.now) rows.now × (at < 2 ^ 60) }
+    requires { Accepted s.now shape × HasClocks (read_charts s.now) clocks.now × HasRows (read_charts s.now) rows.now × (at < 2 ^ 60) }
     ensures { Puts out.old at (gather (λ t. literals_text (read_charts s.now) (from_transition t)) (upto (transition_count (read_charts s.now)))) out.new result (2 ^ 40) }
 {
     let mut next = at;
@@ -137,7 +136,7 @@ pub fn put_literals(
 fn put_must_nots(
     s: &[u8],
     shape: Shape,
-    clocks: &ClockNumbers,
+    clocks: &[u16; TRANSITIONS],
     rows: &Rows,
     ends: &Ends,
     out: &mut [u8],
@@ -145,7 +144,7 @@ fn put_must_nots(
     edge: u16,
     state: u16,
 ) -> usize
-    requires { Accepted s.now shape × HasClocks (read_charts s.now) clocks.now.own × HasRows (read_charts s.now) rows.now × HasEnds (read_charts s.now) rows.now ends.now × (state < shape.states) × (at < 2 ^ 61) }
+    requires { Accepted s.now shape × HasClocks (read_charts s.now) clocks.now × HasRows (read_charts s.now) rows.now × HasEnds (read_charts s.now) rows.now ends.now × (state < shape.states) × (at < 2 ^ 61) }
     ensures { Puts out.old at (literal_texts edge (must_nots (read_charts s.now) state)) out.new result (2 ^ 20) }
 {
     let end = ends[state as usize] as usize;
@@ -176,12 +175,22 @@ fn put_idle_literals_of(
     ensures { Puts out.old at (gather (literals_text (read_charts s.now)) (idle_origins (read_charts s.now) state)) out.new result (2 ^ 22) }
 {
     let number = clocks.waiting[state as usize];
-    let own = put_must_nots(s, shape, clocks, rows, ends, out, at, edge, state);
+    let own = put_must_nots(s, shape, &clocks.own, rows, ends, out, at, edge, state);
     if number == 65535 {
         return own;
     }
     let idle = put_clock_literal(out, own, 1, edge, number);
-    let last = put_must_nots(s, shape, clocks, rows, ends, out, idle, edge + 1, state);
+    let last = put_must_nots(
+        s,
+        shape,
+        &clocks.own,
+        rows,
+        ends,
+        out,
+        idle,
+        edge + 1,
+        state,
+    );
     put_clock_literal(out, last, 2, edge + 1, number)
 }
 

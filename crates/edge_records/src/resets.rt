@@ -18,7 +18,8 @@ use twin_records::clocks::ClockNumbers;
 use twin_records::fields::trigger_of;
 use twin_records::writing::{put_record, reset_bytes};
 
-// Of each state its first leaving transition, and of each transition the next that leaves the same state; 65535 is none.
+// Of each state its first leaving transition, and of each transition the next that leaves the same state; 65535 is none: an
+// Option would take twice the bytes.
 #[derive(Clone, Copy)]
 pub struct Leaving {
     pub first: [u16; STATES],
@@ -45,10 +46,8 @@ fn put_reset(trigger: Trigger, clock: u16, out: &mut [u8], at: usize, edge: u16)
     ensures { Puts out.old at (reset_texts edge (map (λ _. clock) (clocks_of (trigger_for trigger)))) out.new result 16 }
 {
     match trigger {
-        Trigger::Always => at,
-        Trigger::Event(_) => at,
-        Trigger::After(_) => put_record(out, at, reset_bytes(edge, clock)),
-        Trigger::Every(_) => put_record(out, at, reset_bytes(edge, clock)),
+        Trigger::Always | Trigger::Event(_) => at,
+        Trigger::After(_) | Trigger::Every(_) => put_record(out, at, reset_bytes(edge, clock)),
     }
 }
 

@@ -15,8 +15,8 @@ use chart_records::Shape;
 use chart_records::fields::Deed;
 use chart_steps::actions::condition_of;
 use chart_steps::transitions::{source_of, target_of};
-use records::sizes::{ActionHeads, ActionLinks, CROSSING_KEYS, EXIT_KEYS, WAITING_KEYS};
-use twin_records::clocks::{ClockNumbers, count_of};
+use records::sizes::{ActionHeads, ActionLinks, CROSSING_KEYS, EXIT_KEYS, STATES, WAITING_KEYS};
+use twin_records::clocks::count_of;
 use twin_records::fields::deed_of;
 use twin_records::writing::{put_record, update_bytes};
 
@@ -96,7 +96,7 @@ pub fn put_updates(
 fn put_due_updates_of(
     s: &[u8],
     shape: Shape,
-    clocks: &ClockNumbers,
+    waiting: &[u16; STATES],
     first: &ActionHeads,
     next: &ActionLinks,
     out: &mut [u8],
@@ -104,10 +104,10 @@ fn put_due_updates_of(
     edge: u16,
     state: u16,
 ) -> usize
-    requires { Accepted s.now shape × HasWaiting (read_charts s.now) clocks.now.waiting × HasActions s.now shape first.now next.now × (state < shape.states) × (edge ≡ first_idle (read_charts s.now) state) × (at < 2 ^ 61) }
+    requires { Accepted s.now shape × HasWaiting (read_charts s.now) waiting.now × HasActions s.now shape first.now next.now × (state < shape.states) × (edge ≡ first_idle (read_charts s.now) state) × (at < 2 ^ 61) }
     ensures { Puts out.old at (gather (updates_text (read_charts s.now)) (idle_origins (read_charts s.now) state)) out.new result (2 ^ 20) }
 {
-    if clocks.waiting[state as usize] == 65535 {
+    if waiting[state as usize] == 65535 {
         return at;
     }
     put_actions(s, shape, first, next, out, at, edge, WAITING_KEYS + state)
@@ -117,20 +117,20 @@ fn put_due_updates_of(
 pub fn put_due_updates(
     s: &[u8],
     shape: Shape,
-    clocks: &ClockNumbers,
+    waiting: &[u16; STATES],
     first: &ActionHeads,
     next: &ActionLinks,
     out: &mut [u8],
     at: usize,
 ) -> usize
-    requires { Accepted s.now shape × HasWaiting (read_charts s.now) clocks.now.waiting × HasActions s.now shape first.now next.now × (at < 2 ^ 60) }
+    requires { Accepted s.now shape × HasWaiting (read_charts s.now) waiting.now × HasActions s.now shape first.now next.now × (at < 2 ^ 60) }
     ensures { Puts out.old at (gather (λ st. gather (updates_text (read_charts s.now)) (idle_origins (read_charts s.now) st)) (upto (state_count (read_charts s.now)))) out.new result (2 ^ 40) }
 {
     let mut place = at;
     let mut edge = shape.transitions;
     for state in 0..shape.states {
-        place = put_due_updates_of(s, shape, clocks, first, next, out, place, edge, state);
-        edge += 1 + count_of(clocks.waiting[state as usize]);
+        place = put_due_updates_of(s, shape, waiting, first, next, out, place, edge, state);
+        edge += 1 + count_of(waiting[state as usize]);
     }
     place
 }

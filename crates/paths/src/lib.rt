@@ -23,7 +23,7 @@ use records::sizes::{
 // The most idle edges: two for each state.
 const IDLE_EDGES: usize = 2 * STATES;
 
-// Of each idle edge, counted from the first, its state; and how many there are.
+// Of each idle edge, counted from the first, its state; and how many there are: room for the most, as there is no heap.
 #[derive(Clone, Copy)]
 pub struct Idling {
     pub states: [u16; IDLE_EDGES],
@@ -38,7 +38,7 @@ pub struct Edge {
     pub target: u16,
 }
 
-// The edges of the twin, made once for a path, and how many there are.
+// The edges of the twin, made once for a path, and how many there are: room for the most, as there is no heap.
 #[derive(Clone, Copy)]
 pub struct EdgeTable {
     pub edges: [Edge; EDGES],
@@ -53,7 +53,7 @@ pub struct Walk {
     pub cycles: u32,
 }
 
-// A state that has waiting actions idles by two edges, the due one first; any other by one.
+// A state that has waiting actions (a first one: 65535 is none) idles by two edges, the due one first; any other by one.
 fn idle_edges(s: &[u8], shape: Shape, first: &ActionHeads, state: u16) -> u16
     requires { Accepted s.now shape × HasFirsts s.now shape first.now × (state < most_states) }
     ensures { result ≡ length (idle_origins (read_charts s.now) state) }
@@ -62,7 +62,8 @@ fn idle_edges(s: &[u8], shape: Shape, first: &ActionHeads, state: u16) -> u16
     if first[key] == 65535 { 1 } else { 2 }
 }
 
-// Each state is put twice: where it idles by one edge, the next state takes the second place.
+// Each state is put twice: where it idles by one edge, the next state takes the second place. Of a set's tables the actions' alone are made, as no
+// row is read.
 fn idling_of(s: &[u8], shape: Shape) -> Idling
     requires { Accepted s.now shape }
     ensures { HasIdling s.now shape result }
@@ -156,7 +157,7 @@ fn edge_fits(s: &[u8], shape: Shape, table: &EdgeTable, e: u16, walk: &Walk) -> 
     }
 }
 
-// 65535 is time.
+// 65535 is time: so the C interface has a path's words.
 fn step_fits(s: &[u8], shape: Shape, table: &EdgeTable, e: u16, walk: &Walk) -> bool
     requires { Accepted s.now shape × HasEdges s.now shape table.now }
     ensures { result ≡ step_fits (read_charts s.now) e (walk_in shape.charts walk.now) }

@@ -6,7 +6,7 @@ ghost use Rattle.model.specs.Outcome.{settled};
 ghost use Rattle.model.specs.ChartSet.{read_charts};
 ghost use Rattle.model.specs.Translation.{twin, twin_bytes, written};
 ghost use Rattle.chart_records.specs.Accepted.{Accepted};
-ghost use Rattle.chart_steps.specs.Tables.{HasFirsts, HasActions};
+ghost use Rattle.chart_steps.specs.Prepared.{Prepared};
 ghost use Rattle.twin_records.specs.Tables.{HasClocks, HasWaiting};
 ghost use Rattle.twin_records.specs.Texts.{places_text, tests_text, effects_text, Puts};
 ghost use Rattle.translation.specs.Answer.{translated_of};
@@ -14,15 +14,13 @@ ghost use Rattle.translation.specs.Answer.{translated_of};
 pub mod lengths;
 
 use chart_records::Shape;
-use chart_steps::tables::{fill_actions, fill_rows};
+use chart_steps::tables::{Tables, tables_of};
 use edge_records::literals::{put_idle_literals, put_literals};
 use edge_records::resets::{leaving_of, put_resets};
 use edge_records::updates::{put_due_updates, put_updates};
 use lengths::twin_length;
 use records::refusals::Refusal;
-use records::sizes::{
-    ACTION_KEYS, ACTIONS, ActionHeads, ActionLinks, LONGEST_TABLE, PRIORITIES, STATES,
-};
+use records::sizes::LONGEST_TABLE;
 use twin_records::clocks::{ClockNumbers, clock_numbers, put_clocks};
 use twin_records::edges::put_edges;
 use twin_records::sections::{put_homes, put_initials, put_nodes, put_variables};
@@ -34,28 +32,24 @@ fn put_places(s: &[u8], shape: Shape, clocks: &ClockNumbers, out: &mut [u8], at:
 {
     let homes_at = put_initials(s, shape, out, at);
     let edges_at = put_homes(s, shape, out, homes_at);
-    put_edges(s, shape, clocks, out, edges_at)
+    put_edges(s, shape, &clocks.waiting, out, edges_at)
 }
 
-// Kinds 36 to 39. The rows are made once, of 256, which names none.
+// Kinds 36 to 39.
 fn put_tests(
     s: &[u8],
     shape: Shape,
     clocks: &ClockNumbers,
-    heads: &ActionHeads,
+    tables: &Tables,
     out: &mut [u8],
     at: usize,
 ) -> usize
-    requires { Accepted s.now shape × HasClocks (read_charts s.now) clocks.now.own × HasWaiting (read_charts s.now) clocks.now.waiting × HasFirsts s.now shape heads.now × (at < 2 ^ 51) }
+    requires { Prepared s.now shape tables.now × HasClocks (read_charts s.now) clocks.now.own × HasWaiting (read_charts s.now) clocks.now.waiting × (at < 2 ^ 51) }
     ensures { Puts out.old at (tests_text (twin (read_charts s.now))) out.new result (2 ^ 43) }
 {
-    let empty = [256u16; PRIORITIES];
-    let mut rows = [empty; STATES];
-    let mut ends = [0u8; STATES];
-    fill_rows(s, shape, &mut rows, &mut ends);
-    let idles_at = put_literals(s, shape, clocks, &rows, out, at);
-    let clocks_at = put_idle_literals(s, shape, clocks, &rows, &ends, out, idles_at);
-    let variables_at = put_clocks(s, shape, heads, out, clocks_at);
+    let idles_at = put_literals(s, shape, &clocks.own, &tables.rows, out, at);
+    let clocks_at = put_idle_literals(s, shape, clocks, &tables.rows, &tables.ends, out, idles_at);
+    let variables_at = put_clocks(s, shape, &tables.first, out, clocks_at);
     let nodes_at = put_variables(s, shape, out, variables_at);
     put_nodes(s, shape, out, nodes_at)
 }
@@ -65,16 +59,23 @@ fn put_effects(
     s: &[u8],
     shape: Shape,
     clocks: &ClockNumbers,
-    heads: &ActionHeads,
-    links: &ActionLinks,
+    tables: &Tables,
     out: &mut [u8],
     at: usize,
 ) -> usize
-    requires { Accepted s.now shape × HasClocks (read_charts s.now) clocks.now.own × HasWaiting (read_charts s.now) clocks.now.waiting × HasActions s.now shape heads.now links.now × (at < 2 ^ 52) }
+    requires { Prepared s.now shape tables.now × HasClocks (read_charts s.now) clocks.now.own × HasWaiting (read_charts s.now) clocks.now.waiting × (at < 2 ^ 52) }
     ensures { Puts out.old at (effects_text (twin (read_charts s.now))) out.new result (2 ^ 42) }
 {
-    let dues_at = put_updates(s, shape, heads, links, out, at);
-    let resets_at = put_due_updates(s, shape, clocks, heads, links, out, dues_at);
+    let dues_at = put_updates(s, shape, &tables.first, &tables.next, out, at);
+    let resets_at = put_due_updates(
+        s,
+        shape,
+        &clocks.waiting,
+        &tables.first,
+        &tables.next,
+        out,
+        dues_at,
+    );
     let leaving = leaving_of(s, shape);
     put_resets(s, shape, clocks, &leaving, out, resets_at)
 }
@@ -84,13 +85,11 @@ fn put_twin(s: &[u8], shape: Shape, out: &mut [u8]) -> usize
     requires { Accepted s.now shape }
     ensures { Puts out.old 0 (twin_bytes s.now) out.new result (2 ^ 50) }
 {
-    let mut first = [65535u16; ACTION_KEYS];
-    let mut next = [65535u16; ACTIONS];
-    fill_actions(s, shape, &mut first, &mut next);
-    let clocks = clock_numbers(s, shape, &first);
+    let tables = tables_of(s, shape);
+    let clocks = clock_numbers(s, shape, &tables.first);
     let tests_at = put_places(s, shape, &clocks, out, 0);
-    let effects_at = put_tests(s, shape, &clocks, &first, out, tests_at);
-    put_effects(s, shape, &clocks, &first, &next, out, effects_at)
+    let effects_at = put_tests(s, shape, &clocks, &tables, out, tests_at);
+    put_effects(s, shape, &clocks, &tables, out, effects_at)
 }
 
 // The length is known before anything is written. No twin is longer than 265,344 bytes; for a buffer that has them nothing is counted.

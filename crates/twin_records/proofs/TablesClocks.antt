@@ -1,5 +1,6 @@
 -- Clock numbers: how many clocks stand before a transition's own. Assumes nothing.
 use mathlib.Core.Path.{◌≡◌, ap, ◌∙◌}
+use mathlib.Core.Logic.{◌⊎◌, inl, inr}
 use mathlib.Core.List.{List, [], ◌∷◌, map}
 use Prim.Native.Nat.{ℕ, ◌+◌, ◌<◌}
 use native.Mathlib.Omega.{arith}
@@ -9,14 +10,31 @@ use lib.Seq.{take-suc}
 use Rattle.prelude.specs.Lists.{gather, upto}
 use Rattle.prelude.proofs.Counts.{get_or-upto}
 use Rattle.model.specs.ChartSet.{ChartSet, Transition, no_transition, transition}
-use Rattle.model.specs.AutomataTable.{Clock}
-use Rattle.model.specs.Translation.{transition_count, clocks_of, clock_of}
+use Rattle.model.specs.AutomataTable.{Clock, clock}
+use Rattle.model.specs.Translation.{transition_count, clocks_of, clock_of, literal_trigger_of}
+use Rattle.chart_records.specs.declared.fields.Trigger.{Trigger}
+use Rattle.chart_records.specs.declared.fields.Trigger.TheVariants.{Always, Event, After, Every}
+use Rattle.chart_records.specs.Parts.{trigger_for}
 use Rattle.prelude.proofs.Lists.{gather_append}
 use Rattle.prelude.proofs.Filled.{length_from}
 use Rattle.twin_records.specs.Tables.{HasClocks}
 use Rattle.prelude.proofs.Gathered.{gather_none, gather-one}
 
+-- a trigger without a time has no clock
+pub untimed : {x : Trigger} → (x ≡ Always) ⊎ ((e : ℕ) × (x ≡ Event e)) → clocks_of (trigger_for x) ≡ []
+untimed (inl p) = ap (λ y. clocks_of (trigger_for y)) p
+untimed (inr (e, p)) = ap (λ y. clocks_of (trigger_for y)) p
+
+-- one with a time has one, which its literal reads
+pub timed : {x : Trigger} (k : ℕ) → ((ms : ℕ) × (x ≡ After ms)) ⊎ ((ms : ℕ) × (x ≡ Every ms)) → map (λ _. k) (clocks_of (trigger_for x)) ≡ k ∷ []
+timed k (inl (ms, p)) = ap (λ y. map (λ _. k) (clocks_of (trigger_for y))) p
+timed k (inr (ms, p)) = ap (λ y. map (λ _. k) (clocks_of (trigger_for y))) p
+
 module _ (cs : ChartSet) where
+  pub timed-read : {x : Trigger} (t : ℕ) → ((ms : ℕ) × (x ≡ After ms)) ⊎ ((ms : ℕ) × (x ≡ Every ms)) → literal_trigger_of cs t (trigger_for x) ≡ clock (clock_of cs t)
+  timed-read t (inl (ms, p)) = ap (λ y. literal_trigger_of cs t (trigger_for y)) p
+  timed-read t (inr (ms, p)) = ap (λ y. literal_trigger_of cs t (trigger_for y)) p
+
   abbrev clocks_in : Transition → List Clock
   clocks_in x = clocks_of x.trigger
 

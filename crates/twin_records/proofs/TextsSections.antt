@@ -4,7 +4,7 @@ use mathlib.Core.List.{List, [], ◌∷◌, ◌++◌, map}
 use Prim.Native.Nat.{ℕ, ◌+◌, ◌*◌, ◌/◌, ◌%◌, ◌^◌, ◌<◌}
 use native.Mathlib.Omega.{arith}
 use Rattle.prelude.specs.Lists.{gather, upto}
-use Rattle.records.specs.Bytes.{byte, signed, two±, bytes2, bytes2±}
+use Rattle.records.specs.Bytes.{signed, bytes2, bytes2±}
 use Rattle.records.proofs.RoundTrips.{unsigned_signed}
 use Rattle.prelude.proofs.Maps.{gather-map}
 use Rattle.prelude.proofs.Lists.{gather_append}

@@ -1,10 +1,9 @@
 -- Texts written by loops: of one number after the other, and of a chain's members. Assumes nothing.
 use mathlib.Core.Path.{◌≡◌, refl, sym, ap, ◌∙◌, subst}
 use mathlib.Core.Bool.{Bool}
-use mathlib.Core.List.{List, [], ◌∷◌, ◌++◌, append_assoc, append-nil}
+use mathlib.Core.List.{List, [], ◌++◌, append_assoc, append-nil}
 use Prim.Native.Nat.{ℕ, ◌+◌, ◌*◌, ◌^◌, ◌≤◌, ◌<◌}
 use native.Mathlib.Nat.{mul-add, mul-one}
-use native.Mathlib.Numerals.{add-one}
 use native.Mathlib.Omega.{arith}
 use borrow.Rule.Slice.PartMut.{put_mid}
 use lib.ListN.{length, get_or, take, drop}
@@ -12,7 +11,7 @@ use lib.Seq.{sets, sets-eq, take-length}
 use Rattle.std.proofs.lemmas.Slice.{put_mid-paste}
 use Rattle.prelude.specs.Lists.{gather, keep, from, upto}
 use Rattle.records.specs.Wrote.{Wrote}
-use Rattle.records.proofs.Wrote.{sets-append, nothing-wrote, wrote_then}
+use Rattle.records.proofs.Wrote.{nothing-wrote, wrote_then}
 use Rattle.machines.specs.Chains.{remaining, with_key, Chained}
 use Rattle.machines.proofs.Chains.{At, chain-start, chain-all, chain_next, chain-one, chain-rises, chain-done}
 use Rattle.twin_records.specs.Texts.{Puts}

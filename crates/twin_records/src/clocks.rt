@@ -20,7 +20,8 @@ use chart_steps::actions::wait_of;
 use records::sizes::{ActionHeads, STATES, TRANSITIONS, WAITING_KEYS};
 use timings::ticks;
 
-// Of each transition the number of clocks before its own; of each state its waiting clock's, 65535 where it does not wait.
+// Of each transition the number of its own clock, if it has one; of each state its waiting clock's, 65535 where it does not wait: an Option would
+// take twice the bytes.
 #[derive(Clone, Copy)]
 pub struct ClockNumbers {
     pub own: [u16; TRANSITIONS],
@@ -32,10 +33,8 @@ pub fn clocks_in(trigger: Trigger) -> u16
     ensures { (result ≡ length (clocks_of (trigger_for trigger))) × (result ≤ 1) }
 {
     match trigger {
-        Trigger::Always => 0,
-        Trigger::Event(_) => 0,
-        Trigger::After(_) => 1,
-        Trigger::Every(_) => 1,
+        Trigger::Always | Trigger::Event(_) => 0,
+        Trigger::After(_) | Trigger::Every(_) => 1,
     }
 }
 
@@ -103,8 +102,7 @@ fn put_clock(trigger: Trigger, out: &mut [u8], at: usize) -> usize
     ensures { Puts out.old at (section 37 (map write_clock (clocks_of (trigger_for trigger)))) out.new result 16 }
 {
     match trigger {
-        Trigger::Always => at,
-        Trigger::Event(_) => at,
+        Trigger::Always | Trigger::Event(_) => at,
         Trigger::After(ms) => put_record(out, at, clock_bytes(2, ticks(ms))),
         Trigger::Every(ms) => put_record(out, at, clock_bytes(3, ticks(ms))),
     }

@@ -8,11 +8,11 @@ ghost use Rattle.chart_records.specs.Accepted.{Accepted};
 ghost use Rattle.twin_records.specs.Tables.{HasWaiting};
 ghost use Rattle.twin_records.specs.Texts.{section, edge_text, Puts};
 
-use super::clocks::ClockNumbers;
 use super::writing::{edge_bytes, put_record};
 use chart_records::Shape;
 use chart_records::fields::home_of;
 use chart_steps::transitions::{source_of, target_of};
+use records::sizes::STATES;
 
 fn transition_record(s: &[u8], shape: Shape, t: u16) -> [u8; 16]
     requires { Accepted s.now shape × (t < shape.transitions) }
@@ -45,37 +45,49 @@ fn put_transition_edges(s: &[u8], shape: Shape, out: &mut [u8], at: usize) -> us
 fn put_idle_edges_of(
     s: &[u8],
     shape: Shape,
-    clocks: &ClockNumbers,
+    waiting: &[u16; STATES],
     out: &mut [u8],
     at: usize,
     state: u16,
 ) -> usize
-    requires { Accepted s.now shape × HasWaiting (read_charts s.now) clocks.now.waiting × (state < shape.states) × (at < 2 ^ 61) }
+    requires { Accepted s.now shape × HasWaiting (read_charts s.now) waiting.now × (state < shape.states) × (at < 2 ^ 61) }
     ensures { Puts out.old at (gather (edge_text (read_charts s.now)) (idle_origins (read_charts s.now) state)) out.new result 32 }
 {
     let bytes = idle_record(s, shape, state);
-    if clocks.waiting[state as usize] == 65535 {
+    if waiting[state as usize] == 65535 {
         return put_record(out, at, bytes);
     }
     let idle_at = put_record(out, at, bytes);
     put_record(out, idle_at, bytes)
 }
 
-fn put_idle_edges(s: &[u8], shape: Shape, clocks: &ClockNumbers, out: &mut [u8], at: usize) -> usize
-    requires { Accepted s.now shape × HasWaiting (read_charts s.now) clocks.now.waiting × (at < 2 ^ 60 + 2 ^ 20) }
+fn put_idle_edges(
+    s: &[u8],
+    shape: Shape,
+    waiting: &[u16; STATES],
+    out: &mut [u8],
+    at: usize,
+) -> usize
+    requires { Accepted s.now shape × HasWaiting (read_charts s.now) waiting.now × (at < 2 ^ 60 + 2 ^ 20) }
     ensures { Puts out.old at (gather (λ st. gather (edge_text (read_charts s.now)) (idle_origins (read_charts s.now) st)) (upto (state_count (read_charts s.now)))) out.new result (2 ^ 20) }
 {
     let mut next = at;
     for state in 0..shape.states {
-        next = put_idle_edges_of(s, shape, clocks, out, next, state);
+        next = put_idle_edges_of(s, shape, waiting, out, next, state);
     }
     next
 }
 
-pub fn put_edges(s: &[u8], shape: Shape, clocks: &ClockNumbers, out: &mut [u8], at: usize) -> usize
-    requires { Accepted s.now shape × HasWaiting (read_charts s.now) clocks.now.waiting × (at < 2 ^ 60) }
+pub fn put_edges(
+    s: &[u8],
+    shape: Shape,
+    waiting: &[u16; STATES],
+    out: &mut [u8],
+    at: usize,
+) -> usize
+    requires { Accepted s.now shape × HasWaiting (read_charts s.now) waiting.now × (at < 2 ^ 60) }
     ensures { Puts out.old at (section 35 (map write_edge (twin (read_charts s.now)).edges)) out.new result (2 ^ 40) }
 {
     let idles_at = put_transition_edges(s, shape, out, at);
-    put_idle_edges(s, shape, clocks, out, idles_at)
+    put_idle_edges(s, shape, waiting, out, idles_at)
 }

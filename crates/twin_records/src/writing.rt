@@ -7,13 +7,13 @@ ghost use Rattle.twin_records.specs.Texts.{record_text, Puts};
 fn low(v: u16) -> u8
     ensures { result ≡ v % 256 }
 {
-    (v % 256) as u8
+    v.to_le_bytes()[0]
 }
 
 fn high(v: u16) -> u8
     ensures { result ≡ (v / 256) % 256 }
 {
-    (v / 256 % 256) as u8
+    v.to_le_bytes()[1]
 }
 
 // A record that goes past the end: of its bytes those that have room.

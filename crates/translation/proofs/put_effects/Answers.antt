@@ -11,15 +11,15 @@ use Rattle.translation.proofs.put_effects.Goals as goal
 
 pub put_updates-dues_at-requires : goal.put_updates-dues_at-requires
 put_updates-dues_at-requires c =
-    (c.requires.0, c.requires.3, omega (arith, c.requires.4))
+    (c.requires.0.accepted, c.requires.0.has_actions, omega (arith, c.requires.3))
 
 pub put_due_updates-resets_at-requires : goal.put_due_updates-resets_at-requires
 put_due_updates-resets_at-requires c =
-    (c.requires.0, c.requires.2, c.requires.3, omega (arith, c.requires.4, c.put_updates-dues_at.ensures.near))
+    (c.requires.0.accepted, c.requires.2, c.requires.0.has_actions, omega (arith, c.requires.3, c.put_updates-dues_at.ensures.near))
 
 pub put_resets-requires : goal.put_resets-requires
 put_resets-requires c =
-    (c.requires.0, c.requires.1, c.requires.2, c.leaving_of-leaving.ensures.0, omega (arith, c.requires.4, c.put_updates-dues_at.ensures.near, c.put_due_updates-resets_at.ensures.near))
+    (c.requires.0.accepted, c.requires.1, c.requires.2, c.leaving_of-leaving.ensures.0, omega (arith, c.requires.3, c.put_updates-dues_at.ensures.near, c.put_due_updates-resets_at.ensures.near))
 
 pub returns : goal.returns
 returns c =

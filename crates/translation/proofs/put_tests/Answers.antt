@@ -13,23 +13,23 @@ use Rattle.translation.proofs.put_tests.Goals as goal
 
 pub put_literals-idles_at-requires : goal.put_literals-idles_at-requires
 put_literals-idles_at-requires c =
-    (c.requires.0, c.requires.1, c.fill_rows.ensures.0, omega (arith, c.requires.4))
+    (c.requires.0.accepted, c.requires.1, c.requires.0.has_rows, omega (arith, c.requires.3))
 
 pub put_idle_literals-clocks_at-requires : goal.put_idle_literals-clocks_at-requires
 put_idle_literals-clocks_at-requires c =
-    (c.requires.0, c.requires.1, c.requires.2, c.fill_rows.ensures.0, c.fill_rows.ensures.1, omega (arith, c.requires.4, c.put_literals-idles_at.ensures.near))
+    (c.requires.0.accepted, c.requires.1, c.requires.2, c.requires.0.has_rows, c.requires.0.has_ends, omega (arith, c.requires.3, c.put_literals-idles_at.ensures.near))
 
 pub put_clocks-variables_at-requires : goal.put_clocks-variables_at-requires
 put_clocks-variables_at-requires c =
-    (c.requires.0, c.requires.3, omega (arith, c.requires.4, c.put_literals-idles_at.ensures.near, c.put_idle_literals-clocks_at.ensures.near))
+    (c.requires.0.accepted, c.requires.0.has_actions.first_of, omega (arith, c.requires.3, c.put_literals-idles_at.ensures.near, c.put_idle_literals-clocks_at.ensures.near))
 
 pub put_variables-nodes_at-requires : goal.put_variables-nodes_at-requires
 put_variables-nodes_at-requires c =
-    (c.requires.0.shape, omega (arith, c.requires.4, c.put_literals-idles_at.ensures.near, c.put_idle_literals-clocks_at.ensures.near, c.put_clocks-variables_at.ensures.near))
+    (c.requires.0.accepted.shape, omega (arith, c.requires.3, c.put_literals-idles_at.ensures.near, c.put_idle_literals-clocks_at.ensures.near, c.put_clocks-variables_at.ensures.near))
 
 pub put_nodes-requires : goal.put_nodes-requires
 put_nodes-requires c =
-    (c.requires.0, omega (arith, c.requires.4, c.put_literals-idles_at.ensures.near, c.put_idle_literals-clocks_at.ensures.near, c.put_clocks-variables_at.ensures.near, c.put_variables-nodes_at.ensures.near))
+    (c.requires.0.accepted, omega (arith, c.requires.3, c.put_literals-idles_at.ensures.near, c.put_idle_literals-clocks_at.ensures.near, c.put_clocks-variables_at.ensures.near, c.put_variables-nodes_at.ensures.near))
 
 pub returns : goal.returns
 returns c =

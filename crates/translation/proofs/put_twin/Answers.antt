@@ -1,4 +1,3 @@
-use mathlib.Core.Path.{refl}
 use Prim.Native.Nat.{◌^◌}
 use native.Mathlib.Omega.{arith}
 use Rattle.model.specs.ChartSet.{read_charts}
@@ -7,13 +6,9 @@ use Rattle.twin_records.proofs.TextsWritten.{puts-as, puts_then}
 use Rattle.translation.proofs.TextsFile.{file-text}
 use Rattle.translation.proofs.put_twin.Goals as goal
 
-pub fill_actions-requires : goal.fill_actions-requires
-fill_actions-requires c =
-    (c.requires, refl, refl)
-
 pub clock_numbers-clocks-requires : goal.clock_numbers-clocks-requires
 clock_numbers-clocks-requires c =
-    (c.requires, c.fill_actions.ensures.0.first_of)
+    (c.requires, c.tables_of-tables.ensures.has_actions.first_of)
 
 pub put_places-tests_at-requires : goal.put_places-tests_at-requires
 put_places-tests_at-requires c =
@@ -21,11 +16,11 @@ put_places-tests_at-requires c =
 
 pub put_tests-effects_at-requires : goal.put_tests-effects_at-requires
 put_tests-effects_at-requires c =
-    (c.requires, c.clock_numbers-clocks.ensures.0, c.clock_numbers-clocks.ensures.1, c.fill_actions.ensures.0.first_of, omega (arith, c.put_places-tests_at.ensures.near))
+    (c.tables_of-tables.ensures, c.clock_numbers-clocks.ensures.0, c.clock_numbers-clocks.ensures.1, omega (arith, c.put_places-tests_at.ensures.near))
 
 pub put_effects-requires : goal.put_effects-requires
 put_effects-requires c =
-    (c.requires, c.clock_numbers-clocks.ensures.0, c.clock_numbers-clocks.ensures.1, c.fill_actions.ensures.0, omega (arith, c.put_places-tests_at.ensures.near, c.put_tests-effects_at.ensures.near))
+    (c.tables_of-tables.ensures, c.clock_numbers-clocks.ensures.0, c.clock_numbers-clocks.ensures.1, omega (arith, c.put_places-tests_at.ensures.near, c.put_tests-effects_at.ensures.near))
 
 pub returns : goal.returns
 returns c =

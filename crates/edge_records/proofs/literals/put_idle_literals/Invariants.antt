@@ -1,5 +1,5 @@
 use mathlib.Core.Path.{◌≡◌}
-use Prim.Native.Nat.{◌-◌, ◌^◌}
+use Prim.Native.Nat.{◌^◌}
 use Rattle.prelude.specs.Lists.{gather}
 use Rattle.model.specs.ChartSet.{read_charts}
 use Rattle.model.specs.Translation.{idle_origins, first_idle}

@@ -1,4 +1,4 @@
-use Prim.Native.Nat.{◌-◌, ◌^◌}
+use Prim.Native.Nat.{◌^◌}
 use Rattle.model.specs.ChartSet.{read_charts}
 use Rattle.model.specs.Translation.{from_transition}
 use Rattle.twin_records.specs.Texts.{resets_text}

@@ -21,8 +21,8 @@ put_due_updates_of-place-requires c =
     let x = c.args in
     (c.requires.0, c.requires.1, c.requires.2, c.loop-state-test.true, c.loop-state.invariant.1, omega (arith, c.loop-state.invariant.0.near, c.loop-state-test.true, c.requires.3, most-states x.s.now x.shape c.requires.0.shape))
 
-pub bounds-clocks-state : goal.bounds-clocks-state
-bounds-clocks-state c =
+pub bounds-waiting-state : goal.bounds-waiting-state
+bounds-waiting-state c =
     let known-state : c.loop-state.state < 128 = let x = c.args in
     omega (arith, c.loop-state-test.true, most-states x.s.now x.shape c.requires.0.shape) in
     known-state
@@ -34,7 +34,7 @@ overflow_add-edge c =
 pub overflow_add-edge-in-loop-state : goal.overflow_add-edge-in-loop-state
 overflow_add-edge-in-loop-state c =
     let edges-here : c.count_of.result ≡ length (waits (read_charts c.args.s.now) c.loop-state.state) = let x = c.args in
-    c.count_of.ensures.0 ∙ waiting-count x.s.now x.shape c.requires.0 x.clocks.now.waiting c.requires.1 c.loop-state.state c.loop-state-test.true in
+    c.count_of.ensures.0 ∙ waiting-count x.s.now x.shape c.requires.0 x.waiting.now c.requires.1 c.loop-state.state c.loop-state-test.true in
     let x = c.args in
     let is = c.requires.0.shape in
     let l = c.loop-state in
@@ -52,7 +52,7 @@ overflow_add-edge-in-loop-state c =
 pub loop-state-preserved : goal.loop-state-preserved
 loop-state-preserved c =
     let edges-here : c.count_of.result ≡ length (waits (read_charts c.args.s.now) c.loop-state.state) = let x = c.args in
-    c.count_of.ensures.0 ∙ waiting-count x.s.now x.shape c.requires.0 x.clocks.now.waiting c.requires.1 c.loop-state.state c.loop-state-test.true in
+    c.count_of.ensures.0 ∙ waiting-count x.s.now x.shape c.requires.0 x.waiting.now c.requires.1 c.loop-state.state c.loop-state-test.true in
     let x = c.args in
     let l = c.loop-state in
     (texts-step l.invariant.0 c.put_due_updates_of-place.auto.out c.put_due_updates_of-place.ensures, omega (arith, l.invariant.1, edges-here, idle-more (read_charts x.s.now) l.state))

@@ -10,17 +10,17 @@ use Rattle.edge_records.proofs.TextsEdges.{actions_of}
 use Rattle.edge_records.proofs.TextsIdle.{no-due-text, due-text}
 use Rattle.edge_records.proofs.updates.put_due_updates_of.Goals as goal
 
-pub bounds-clocks-state : goal.bounds-clocks-state
-bounds-clocks-state c =
+pub bounds-waiting-state : goal.bounds-waiting-state
+bounds-waiting-state c =
     let known-state : c.args.state < 128 = let x = c.args in
     omega (arith, c.requires.3, most-states x.s.now x.shape c.requires.0.shape) in
     known-state
 
-pub returns-then-clocks-state : goal.returns-then-clocks-state
-returns-then-clocks-state c =
+pub returns-then-waiting-state : goal.returns-then-waiting-state
+returns-then-waiting-state c =
     let x = c.args in
     puts-as _
-    (no-due-text (read_charts x.s.now) x.state (not-waiting x.s.now x.shape c.requires.0 x.clocks.now.waiting c.requires.1 x.state c.requires.3 c.if-clocks-state.true))
+    (no-due-text (read_charts x.s.now) x.state (not-waiting x.s.now x.shape c.requires.0 x.waiting.now c.requires.1 x.state c.requires.3 c.if-waiting-state.true))
     (puts-nothing x.out.now x.at _)
 
 pub overflow_add-state : goal.overflow_add-state
@@ -40,7 +40,7 @@ returns c =
     let known-state : c.args.state < 128 = let x = c.args in
     omega (arith, c.requires.3, most-states x.s.now x.shape c.requires.0.shape) in
     let x = c.args in
-    let one = is-waiting x.s.now x.shape c.requires.0 x.clocks.now.waiting c.requires.1 x.state c.requires.3 c.if-clocks-state.false in
+    let one = is-waiting x.s.now x.shape c.requires.0 x.waiting.now c.requires.1 x.state c.requires.3 c.if-waiting-state.false in
     puts-as _
     (ap (λ e. update_texts e (actions_of x.s.now x.shape c.requires.0 (512 + x.state))) c.requires.4
     ∙ due-text x.s.now x.shape c.requires.0 x.state known-state one.1.0 one.1.1)

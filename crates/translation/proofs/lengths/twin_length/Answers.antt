@@ -18,8 +18,8 @@ use Rattle.translation.proofs.TablesCounts.{parts_are, no-idle-resets}
 use Rattle.translation.proofs.lengths.twin_length.Goals as goal
 
 -- copied records are few
-few-copied : (s : List ℕ) (sh : Shape) → Accepted s sh → (n : ℕ) → n ≡ first_node sh → n + sh.nodes < 1500
-few-copied s sh ok n e =
+few-copied : {s : List ℕ} {sh : Shape} → Accepted s sh → {n : ℕ} → n ≡ first_node sh → n + sh.nodes < 1500
+few-copied {s} {sh} ok e =
     let is = ok.shape in
     omega (arith, e, most-charts s sh is, most-states s sh is, most-transitions s sh is, most-variables s sh is, most-nodes s sh is)
 
@@ -42,11 +42,11 @@ parts cs tests idle effects a b d =
       d,
     )
 
-few-counted : (s : List ℕ) (sh : Shape) → Accepted s sh → (tests idle effects : ℕ) →
+few-counted : {s : List ℕ} {sh : Shape} → Accepted s sh → {tests idle effects : ℕ} →
     tests ≡ length (of_transitions (read_charts s) (literals_of (read_charts s))) + length (transition_clocks (read_charts s)) → idle ≡ idle_length (read_charts s) →
     effects ≡ length (of_transitions (read_charts s) (updates_of (read_charts s))) + length (of_transitions (read_charts s) (resets_of (read_charts s))) →
     tests + idle + effects < 20000
-few-counted s sh ok tests idle effects a b d =
+few-counted {s} {sh} ok {tests} {idle} {effects} a b d =
     let u = ok.unrefused in
     omega (arith, parts (read_charts s) tests idle effects a b d, edges_few s u, literals-few s u, clocks-few s u, updates-few s u, resets-few s u)
 
@@ -68,23 +68,23 @@ count_effects-effects-requires c =
 
 pub overflow_add-copied : goal.overflow_add-copied
 overflow_add-copied c =
-    omega (arith, few-copied c.args.s.now c.args.shape c.requires c.first_node.result c.first_node.ensures)
+    omega (arith, few-copied c.requires c.first_node.ensures)
 
 pub overflow_add-result : goal.overflow_add-result
 overflow_add-result c =
-    omega (arith, few-copied c.args.s.now c.args.shape c.requires c.first_node.result c.first_node.ensures, few-counted c.args.s.now c.args.shape c.requires c.count_tests-tests.result c.count_idle-idle.result c.count_effects-effects.result c.count_tests-tests.ensures.0 c.count_idle-idle.ensures.0 c.count_effects-effects.ensures)
+    omega (arith, few-copied c.requires c.first_node.ensures, few-counted c.requires c.count_tests-tests.ensures.0 c.count_idle-idle.ensures.0 c.count_effects-effects.ensures)
 
 pub overflow_add-result-2 : goal.overflow_add-result-2
 overflow_add-result-2 c =
-    omega (arith, few-copied c.args.s.now c.args.shape c.requires c.first_node.result c.first_node.ensures, few-counted c.args.s.now c.args.shape c.requires c.count_tests-tests.result c.count_idle-idle.result c.count_effects-effects.result c.count_tests-tests.ensures.0 c.count_idle-idle.ensures.0 c.count_effects-effects.ensures)
+    omega (arith, few-copied c.requires c.first_node.ensures, few-counted c.requires c.count_tests-tests.ensures.0 c.count_idle-idle.ensures.0 c.count_effects-effects.ensures)
 
 pub overflow_add-result-3 : goal.overflow_add-result-3
 overflow_add-result-3 c =
-    omega (arith, few-copied c.args.s.now c.args.shape c.requires c.first_node.result c.first_node.ensures, few-counted c.args.s.now c.args.shape c.requires c.count_tests-tests.result c.count_idle-idle.result c.count_effects-effects.result c.count_tests-tests.ensures.0 c.count_idle-idle.ensures.0 c.count_effects-effects.ensures)
+    omega (arith, few-copied c.requires c.first_node.ensures, few-counted c.requires c.count_tests-tests.ensures.0 c.count_idle-idle.ensures.0 c.count_effects-effects.ensures)
 
 pub overflow_mul-result : goal.overflow_mul-result
 overflow_mul-result c =
-    omega (arith, few-copied c.args.s.now c.args.shape c.requires c.first_node.result c.first_node.ensures, few-counted c.args.s.now c.args.shape c.requires c.count_tests-tests.result c.count_idle-idle.result c.count_effects-effects.result c.count_tests-tests.ensures.0 c.count_idle-idle.ensures.0 c.count_effects-effects.ensures)
+    omega (arith, few-copied c.requires c.first_node.ensures, few-counted c.requires c.count_tests-tests.ensures.0 c.count_idle-idle.ensures.0 c.count_effects-effects.ensures)
 
 pub returns : goal.returns
 returns c =

@@ -7,18 +7,14 @@ use Rattle.model.specs.Translation.{clocks_of}
 use Rattle.chart_records.specs.Parts.{trigger_for}
 use Rattle.twin_records.specs.Texts.{record_text, section}
 use Rattle.prelude.proofs.Gathered.{gather_none, gather-one}
+use Rattle.twin_records.proofs.TablesClocks.{untimed}
 use Rattle.twin_records.proofs.TextsWritten.{puts-as, puts-nothing}
 use Rattle.twin_records.proofs.clocks.put_clock.Goals as goal
 
 pub returns-in-Always : goal.returns-in-Always
 returns-in-Always c =
     let x = c.args in
-    puts-as _ (sym (gather_none (record_text 37)) ∙ ap (λ t. section 37 (map write_clock (clocks_of (trigger_for t)))) (sym c.in-Always.is)) (puts-nothing x.out.now x.at 16)
-
-pub returns-in-Event : goal.returns-in-Event
-returns-in-Event c =
-    let x = c.args in
-    puts-as _ (sym (gather_none (record_text 37)) ∙ ap (λ t. section 37 (map write_clock (clocks_of (trigger_for t)))) (sym c.in-Event.is)) (puts-nothing x.out.now x.at 16)
+    puts-as _ (sym (gather_none (record_text 37)) ∙ ap (λ l. section 37 (map write_clock l)) (sym (untimed c.in-Always.is))) (puts-nothing x.out.now x.at 16)
 
 pub returns-in-After : goal.returns-in-After
 returns-in-After c =

@@ -1,5 +1,4 @@
 use mathlib.Core.List.{map}
-use Prim.Native.Nat.{◌-◌}
 use Rattle.model.specs.AutomataTable.{write_clock}
 use Rattle.model.specs.Translation.{clocks_of}
 use Rattle.chart_records.specs.Places.{transition_at}

@@ -1,5 +1,4 @@
 use mathlib.Core.List.{map}
-use Prim.Native.Nat.{◌-◌}
 use Rattle.model.specs.ChartSet.{read_charts}
 use Rattle.model.specs.AutomataTable.{write_clock}
 use Rattle.model.specs.Translation.{waiting_clocks}

@@ -1,4 +1,3 @@
-use Prim.Native.Nat.{◌-◌}
 use Rattle.prelude.specs.Lists.{gather}
 use Rattle.model.specs.ChartSet.{read_charts}
 use Rattle.model.specs.Translation.{idle_origins}

@@ -11,16 +11,16 @@ use Rattle.twin_records.proofs.TextsWritten.{puts-as, puts_then, puts-far}
 use Rattle.twin_records.proofs.TablesWaiting.{not-waiting, is-waiting}
 use Rattle.twin_records.proofs.edges.put_idle_edges_of.Goals as goal
 
-pub bounds-clocks-state : goal.bounds-clocks-state
-bounds-clocks-state c =
+pub bounds-waiting-state : goal.bounds-waiting-state
+bounds-waiting-state c =
     let x = c.args in
     omega (arith, c.requires.2, most-states x.s.now x.shape c.requires.0.shape)
 
-pub returns-then-clocks-state : goal.returns-then-clocks-state
-returns-then-clocks-state c =
+pub returns-then-waiting-state : goal.returns-then-waiting-state
+returns-then-waiting-state c =
     let x = c.args in
     let cs = read_charts x.s.now in
-    let none = not-waiting x.s.now x.shape c.requires.0 x.clocks.now.waiting c.requires.1 x.state c.requires.2 c.if-clocks-state.true in
+    let none = not-waiting x.s.now x.shape c.requires.0 x.waiting.now c.requires.1 x.state c.requires.2 c.if-waiting-state.true in
     puts-as _
     (c.idle_record-bytes.ensures
     ∙ sym (gather-one (edge_text cs) (from_idling x.state))
@@ -31,7 +31,7 @@ pub returns : goal.returns
 returns c =
     let x = c.args in
     let cs = read_charts x.s.now in
-    let one = is-waiting x.s.now x.shape c.requires.0 x.clocks.now.waiting c.requires.1 x.state c.requires.2 c.if-clocks-state.false in
+    let one = is-waiting x.s.now x.shape c.requires.0 x.waiting.now c.requires.1 x.state c.requires.2 c.if-waiting-state.false in
     puts-as _
     ((λ i. c.idle_record-bytes.ensures i ++ (c.idle_record-bytes.ensures ∙ sym (gather-one (edge_text cs) (from_idling x.state))) i)
     ∙ sym (gather-cons (edge_text cs) (from_waiting x.state) (from_idling x.state ∷ []))

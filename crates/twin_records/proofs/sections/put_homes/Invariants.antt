@@ -1,5 +1,4 @@
 use mathlib.Core.List.{[], ◌∷◌}
-use Prim.Native.Nat.{◌-◌}
 use Rattle.twin_records.specs.Texts.{record_text}
 use Rattle.twin_records.proofs.TextsWritten.{Texts}
 use Rattle.chart_records.specs.Places.{home_at}

@@ -1,5 +1,4 @@
 use mathlib.Core.List.{◌∷◌}
-use Prim.Native.Nat.{◌-◌}
 use Rattle.records.specs.Bytes.{bytes2}
 use Rattle.twin_records.specs.Texts.{record_text}
 use Rattle.twin_records.proofs.TextsWritten.{Texts}

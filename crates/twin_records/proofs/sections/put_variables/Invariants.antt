@@ -1,4 +1,3 @@
-use Prim.Native.Nat.{◌-◌}
 use Rattle.twin_records.specs.Texts.{record_text}
 use Rattle.twin_records.proofs.TextsWritten.{Texts}
 use Rattle.model.specs.AutomataTable.{write_variable}
