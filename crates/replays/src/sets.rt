@@ -25,6 +25,12 @@ pub struct ReplayedCycle {
     pub run: Run,
 }
 
+fn ended(size: usize, answer: Result<(), Stop>, run: Run) -> ReplayedCycle
+    ensures { result ≡ record { size = size; answer = answer; run = run } }
+{
+    ReplayedCycle { size, answer, run }
+}
+
 // A cycle of an accepted set, turn after turn up to time's, the first with the events given, with a line for each chart's turn that is taken. Where one is
 // refused or faults, the lines of the turns before are written and the run is the one that was given.
 pub fn cycle_into(
@@ -65,27 +71,9 @@ pub fn cycle_into(
                 present = after;
                 given = 0;
             }
-            Answer::Time => {
-                return ReplayedCycle {
-                    size,
-                    answer: Ok(()),
-                    run: after,
-                };
-            }
-            Answer::Fault(w) => {
-                return ReplayedCycle {
-                    size,
-                    answer: Err(Stop::Fault(w)),
-                    run,
-                };
-            }
-            Answer::Refused(w) => {
-                return ReplayedCycle {
-                    size,
-                    answer: Err(Stop::Refused(w)),
-                    run,
-                };
-            }
+            Answer::Time => return ended(size, Ok(()), after),
+            Answer::Fault(w) => return ended(size, Err(Stop::Fault(w)), run),
+            Answer::Refused(w) => return ended(size, Err(Stop::Refused(w)), run),
         }
     }
 }

@@ -26,6 +26,12 @@ pub struct ReplayedCycle {
     pub run: Run,
 }
 
+fn ended(size: usize, answer: Result<(), Stop>, run: Run) -> ReplayedCycle
+    ensures { result ≡ record { size = size; answer = answer; run = run } }
+{
+    ReplayedCycle { size, answer, run }
+}
+
 // A cycle of an accepted table, with a line for each automaton's turn that is taken.
 pub fn cycle_into(
     s: &[u8],
@@ -66,27 +72,9 @@ pub fn cycle_into(
                 present = after;
                 given = 0;
             }
-            Answer::Time => {
-                return ReplayedCycle {
-                    size,
-                    answer: Ok(()),
-                    run: after,
-                };
-            }
-            Answer::Fault(w) => {
-                return ReplayedCycle {
-                    size,
-                    answer: Err(Stop::Fault(w)),
-                    run,
-                };
-            }
-            Answer::Refused(w) => {
-                return ReplayedCycle {
-                    size,
-                    answer: Err(Stop::Refused(w)),
-                    run,
-                };
-            }
+            Answer::Time => return ended(size, Ok(()), after),
+            Answer::Fault(w) => return ended(size, Err(Stop::Fault(w)), run),
+            Answer::Refused(w) => return ended(size, Err(Stop::Refused(w)), run),
         }
     }
 }

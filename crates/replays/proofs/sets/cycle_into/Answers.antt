@@ -58,7 +58,7 @@ returns-in-Time-clause-begins c =
     let l = c.loop-states in
     let x = turn_of c.turn-turned.result in
     let h = finished m steady l.given (run_of l.present) x c.turn-turned.ensures l.invariant.0 (ap answer_of c.in-Time.is) in
-    subst (λ t. Begins c.args.out.now t l.out l.size) (trace-text (read_charts c.args.s.now) (trace m (whole_cycle c.args.events) (run_of c.args.run))) h.0
+    rw c.ended.ensures (subst (λ t. Begins c.args.out.now t l.out l.size) (trace-text (read_charts c.args.s.now) (trace m (whole_cycle c.args.events) (run_of c.args.run))) h.0)
 
 pub returns-in-Time-clause-size_bound : goal.returns-in-Time-clause-size_bound
 returns-in-Time-clause-size_bound c =
@@ -67,7 +67,7 @@ returns-in-Time-clause-size_bound c =
     let l = c.loop-states in
     let x = turn_of c.turn-turned.result in
     let h = finished m steady l.given (run_of l.present) x c.turn-turned.ensures l.invariant.0 (ap answer_of c.in-Time.is) in
-    h.1.0
+    rw c.ended.ensures h.1.0
 
 pub returns-in-Time-clause-result_value : goal.returns-in-Time-clause-result_value
 returns-in-Time-clause-result_value c =
@@ -76,7 +76,7 @@ returns-in-Time-clause-result_value c =
     let l = c.loop-states in
     let x = turn_of c.turn-turned.result in
     let h = finished m steady l.given (run_of l.present) x c.turn-turned.ensures l.invariant.0 (ap answer_of c.in-Time.is) in
-    h.1.1
+    rw c.ended.ensures h.1.1
 
 pub returns-in-Fault-clause-begins : goal.returns-in-Fault-clause-begins
 returns-in-Fault-clause-begins c =
@@ -85,7 +85,7 @@ returns-in-Fault-clause-begins c =
     let l = c.loop-states in
     let x = turn_of c.turn-turned.result in
     let h = failed m steady l.given (run_of l.present) x c.turn-turned.ensures l.invariant.0 (reason_of c.in-Fault.w) (ap answer_of c.in-Fault.is) in
-    subst (λ t. Begins c.args.out.now t l.out l.size) (trace-text (read_charts c.args.s.now) (trace m (whole_cycle c.args.events) (run_of c.args.run))) h.0
+    rw c.ended-in-Fault.ensures (subst (λ t. Begins c.args.out.now t l.out l.size) (trace-text (read_charts c.args.s.now) (trace m (whole_cycle c.args.events) (run_of c.args.run))) h.0)
 
 pub returns-in-Fault-clause-size_bound : goal.returns-in-Fault-clause-size_bound
 returns-in-Fault-clause-size_bound c =
@@ -94,7 +94,7 @@ returns-in-Fault-clause-size_bound c =
     let l = c.loop-states in
     let x = turn_of c.turn-turned.result in
     let h = failed m steady l.given (run_of l.present) x c.turn-turned.ensures l.invariant.0 (reason_of c.in-Fault.w) (ap answer_of c.in-Fault.is) in
-    h.1.0
+    rw c.ended-in-Fault.ensures h.1.0
 
 pub returns-in-Fault-clause-result_value : goal.returns-in-Fault-clause-result_value
 returns-in-Fault-clause-result_value c =
@@ -103,7 +103,7 @@ returns-in-Fault-clause-result_value c =
     let l = c.loop-states in
     let x = turn_of c.turn-turned.result in
     let h = failed m steady l.given (run_of l.present) x c.turn-turned.ensures l.invariant.0 (reason_of c.in-Fault.w) (ap answer_of c.in-Fault.is) in
-    h.1.1
+    rw c.ended-in-Fault.ensures h.1.1
 
 pub returns-in-Refused-clause-begins : goal.returns-in-Refused-clause-begins
 returns-in-Refused-clause-begins c =
@@ -112,7 +112,7 @@ returns-in-Refused-clause-begins c =
     let l = c.loop-states in
     let x = turn_of c.turn-turned.result in
     let h = failed m steady l.given (run_of l.present) x c.turn-turned.ensures l.invariant.0 (refusal_of c.in-Refused.w) (ap answer_of c.in-Refused.is) in
-    subst (λ t. Begins c.args.out.now t l.out l.size) (trace-text (read_charts c.args.s.now) (trace m (whole_cycle c.args.events) (run_of c.args.run))) h.0
+    rw c.ended-in-Refused.ensures (subst (λ t. Begins c.args.out.now t l.out l.size) (trace-text (read_charts c.args.s.now) (trace m (whole_cycle c.args.events) (run_of c.args.run))) h.0)
 
 pub returns-in-Refused-clause-size_bound : goal.returns-in-Refused-clause-size_bound
 returns-in-Refused-clause-size_bound c =
@@ -121,7 +121,7 @@ returns-in-Refused-clause-size_bound c =
     let l = c.loop-states in
     let x = turn_of c.turn-turned.result in
     let h = failed m steady l.given (run_of l.present) x c.turn-turned.ensures l.invariant.0 (refusal_of c.in-Refused.w) (ap answer_of c.in-Refused.is) in
-    h.1.0
+    rw c.ended-in-Refused.ensures h.1.0
 
 pub returns-in-Refused-clause-result_value : goal.returns-in-Refused-clause-result_value
 returns-in-Refused-clause-result_value c =
@@ -130,4 +130,4 @@ returns-in-Refused-clause-result_value c =
     let l = c.loop-states in
     let x = turn_of c.turn-turned.result in
     let h = failed m steady l.given (run_of l.present) x c.turn-turned.ensures l.invariant.0 (refusal_of c.in-Refused.w) (ap answer_of c.in-Refused.is) in
-    h.1.1
+    rw c.ended-in-Refused.ensures h.1.1

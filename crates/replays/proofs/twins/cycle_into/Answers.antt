@@ -55,7 +55,7 @@ returns-in-Time-clause-begins c =
     let l = c.loop-locations in
     let x = turn_of c.turn-turned.result in
     let h = finished m steady l.given (run_of l.present) x c.turn-turned.ensures l.invariant.0 (ap answer_of c.in-Time.is) in
-    h.0
+    rw c.ended.ensures h.0
 
 pub returns-in-Time-clause-size_bound : goal.returns-in-Time-clause-size_bound
 returns-in-Time-clause-size_bound c =
@@ -64,7 +64,7 @@ returns-in-Time-clause-size_bound c =
     let l = c.loop-locations in
     let x = turn_of c.turn-turned.result in
     let h = finished m steady l.given (run_of l.present) x c.turn-turned.ensures l.invariant.0 (ap answer_of c.in-Time.is) in
-    h.1.0
+    rw c.ended.ensures h.1.0
 
 pub returns-in-Time-clause-result_value : goal.returns-in-Time-clause-result_value
 returns-in-Time-clause-result_value c =
@@ -73,7 +73,7 @@ returns-in-Time-clause-result_value c =
     let l = c.loop-locations in
     let x = turn_of c.turn-turned.result in
     let h = finished m steady l.given (run_of l.present) x c.turn-turned.ensures l.invariant.0 (ap answer_of c.in-Time.is) in
-    h.1.1
+    rw c.ended.ensures h.1.1
 
 pub returns-in-Fault-clause-begins : goal.returns-in-Fault-clause-begins
 returns-in-Fault-clause-begins c =
@@ -82,7 +82,7 @@ returns-in-Fault-clause-begins c =
     let l = c.loop-locations in
     let x = turn_of c.turn-turned.result in
     let h = failed m steady l.given (run_of l.present) x c.turn-turned.ensures l.invariant.0 (reason_of c.in-Fault.w) (ap answer_of c.in-Fault.is) in
-    h.0
+    rw c.ended-in-Fault.ensures h.0
 
 pub returns-in-Fault-clause-size_bound : goal.returns-in-Fault-clause-size_bound
 returns-in-Fault-clause-size_bound c =
@@ -91,7 +91,7 @@ returns-in-Fault-clause-size_bound c =
     let l = c.loop-locations in
     let x = turn_of c.turn-turned.result in
     let h = failed m steady l.given (run_of l.present) x c.turn-turned.ensures l.invariant.0 (reason_of c.in-Fault.w) (ap answer_of c.in-Fault.is) in
-    h.1.0
+    rw c.ended-in-Fault.ensures h.1.0
 
 pub returns-in-Fault-clause-result_value : goal.returns-in-Fault-clause-result_value
 returns-in-Fault-clause-result_value c =
@@ -100,7 +100,7 @@ returns-in-Fault-clause-result_value c =
     let l = c.loop-locations in
     let x = turn_of c.turn-turned.result in
     let h = failed m steady l.given (run_of l.present) x c.turn-turned.ensures l.invariant.0 (reason_of c.in-Fault.w) (ap answer_of c.in-Fault.is) in
-    h.1.1
+    rw c.ended-in-Fault.ensures h.1.1
 
 pub returns-in-Refused-clause-begins : goal.returns-in-Refused-clause-begins
 returns-in-Refused-clause-begins c =
@@ -109,7 +109,7 @@ returns-in-Refused-clause-begins c =
     let l = c.loop-locations in
     let x = turn_of c.turn-turned.result in
     let h = failed m steady l.given (run_of l.present) x c.turn-turned.ensures l.invariant.0 (refusal_of c.in-Refused.w) (ap answer_of c.in-Refused.is) in
-    h.0
+    rw c.ended-in-Refused.ensures h.0
 
 pub returns-in-Refused-clause-size_bound : goal.returns-in-Refused-clause-size_bound
 returns-in-Refused-clause-size_bound c =
@@ -118,7 +118,7 @@ returns-in-Refused-clause-size_bound c =
     let l = c.loop-locations in
     let x = turn_of c.turn-turned.result in
     let h = failed m steady l.given (run_of l.present) x c.turn-turned.ensures l.invariant.0 (refusal_of c.in-Refused.w) (ap answer_of c.in-Refused.is) in
-    h.1.0
+    rw c.ended-in-Refused.ensures h.1.0
 
 pub returns-in-Refused-clause-result_value : goal.returns-in-Refused-clause-result_value
 returns-in-Refused-clause-result_value c =
@@ -127,4 +127,4 @@ returns-in-Refused-clause-result_value c =
     let l = c.loop-locations in
     let x = turn_of c.turn-turned.result in
     let h = failed m steady l.given (run_of l.present) x c.turn-turned.ensures l.invariant.0 (refusal_of c.in-Refused.w) (ap answer_of c.in-Refused.is) in
-    h.1.1
+    rw c.ended-in-Refused.ensures h.1.1
