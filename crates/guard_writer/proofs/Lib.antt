@@ -1,6 +1,5 @@
 -- What the proofs of several functions use, and how short a text is, which crates above cite.
 mod Texts
-mod Bits
 mod Rules
 mod Codes
 mod Listed

@@ -16,7 +16,7 @@ use super::operators::{level, second_byte};
 use expressions::nodes::fields_at;
 use expressions::sorts::{Sort, add_use};
 use records::sizes::NODES;
-use records::{byte_at, i32_at, u16_at, unsigned32};
+use records::{byte_at, i32_at, u16_at};
 
 // A test for each length, in place of a division for each digit.
 fn digits(n: u32) -> usize
@@ -52,15 +52,13 @@ fn digits(n: u32) -> usize
     10
 }
 
-// A negative number has its sign, and its magnitude is what its bits lack of 2 to the 32nd.
+// A negative number has its sign, too.
+#[tactic(auto, unfolding(guards::specs::Texts::text_of))]
 fn constant_bytes(z: i32) -> usize
     ensures { (result ≤ 11) × (length (text_of (constant z)) ≤ result) }
 {
-    let bits = unsigned32(z);
-    if bits < 2147483648 {
-        return digits(bits);
-    }
-    1 + digits(4294967295 - bits + 1)
+    let bytes = digits(z.unsigned_abs());
+    if z < 0 { 1 + bytes } else { bytes }
 }
 
 // A variable past the last, and an unknown operator, are no part of a tree.

@@ -14,7 +14,7 @@ ghost use Rattle.guard_writer.specs.Operands.{operand_tree, Near};
 use super::operators::{first_byte, level_at, second_byte};
 use expressions::nodes::fields_at;
 use lines::{put_char, put_decimal, put_text};
-use records::{byte_at, i32_at, u16_at, unsigned32};
+use records::{byte_at, i32_at, u16_at};
 
 fn put_sign(code: u8, out: &mut [u8], at: usize) -> usize
     requires { Near at (sign (code_binary code)) }
@@ -38,17 +38,17 @@ fn put_number(n: u32, out: &mut [u8], at: usize) -> usize
     put_decimal(out, at, n)
 }
 
-// In two's complement the bits of a negative number lack its magnitude of 2 to the 32nd.
+#[tactic(auto, unfolding(guards::specs::Texts::text_of))]
 fn put_constant(z: i32, out: &mut [u8], at: usize) -> usize
     requires { Near at (text_of (constant z)) }
     ensures { Wrote out.old at (text_of (constant z)) out.new result }
 {
-    let bits = unsigned32(z);
-    if bits < 2147483648 {
-        return put_number(bits, out, at);
+    if z < 0 {
+        let next = put_text(out, at, b"-");
+        put_number(z.unsigned_abs(), out, next)
+    } else {
+        put_number(z as u32, out, at)
     }
-    let next = put_text(out, at, b"-");
-    put_number(4294967295 - bits + 1, out, next)
 }
 
 fn put_variable(v: u16, out: &mut [u8], at: usize) -> usize

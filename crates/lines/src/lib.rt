@@ -41,14 +41,13 @@ pub fn put_decimal(out: &mut [u8], at: usize, n: u32) -> usize
     }
 }
 
-// The complement of a negative number is one less than its magnitude, which need not fit the number's own type.
 pub fn put_signed(out: &mut [u8], at: usize, z: i16) -> usize
     requires { at < 2 ^ 61 }
     ensures { Wrote out.old at (signed_decimal z) out.new result }
 {
     if z < 0 {
         let next = put_char(out, at, b'-');
-        put_decimal(out, next, (!z as u32) + 1)
+        put_decimal(out, next, z.unsigned_abs() as u32)
     } else {
         put_decimal(out, at, z as u32)
     }
