@@ -26,12 +26,10 @@ fn run_end(s: &[u8], start: usize, kind: usize) -> usize
     requires { start ≤ length s.now / 16 }
     ensures { IsRun s.now start kind result }
 {
-    for i in start..s.len() / 16 {
-        if (s[16 * i] as usize) != kind {
-            return i;
-        }
-    }
-    s.len() / 16
+    let end = s.len() / 16;
+    (start..end)
+        .find(|&i| (s[16 * i] as usize) != kind)
+        .unwrap_or(end)
 }
 
 // How many records of each kind, by one pass: a run of each kind in turn. None where records are left: those are of no kind, or of one that had its run.
