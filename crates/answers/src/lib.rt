@@ -12,8 +12,8 @@ ghost use Rattle.answers.specs.declared.Stop.TheVariants.{Fault, Refused};
 use expressions::outcomes;
 use records::refusals::{Refusal, refusal_number};
 
-// Why a turn faults, each by its number in the refusal table: a number out of 32 bits, a zero divisor, a number out of its variable's bounds; of automata also no
-// edge open, two or more open.
+// Why a turn faults, each by its number in the refusal table: a number out of 32 bits, a zero divisor, a number out of its variable's bounds; of automata also
+// no edge open, two or more open.
 #[derive(Clone, Copy, PartialEq, Eq)]
 pub enum Reason {
     Range = 15,
@@ -35,8 +35,8 @@ impl From<outcomes::Reason> for Reason {
     }
 }
 
-// A turn's: the transition or edge taken, that the chart idled, that time passed, why it faulted, or why it was refused. Automata never idle. One enum, and no Result
-// with `Stop`: document 01 names this form (docs/DECISIONS.md, "Forms that document 01 names").
+// A turn's: the transition or edge taken, that the chart idled, that time passed, why it faulted, or why it was refused. Automata never idle. One enum, and no
+// Result with `Stop`: document 01 names this form (docs/DECISIONS.md, "Forms that document 01 names").
 #[derive(Clone, Copy)]
 pub enum Answer {
     Taken(u16),
@@ -79,7 +79,7 @@ pub fn reason_number(w: Reason) -> u8
 fn minus(n: u8) -> i32
     ensures { result ≡ neg_ℤ (pos n) }
 {
-    0 - (n as i32)
+    -i32::from(n)
 }
 
 // A refusal or fault is minus its number.

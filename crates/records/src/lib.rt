@@ -1,4 +1,5 @@
-// Fields of byte slices, the refusal table and the sizes that document 01 fixes.
+// Fields of byte slices, the refusal table and the sizes that document 01 fixes. A read and a write of each width and sign: docs/PROVED.md names each with a
+// definition of its own (`two`, `four`, ..), and a const parameter picks no type.
 #![tactic(auto)]
 
 ghost use Rattle.std.specs.Prelude.{◌≡◌, ◌+◌, ◌-◌, ◌*◌, ◌/◌, ◌<◌, ◌^◌, length, set};

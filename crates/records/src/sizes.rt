@@ -82,7 +82,8 @@ pub type Rows = [[u16; PRIORITIES]; STATES];
 
 pub type Ends = [u8; STATES];
 
-// Actions by owner: keys of entry, of exit, of transitions, of waiting; of each key the first, of each action the next.
+// Actions by owner: keys of entry, of exit, of transitions, of waiting; of each key the first, of each action the next. 65535 is none, here and in the tables
+// of automata: two bytes a link, where an `Option` has four, as this is fixed memory (docs/SPEED.md, "Fixed tables").
 pub const EXIT_KEYS: u16 = STATES as u16;
 
 pub const CROSSING_KEYS: u16 = 2 * (STATES as u16);
@@ -93,7 +94,7 @@ pub const CROSSING_PLACES: usize = 2 * STATES;
 
 pub const WAITING_KEYS: u16 = 2 * (STATES as u16) + (TRANSITIONS as u16);
 
-// No action has this key.
+// No action has this key: a turn that does those of one key asks this one twice more, so that one loop asks three.
 pub const EMPTY_KEY: u16 = 3 * (STATES as u16) + (TRANSITIONS as u16);
 
 pub const ACTION_KEYS: usize = 3 * STATES + TRANSITIONS + 1;
