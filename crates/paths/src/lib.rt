@@ -24,7 +24,7 @@ use records::sizes::{
 const IDLE_EDGES: usize = 2 * STATES;
 
 // Of each idle edge, counted from the first, its state; and how many there are: room for the most, as there is no heap.
-#[derive(Clone, Copy)]
+#[derive(Drop)]
 pub struct Idling {
     pub states: [u16; IDLE_EDGES],
     pub count: u16,
@@ -39,14 +39,14 @@ pub struct Edge {
 }
 
 // The edges of the twin, made once for a path, and how many there are: room for the most, as there is no heap.
-#[derive(Clone, Copy)]
+#[derive(Drop)]
 pub struct EdgeTable {
     pub edges: [Edge; EDGES],
     pub count: u16,
 }
 
 // Where the steps so far have led: the automata's locations, and of the next step its position in its cycle.
-#[derive(Clone, Copy)]
+#[derive(Drop)]
 pub struct Walk {
     pub locations: Places,
     pub position: u32,
