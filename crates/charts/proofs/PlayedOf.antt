@@ -9,6 +9,7 @@ use borrow.Author.Tests.{eq-eqb, ne_eqb}
 use lib.Dec.{T, leb, eqb, leb→le, eqb→eq}
 use lib.IntN.{ℤ}
 use lib.ListN.{drop}
+use Rattle.prelude.proofs.Counts.{impossible}
 use Rattle.records.specs.Refusal.{impossible_run, misplaced_events, cycles_done, Out, val, fault, ◌>>◌, fault_if}
 use Rattle.model.specs.Outcome.{settled}
 use Rattle.model.specs.Runs.{Run, Machine, possible, checked, give, cycle}
@@ -24,7 +25,7 @@ use Rattle.chart_records.proofs.PlacesRead.{length-initial}
 use Rattle.machines.specs.Playing.{played, stopped_at, playing, play_call}
 use Rattle.machines.proofs.Turns.{cycle-refused, cycle-given}
 use Rattle.machines.proofs.Playing as P
-use Rattle.std.specs.Prelude.{Result, Ok, Err}
+use Rattle.std.specs.Prelude.{Result, Ok, Err, is_err}
 use Rattle.charts.specs.declared.plays.Played.{Played}
 use Rattle.machines.specs.Worlds.{moment, run_in}
 use Rattle.chart_runs.specs.RunOf.{run_of}
@@ -85,7 +86,7 @@ module _ (m : Machine) (r : Run) where
 
 module _ (s : List ℕ) (sh : Shape) (is : IsShape s sh) (given : ℕ) (r q p : Run) (fine : checked (charts (read_charts s)) given r ≡ val tt) (events : q ≡ give given r)
     (o : Result (Unit {0}) Reason) (turned : ran_to o p ≡ after (charts (read_charts s)) (sh.charts + 2 - q.world.position) q) where
-  by_turns : cycle (charts (read_charts s)) given r ≡ finish (ran_to o p)
+  pub by_turns : cycle (charts (read_charts s)) given r ≡ finish (ran_to o p)
   by_turns = cycle-given (charts (read_charts s)) sh.charts (length-initial s sh is) given r q fine events ∙ ap finish (sym turned)
 
   pub cycle-ends : (u : Unit {0}) → o ≡ Ok u → cycle (charts (read_charts s)) given r ≡ val (tt, p)
@@ -93,6 +94,14 @@ module _ (s : List ℕ) (sh : Shape) (is : IsShape s sh) (given : ℕ) (r q p : 
 
   pub cycle-fails : (w : Reason) → o ≡ Err w → cycle (charts (read_charts s)) given r ≡ fault (reason_of w)
   cycle-fails w e = by_turns ∙ ap (λ d. finish (ran_to d p)) e
+
+  -- the run that a fault leaves does not matter
+  pub cycle-failed : (l : Run) → is_err o ≡ true → cycle (charts (read_charts s)) given r ≡ finish (ran_to o l)
+  cycle-failed l e = go o e by_turns
+    where
+      go : (d : Result (Unit {0}) Reason) → is_err d ≡ true → cycle (charts (read_charts s)) given r ≡ finish (ran_to d p) → cycle (charts (read_charts s)) given r ≡ finish (ran_to d l)
+      go (Ok u) f is = impossible (sym f)
+      go (Err w) f is = is
 
 -- ---- the first cycle, and those after it
 

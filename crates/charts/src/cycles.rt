@@ -1,4 +1,5 @@
-// A cycle: turn after turn, up to time's.
+// A cycle: turn after turn, up to time's. Automata have functions of the same names, in place of one for both: each run is a struct of the C interface, and
+// document 01 names the forms on each side (docs/DECISIONS.md, "Forms that document 01 names").
 ghost use Rattle.std.specs.Prelude.{◌≡◌};
 ghost use Rattle.records.specs.Refusal.{val};
 ghost use Rattle.model.specs.Outcome.{settled};
@@ -34,7 +35,8 @@ pub fn fresh(s: &[u8], shape: Shape, lent: Run) -> Called
     }
 }
 
-// The tables are made once; then the turns from the present position on, the first with the events given. Where one is refused or faults the run is the one that was given: all its turns, or none.
+// The tables are made once; then the turns from the present position on, the first with the events given. Where one is refused or faults the run is the one
+// that was given: all its turns, or none.
 pub fn cycle_by_turns(s: &[u8], shape: Shape, run: Run, events: u32) -> Called
     requires { Accepted s.now shape }
     ensures { called_of result ≡ settled (run_of run) (model-cycle (machine (read_charts s.now)) events (run_of run)) }

@@ -1,4 +1,5 @@
-// A run that the caller lends, moved on in place: what is done to it is done by value, and it is given back at the end. Where a call is refused or faults the run is as it was.
+// A run that the caller lends, moved on in place: what is done to it is done by value, and it is given back at the end. Where a call is refused or faults the
+// run is as it was. Automata have functions of the same names (see cycles.rt).
 ghost use Rattle.std.specs.Prelude.{◌≡◌};
 ghost use Rattle.records.specs.Refusal.{val};
 ghost use Rattle.model.specs.Outcome.{settled};

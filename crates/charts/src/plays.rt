@@ -1,4 +1,5 @@
-// Many cycles of an accepted set, in place on the run's arrays: what is checked before a turn is checked once.
+// Many cycles of an accepted set, in place on the run's arrays, as a run by value is copied (docs/SPEED.md, "A run lent and given back"): what is checked
+// before a turn is checked once. Automata have theirs, of another run (see cycles.rt).
 ghost use Rattle.std.specs.Prelude.{◌≡◌, ℕ, ◌+◌, ◌-◌, ◌≤◌, ◌<◌, T, length, get_or};
 ghost use Rattle.model.specs.Limits.{most_charts};
 ghost use Rattle.prelude.specs.Lists.{map_from};
@@ -22,7 +23,7 @@ use chart_runs::{Run, before_turn, grow_ages, run_between_cycles};
 use chart_steps::steps::turns_in_place;
 use chart_steps::tables::{Tables, tables_of};
 use machines::checks::events_given;
-use machines::deeds::reason_by;
+use machines::deeds::done_by;
 use records::sizes::{Ages, MOST_CYCLES, Places, Variables};
 
 // How many cycles were done, or why not even the first was, and the run after them.
@@ -37,9 +38,7 @@ fn time_after(charts: u16, ages: &mut Ages, events: u64) -> Result<(), Reason>
     requires { (charts ≤ most_charts) × (events ≤ 4_294_967_295 → (k : ℕ) → k < charts → get_or ages.old k 0 < 4_294_967_295) }
     ensures { ((q : model-run) → ran_to result q ≡ ended_by events q) × (events ≤ 4_294_967_295 → ages.new ≡ map_from 0 (aged charts) ages.old) × (4_294_967_295 < events → ages.new ≡ ages.old) }
 {
-    if 4294967295 < events {
-        return Err(reason_by(events));
-    }
+    done_by(events)?;
     grow_ages(charts, ages);
     Ok(())
 }
@@ -94,16 +93,17 @@ fn cycle_or_none(
     let states_before = *states;
     let ages_before = *ages;
     let vars_before = *vars;
-    if let Err(w) = cycle_or_fault(s, shape, tables, states, ages, vars, events, 1, cycles) {
+    let done = cycle_or_fault(s, shape, tables, states, ages, vars, events, 1, cycles);
+    if done.is_err() {
         *states = states_before;
         *ages = ages_before;
         *vars = vars_before;
-        return Err(w);
     }
-    Ok(())
+    done
 }
 
-// Cycles from a possible run at position 1, one for each mask, until one faults or none is left to do. Check 12 holds after each that is done, so it is not made again.
+// Cycles from a possible run at position 1, one for each mask, until one faults or none is left to do. Check 12 holds after each that is done, so it is not
+// made again.
 fn further_cycles(
     s: &[u8],
     shape: Shape,
@@ -193,7 +193,7 @@ fn play_with_tables(s: &[u8], shape: Shape, tables: &Tables, run: Run, masks: &[
     requires { Prepared s.now shape tables.now }
     ensures { played_of result ≡ settled (run_of run) (playing (machine (read_charts s.now)) masks.now (run_of run)) }
 {
-    if masks.len() == 0 {
+    if masks.is_empty() {
         return Played { answer: Ok(0), run };
     }
     match before_turn(s, shape, run, masks[0]) {

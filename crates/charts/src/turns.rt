@@ -1,4 +1,4 @@
-// A turn by value: a run goes in, the answer and the run after it come back.
+// A turn by value: a run goes in, the answer and the run after it come back. Automata have functions of the same names (see cycles.rt).
 ghost use Rattle.std.specs.Prelude.{◌≡◌, ◌+◌, ◌≤◌, ◌<◌};
 ghost use Rattle.records.specs.Refusal.{val};
 ghost use Rattle.model.specs.Outcome.{settled};
@@ -18,7 +18,7 @@ use chart_records::Shape;
 use chart_runs::{Run, before_turn, give, time_passed};
 use chart_steps::steps::turns_in_place;
 use chart_steps::tables::{Tables, tables_of};
-use machines::deeds::reason_by;
+use machines::deeds::done_by;
 use records::sizes::{Ages, Places, Variables};
 
 // A turn's answer, and the run after it.
@@ -51,21 +51,21 @@ fn chart_turned(
     requires { position < 4_294_967_295 }
     ensures { turn_of result ≡ settled (run_of lent) (moved_by after (answer_by chosen) states ages variables (moment (position + 1) cycles)) }
 {
-    if 4294967295 < after {
-        return Turned {
-            answer: Answer::Fault(reason_by(after)),
+    match done_by(after) {
+        Err(w) => Turned {
+            answer: Answer::Fault(w),
             run: lent,
-        };
-    }
-    Turned {
-        answer: answer_by(chosen),
-        run: Run {
-            states,
-            ages,
-            variables,
-            events: after as u32,
-            position: position + 1,
-            cycles,
+        },
+        Ok(events) => Turned {
+            answer: answer_by(chosen),
+            run: Run {
+                states,
+                ages,
+                variables,
+                events,
+                position: position + 1,
+                cycles,
+            },
         },
     }
 }

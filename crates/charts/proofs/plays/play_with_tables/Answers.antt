@@ -1,5 +1,6 @@
 use mathlib.Core.Path.{sym, ap, ◌∙◌}
 use native.Mathlib.Omega.{arith}
+use Rattle.std.proofs.lemmas.Bool.Decides.{nat_tests}
 use lib.ListN.{get_or}
 use Rattle.records.specs.RefusalOf.{refusal_of}
 use Rattle.model.specs.Outcome.{settled}
@@ -12,14 +13,12 @@ use Rattle.machines.proofs.Playing.{played_after-none, played_after-stop, played
 use Rattle.chart_runs.specs.RunOf.{run_of}
 use Rattle.charts.proofs.plays.play_with_tables.Goals as goal
 
-pub returns-then-masks-eq0 : goal.returns-then-masks-eq0
-returns-then-masks-eq0 c =
-    let none_left = c.if-masks-eq0.true in
-    sym (ap (λ p. settled (run_of c.args.run) (stopped_at p.count p.run p.stop)) (played_after-all (charts (read_charts c.args.s.now)) c.args.masks.now (run_of c.args.run) 0 (run_of c.args.run) (omega (arith, none_left)) (played_after-none (charts (read_charts c.args.s.now)) c.args.masks.now (run_of c.args.run))))
+pub returns-then-is_empty : goal.returns-then-is_empty
+returns-then-is_empty c =
+    sym (ap (λ p. settled (run_of c.args.run) (stopped_at p.count p.run p.stop)) (played_after-all (charts (read_charts c.args.s.now)) c.args.masks.now (run_of c.args.run) 0 (run_of c.args.run) (grind (arith, nat_tests, c.if-is_empty.ensures)) (played_after-none (charts (read_charts c.args.s.now)) c.args.masks.now (run_of c.args.run))))
 
 pub returns-in-Err : goal.returns-in-Err
 returns-in-Err c =
-    let some_left = c.if-masks-eq0.false in
     let m = charts (read_charts c.args.s.now) in
     let failed = cycle-refused m (get_or c.args.masks.now 0 0) (run_of c.args.run) (refusal_of c.in-Err.w) (sym c.before_turn.ensures ∙ ap before_of c.in-Err.is) in
-    sym (ap (λ p. settled (run_of c.args.run) (stopped_at p.count p.run p.stop)) (played_after-stop m c.args.masks.now (run_of c.args.run) 0 (run_of c.args.run) (refusal_of c.in-Err.w) (omega (arith, some_left)) (played_after-none m c.args.masks.now (run_of c.args.run)) failed))
+    sym (ap (λ p. settled (run_of c.args.run) (stopped_at p.count p.run p.stop)) (played_after-stop m c.args.masks.now (run_of c.args.run) 0 (run_of c.args.run) (refusal_of c.in-Err.w) (grind (arith, nat_tests, c.if-is_empty.ensures)) (played_after-none m c.args.masks.now (run_of c.args.run)) failed))
