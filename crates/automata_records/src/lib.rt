@@ -3,7 +3,8 @@
 
 pub mod fields;
 
-// How many records a framed automata file has of each kind, from kind 33 on.
+// How many records a framed automata file has of each kind, from kind 33 on. A file's bytes are passed beside it: a field is read of any bytes by any shape, so
+// a struct of both that holds `Accepted` would be taken apart at each field.
 #[derive(Clone, Copy)]
 pub struct Shape {
     pub automata: u16,

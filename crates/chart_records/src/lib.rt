@@ -3,7 +3,8 @@
 
 pub mod fields;
 
-// How many records a framed chart file has of each kind, from kind 1 on.
+// How many records a framed chart file has of each kind, from kind 1 on. A file's bytes are passed beside it: a field is read of any bytes by any shape
+// (`findings` reads a record alone, by a shape of zeros), so a struct of both that holds `Accepted` would be taken apart at each field.
 #[derive(Clone, Copy)]
 pub struct Shape {
     pub charts: u16,
