@@ -12,10 +12,7 @@ use records::sizes::{CHARTS, Places};
 pub fn state_at(states: Places, position: u32) -> u16
     ensures { result ≡ get_or states (position - 1) 0 }
 {
-    if position == 0 {
-        return states[0];
-    }
-    let c = (position - 1) as usize;
+    let c = position.saturating_sub(1) as usize;
     if c < CHARTS { states[c] } else { 0 }
 }
 
@@ -42,6 +39,7 @@ pub fn answers_alike(t: &[u8], shape: Shape, state: u16, answer: Answer, other: 
     }
 }
 
+// Of each kind of call its own, as the contract reads each by its own definition.
 pub fn endings_alike(ending: Result<(), Stop>, other: Result<(), Stop>) -> bool
     ensures { result ≡ outs_alike (λ _ _. true) (ending_of ending) (ending_of other) }
 {

@@ -16,6 +16,7 @@ use automata_steps::fields::{is_after, ticks_of};
 use records::sizes::{Ages, Clocks, Places, Variables};
 use timings::top;
 
+// `==`, whose contract says what the model compares, place by place.
 fn variables_alike(variables: Variables, others: Variables) -> bool
     ensures { result ≡ variables_alike variables others }
 {

@@ -11,7 +11,7 @@ ghost use Rattle.twins.specs.Compared.{pair_of};
 use alike::outcomes::{answers_alike, endings_alike, state_at};
 use alike::runs::runs_alike;
 
-// Whether the call was alike, and the runs that it leaves.
+// Whether the call was alike, and the runs that it leaves, which `called` tells of in either case.
 #[derive(Clone, Copy)]
 pub struct Both {
     pub alike: bool,
@@ -74,7 +74,7 @@ fn cycle_both(
     }
 }
 
-// A turn or a cycle.
+// A turn or a cycle: `call_for` in the contract is by the same truth, which is read from the call's kind.
 pub fn call_both(
     s: &[u8],
     shape: chart_records::Shape,
@@ -95,7 +95,7 @@ pub fn call_both(
     }
 }
 
-// Whether call k is a turn.
+// Whether call k is a turn: kinds are bytes, as the contract of `compare` has them.
 pub fn is_turn(kinds: &[u8], k: usize) -> bool
     ensures { result ≡ is_turn kinds.now k }
 {

@@ -18,7 +18,8 @@ use both::{call_both, is_turn};
 use records::refusals::Refusal;
 use records::sizes::{CHARTS, CLOCKS, VARIABLES};
 
-// All of so many calls were alike; why there was nothing to compare; the first call that was not alike.
+// All of so many calls were alike; why there was nothing to compare; the first call that was not alike. Three outcomes, of which the two that compared are no
+// errors, so that this is no Result.
 #[derive(Clone, Copy)]
 pub enum Verdict {
     Alike(usize),
@@ -124,7 +125,7 @@ fn plays_compared(
     }
 }
 
-// Cycles played, or calls one by one.
+// Cycles played, or calls one by one. A closure in place of the truth would have its clause, by `moved_both`, in each function that it passes through.
 fn table_compared(
     s: &[u8],
     shape: chart_records::Shape,
@@ -188,8 +189,8 @@ fn file_compared(s: &[u8], plays: bool, kinds: &[u8], masks: &[u32], twin: &mut 
     }
 }
 
-// A set, its translation into a lent buffer, and the same calls on both, from fresh runs on: whether they were alike, and the runs that they left. Call k has the events of masks[k]; it is a turn where kinds[k]
-// is 0, else a cycle.
+// A set, its translation into a lent buffer, and the same calls on both, from fresh runs on: whether they were alike, and the runs that they left. Call k has the
+// events of masks[k]; it is a turn where kinds[k] is 0, else a cycle.
 pub fn compare(s: &[u8], kinds: &[u8], masks: &[u32], twin: &mut [u8]) -> Compared
     ensures { (comparison_of result ≡ compared (translation s.now twin.old).answer (called_both s.now (twin_bytes s.now) masks.now kinds.now)) × (twin.new ≡ (translation s.now twin.old).lent) }
 {
