@@ -158,10 +158,10 @@ pub extern "C" fn framing(
 {
     match framing::frame_of(s, first, most) {
         Ok(f) => {
-            let ns = f.counts;
-            *counts = ns;
-            let ns = f.firsts;
-            *firsts = ns;
+            let tally = f.counts;
+            *counts = tally;
+            let starts = f.firsts;
+            *firsts = starts;
             0
         }
         Err(w) => {

@@ -19,8 +19,7 @@ fn trigger_in_code(code: u8, event: u8, ms: u32) -> bool
 {
     match code {
         1 => event <= LAST_EVENT,
-        2 => is_duration(ms),
-        3 => is_duration(ms),
+        2 | 3 => is_duration(ms),
         _ => true,
     }
 }
