@@ -9,7 +9,8 @@ use chart_records::Shape;
 use chart_records::fields::trigger_of;
 use records::byte_at;
 
-// Kinds that are known, refusals 4, 5 and 9 of a chart set; and what 11 asks of the first three in a table.
+// Kinds that are known, refusals 4, 5 and 9 of a chart set; and what 11 asks of the first three in a table. An enum, and no closure for each: the contract of
+// `find` names the rule's test (`test_of`), which a closure would have to bring with it.
 #[derive(Clone, Copy)]
 pub enum Rule {
     SetKinds,

@@ -45,8 +45,8 @@ pub fn top(ticks: u16) -> u16
     ticks
 }
 
-// How a clock grows is told by two limits, so that long runs read them once. Where it goes back to 1: an every-clock at its top, an after-clock nowhere, as none
-// comes to 65535.
+// How a clock grows is told by two limits, so that long runs read them once. Where it goes back to 1: an every-clock at its top, an after-clock nowhere, as
+// none comes to 65535.
 pub fn turn_for(after: bool, ticks: u16) -> u16
     ensures { result ≡ turn_for (timing_if after) ticks }
 {
