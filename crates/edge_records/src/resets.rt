@@ -20,7 +20,7 @@ use twin_records::writing::{put_record, reset_bytes};
 
 // Of each state its first leaving transition, and of each transition the next that leaves the same state; 65535 is none: an
 // Option would take twice the bytes.
-#[derive(Clone, Copy)]
+#[derive(Drop)]
 pub struct Leaving {
     pub first: [u16; STATES],
     pub next: [u16; TRANSITIONS],

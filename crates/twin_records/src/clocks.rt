@@ -22,7 +22,7 @@ use timings::ticks;
 
 // Of each transition the number of its own clock, if it has one; of each state its waiting clock's, 65535 where it does not wait: an Option would
 // take twice the bytes.
-#[derive(Clone, Copy)]
+#[derive(Drop)]
 pub struct ClockNumbers {
     pub own: [u16; TRANSITIONS],
     pub waiting: [u16; STATES],
