@@ -7,8 +7,8 @@ use super::lexemes::{number_at, past, sign_at, skip};
 use super::trees::{Part, chosen, constant, joined, negated, negative, variable};
 use records::byte_at;
 
-// What a rule came to as one number, 0 outside the grammar. It stays in a register, where an Option would go through memory (docs/DECISIONS.md, "Guards typed as a
-// line").
+// What a rule came to as one number, 0 outside the grammar. It stays in a register, where an Option would go through memory (docs/DECISIONS.md, "Guards
+// typed as a line").
 fn packed(p: Part) -> u32
     requires { (0 < p.next) × (p.next ≤ 256) × (p.size ≤ 256) }
     ensures { parsed_of result ≡ Some p }

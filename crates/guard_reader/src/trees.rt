@@ -7,8 +7,8 @@ ghost use Rattle.guard_reader.specs.Parts.{node_bits, LeafIs, NegationIs, JoinIs
 
 use records::{put_byte, put_u32};
 
-// A tree that was read: the place behind it, the number of nodes written with it, whether all operands have the sort that their operator takes, and whether it is
-// a truth.
+// A tree that was read: the place behind it, the number of nodes written with it, whether all operands have the sort that their operator takes, and whether it
+// is a truth.
 #[derive(Clone, Copy)]
 pub struct Part {
     pub next: usize,
