@@ -43,7 +43,12 @@ pub fn tell_set(rt: &impl Host, s: &[u8], w: Refusal) {
 pub fn tell_table(rt: &impl Host, s: &[u8]) {
     say(rt, Refusal::BadTable);
     let _ = tell_record(rt, s, Rule::TableKinds, b": kind unknown")
-        || tell_record(rt, s, Rule::TableBytes, b": an unnamed or unused byte not zero")
+        || tell_record(
+            rt,
+            s,
+            Rule::TableBytes,
+            b": an unnamed or unused byte not zero",
+        )
         || tell_record(rt, s, Rule::TableCodes, b": a code or range broken");
     end_line(rt, s);
 }
