@@ -1,5 +1,6 @@
 // The index that turns read, made once for a table: a location's edges, an edge's literals, and its updates and resets, are found without a search.
-ghost use Rattle.std.specs.Prelude.{◌≡◌};
+ghost use Rattle.std.specs.Prelude.{◌≡◌, ◌+◌, ◌≤◌, ◌<◌, ◌^◌};
+ghost use Rattle.automata_records.specs.Places.{first_reset};
 ghost use Rattle.automata_records.specs.Accepted.{Accepted, InFile};
 ghost use Rattle.automata_steps.specs.Index.{owner_in, HasIndex, KeepsUnchained, RoomFor, Blank, Linkable, Links};
 ghost use Rattle.automata_steps.specs.Prepared.{Prepared};
@@ -89,21 +90,34 @@ pub fn index_of(s: &[u8], shape: Shape, first: &mut TableHeads, next: &mut [u16]
     );
 }
 
-// What is read by a table's index, made for this once. It is short for a short file. The long one is filled with `NO_RECORD`, whose two bytes
-// differ, so that it is stored by vectors and not by one instruction that is repeated for each byte.
+// What is read by a table's index, made for this once, with so many places for its links. They are filled with `NO_RECORD`, whose two bytes differ, so that it is
+// stored by vectors and not by one instruction that is repeated for each byte.
+fn with_links<T, F: FnOnce(&TableHeads, &[u16]) -> T, const N: usize>(
+    s: &[u8],
+    shape: Shape,
+    read: F,
+) -> T
+    requires accepted { Accepted s.now shape }
+    requires room { first_reset shape + shape.resets ≤ N }
+    requires few { N < 2 ^ 16 }
+    requires may_read { (first : _) (next : _) → Prepared s.now shape first.now next.now → F.pre read first next }
+    ensures { (first : _) × (next : _) × Prepared s.now shape first.now next.now × F.post read first next result }
+{
+    let mut first = [65535u16; TABLE_KEYS];
+    let mut next = [NO_RECORD; N];
+    index_of(s, shape, &mut first, &mut next);
+    read(&first, &next)
+}
+
+// It is short for a short file. Each length has a function of its own, since one pays at its entry for all of its locals.
 pub fn with_index<T, F: FnOnce(&TableHeads, &[u16]) -> T>(s: &[u8], shape: Shape, read: F) -> T
     requires accepted { Accepted s.now shape }
     requires may_read { (first : _) (next : _) → Prepared s.now shape first.now next.now → F.pre read first next }
     ensures { (first : _) × (next : _) × Prepared s.now shape first.now next.now × F.post read first next result }
 {
-    let mut first = [65535u16; TABLE_KEYS];
     if s.len() <= 16384 {
-        let mut next = [65535u16; 1024];
-        index_of(s, shape, &mut first, &mut next);
-        read(&first, &next)
+        with_links::<T, F, 1024>(s, shape, read)
     } else {
-        let mut next = [NO_RECORD; TABLE_RECORDS];
-        index_of(s, shape, &mut first, &mut next);
-        read(&first, &next)
+        with_links::<T, F, TABLE_RECORDS>(s, shape, read)
     }
 }

@@ -4,7 +4,7 @@ ghost use Rattle.model.specs.Limits.{most_states, most_actions, most_priorities}
 ghost use Rattle.model.specs.ChartSet.{read_charts};
 ghost use Rattle.chart_records.specs.Accepted.{Accepted};
 ghost use Rattle.chart_steps.specs.Tables.{HasRows, HasEnds, HasActions, slot_at, action_keys};
-ghost use Rattle.chart_steps.specs.Prepared.{Prepared};
+ghost use Rattle.chart_steps.specs.Prepared.{Prepared, no_tables};
 
 use super::actions::key_of;
 use super::transitions::source_of;
@@ -62,18 +62,24 @@ pub fn fill_actions(s: &[u8], shape: Shape, first: &mut ActionHeads, next: &mut 
     }
 }
 
-pub fn tables_of(s: &[u8], shape: Shape) -> Tables
-    requires { Accepted s.now shape }
-    ensures { Prepared s.now shape result }
+// Tables in which nothing is filled yet.
+pub fn no_tables() -> Tables
+    ensures { result ≡ no_tables }
 {
     let empty = [256u16; PRIORITIES];
-    let mut tables = Tables {
+    Tables {
         rows: [empty; STATES],
         ends: [0u8; STATES],
         first: [65535u16; ACTION_KEYS],
         next: [65535u16; ACTIONS],
-    };
+    }
+}
+
+// Where they stand: a function pays at its entry for the size of its locals, so that tables given back would be paid for twice.
+pub fn fill_tables(s: &[u8], shape: Shape, tables: &mut Tables)
+    requires { Accepted s.now shape × (tables.old ≡ no_tables) }
+    ensures { Prepared s.now shape tables.new }
+{
     fill_rows(s, shape, &mut tables.rows, &mut tables.ends);
     fill_actions(s, shape, &mut tables.first, &mut tables.next);
-    tables
 }

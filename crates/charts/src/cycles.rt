@@ -14,7 +14,7 @@ use super::turns::turn;
 use answers::{Answer, Stop};
 use chart_records::Shape;
 use chart_runs::{Run, start};
-use chart_steps::tables::tables_of;
+use chart_steps::tables::{fill_tables, no_tables};
 
 // The answer of a call that is done or not, and the run after it.
 #[derive(Clone, Copy)]
@@ -41,7 +41,8 @@ pub fn cycle_by_turns(s: &[u8], shape: Shape, run: Run, events: u32) -> Called
     requires { Accepted s.now shape }
     ensures { called_of result ≡ settled (run_of run) (model-cycle (machine (read_charts s.now)) events (run_of run)) }
 {
-    let tables = tables_of(s, shape);
+    let mut tables = no_tables();
+    fill_tables(s, shape, &mut tables);
     let mut present = run;
     let mut given = events;
     loop {

@@ -21,7 +21,7 @@ use answers::{Reason, Stop};
 use chart_records::Shape;
 use chart_runs::{Run, before_turn, grow_ages, run_between_cycles};
 use chart_steps::steps::turns_in_place;
-use chart_steps::tables::{Tables, tables_of};
+use chart_steps::tables::{Tables, fill_tables, no_tables};
 use machines::checks::events_given;
 use machines::deeds::done_by;
 use records::sizes::{Ages, MOST_CYCLES, Places, Variables};
@@ -210,6 +210,7 @@ pub fn play_in_place(s: &[u8], shape: Shape, run: Run, masks: &[u32]) -> Played
     requires { Accepted s.now shape }
     ensures { played_of result ≡ settled (run_of run) (playing (machine (read_charts s.now)) masks.now (run_of run)) }
 {
-    let tables = tables_of(s, shape);
+    let mut tables = no_tables();
+    fill_tables(s, shape, &mut tables);
     play_with_tables(s, shape, &tables, run, masks)
 }

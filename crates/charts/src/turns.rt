@@ -17,7 +17,7 @@ use answers::Answer;
 use chart_records::Shape;
 use chart_runs::{Run, before_turn, give, time_passed};
 use chart_steps::steps::turns_in_place;
-use chart_steps::tables::{Tables, tables_of};
+use chart_steps::tables::{Tables, fill_tables, no_tables};
 use machines::deeds::done_by;
 use records::sizes::{Ages, Places, Variables};
 
@@ -145,6 +145,7 @@ pub fn one_turn(s: &[u8], shape: Shape, run: Run, events: u32) -> Turned
     requires { Accepted s.now shape }
     ensures { turn_of result ≡ settled (run_of run) (model-turn (machine (read_charts s.now)) events (run_of run)) }
 {
-    let tables = tables_of(s, shape);
+    let mut tables = no_tables();
+    fill_tables(s, shape, &mut tables);
     turn(s, shape, &tables, run, events)
 }

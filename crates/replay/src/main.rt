@@ -8,7 +8,7 @@ ghost use Rattle.chart_steps.specs.Prepared.{Prepared};
 use chart_files::check;
 use chart_records::Shape;
 use chart_runs::{Run, start};
-use chart_steps::tables::{Tables, tables_of};
+use chart_steps::tables::{Tables, fill_tables, no_tables};
 use messages::files::refuse_set;
 use messages::host::Host;
 use messages::input::{Form, NAME_ROOM, argument, argument_count, arguments, next_mask, read_file};
@@ -64,7 +64,8 @@ fn play_file(rt: &impl Host, s: &[u8]) {
     match check(s) {
         Err(w) => refuse_set(rt, s, w),
         Ok(shape) => {
-            let tables = tables_of(s, shape);
+            let mut tables = no_tables();
+            fill_tables(s, shape, &mut tables);
             play(rt, s, shape, &tables);
         }
     }

@@ -14,7 +14,7 @@ ghost use Rattle.translation.specs.Answer.{translated_of};
 pub mod lengths;
 
 use chart_records::Shape;
-use chart_steps::tables::{Tables, tables_of};
+use chart_steps::tables::{Tables, fill_tables, no_tables};
 use edge_records::literals::{put_idle_literals, put_literals};
 use edge_records::resets::{leaving_of, put_resets};
 use edge_records::updates::{put_due_updates, put_updates};
@@ -85,7 +85,8 @@ fn put_twin(s: &[u8], shape: Shape, out: &mut [u8]) -> usize
     requires { Accepted s.now shape }
     ensures { Puts out.old 0 (twin_bytes s.now) out.new result (2 ^ 50) }
 {
-    let tables = tables_of(s, shape);
+    let mut tables = no_tables();
+    fill_tables(s, shape, &mut tables);
     let clocks = clock_numbers(s, shape, &tables.first);
     let tests_at = put_places(s, shape, &clocks, out, 0);
     let effects_at = put_tests(s, shape, &clocks, &tables, out, tests_at);

@@ -8,7 +8,7 @@ use Rattle.translation.proofs.put_twin.Goals as goal
 
 pub clock_numbers-clocks-requires : goal.clock_numbers-clocks-requires
 clock_numbers-clocks-requires c =
-    (c.requires, c.tables_of-tables.ensures.has_actions.first_of)
+    (c.requires, c.fill_tables.ensures.has_actions.first_of)
 
 pub put_places-tests_at-requires : goal.put_places-tests_at-requires
 put_places-tests_at-requires c =
@@ -16,11 +16,11 @@ put_places-tests_at-requires c =
 
 pub put_tests-effects_at-requires : goal.put_tests-effects_at-requires
 put_tests-effects_at-requires c =
-    (c.tables_of-tables.ensures, c.clock_numbers-clocks.ensures.0, c.clock_numbers-clocks.ensures.1, omega (arith, c.put_places-tests_at.ensures.near))
+    (c.fill_tables.ensures, c.clock_numbers-clocks.ensures.0, c.clock_numbers-clocks.ensures.1, omega (arith, c.put_places-tests_at.ensures.near))
 
 pub put_effects-requires : goal.put_effects-requires
 put_effects-requires c =
-    (c.tables_of-tables.ensures, c.clock_numbers-clocks.ensures.0, c.clock_numbers-clocks.ensures.1, omega (arith, c.put_places-tests_at.ensures.near, c.put_tests-effects_at.ensures.near))
+    (c.fill_tables.ensures, c.clock_numbers-clocks.ensures.0, c.clock_numbers-clocks.ensures.1, omega (arith, c.put_places-tests_at.ensures.near, c.put_tests-effects_at.ensures.near))
 
 pub returns : goal.returns
 returns c =
