@@ -46,7 +46,7 @@ fn check_bytes(rt: &impl Host, s: &[u8]) {
 
 fn check_named(rt: &impl Host, name: &[u8]) {
     let mut file = [0u8; FILE_ROOM];
-    let Some(size) = read_file(rt, name, &mut file, Form::Either) else {
+    let Ok(size) = read_file(rt, name, &mut file, Form::Either) else {
         return
     };
     check_bytes(rt, &file[..size]);

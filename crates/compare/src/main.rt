@@ -9,7 +9,7 @@ ghost use Rattle.compare.specs.Masks.{masks_in};
 
 use messages::files::refuse_set;
 use messages::host::Host;
-use messages::input::{Form, NAME_ROOM, argument, arguments, fill, read_file};
+use messages::input::{Form, NAME_ROOM, argument, arguments, fill_or_tell, read_file};
 use messages::words::{or_tell, print};
 use records::sizes::{FILE_ROOM, LONGEST_TABLE};
 use twins::Verdict;
@@ -82,7 +82,7 @@ fn compare_bytes(rt: &impl Host, s: &[u8], bytes: &[u8]) {
 
 fn compare_file(rt: &impl Host, s: &[u8]) {
     let mut bytes = [0u8; 262144];
-    let Some(size) = or_tell(rt, b"standard input", fill(&mut rt.reader(), &mut bytes)) else {
+    let Ok(size) = fill_or_tell(rt, b"standard input", &mut rt.reader(), &mut bytes) else {
         return
     };
     compare_bytes(rt, s, &bytes[..size]);
@@ -90,7 +90,7 @@ fn compare_file(rt: &impl Host, s: &[u8]) {
 
 fn compare_named(rt: &impl Host, name: &[u8]) {
     let mut file = [0u8; FILE_ROOM];
-    let Some(size) = read_file(rt, name, &mut file, Form::Set) else {
+    let Ok(size) = read_file(rt, name, &mut file, Form::Set) else {
         return
     };
     compare_file(rt, &file[..size]);

@@ -91,7 +91,7 @@ fn show_bytes(rt: &impl Host, wanted: Wanted, s: &[u8]) {
 // A file by its name; - is standard input.
 pub fn show_file(rt: &impl Host, wanted: Wanted, name: &[u8]) {
     let mut file = [0u8; FILE_ROOM];
-    let Some(size) = read_file(rt, name, &mut file, Form::Either) else {
+    let Ok(size) = read_file(rt, name, &mut file, Form::Either) else {
         return
     };
     show_bytes(rt, wanted, &file[..size]);

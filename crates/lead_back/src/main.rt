@@ -8,7 +8,7 @@ ghost use Rattle.lead_back.specs.Path.{numbers};
 
 use messages::files::refuse_set;
 use messages::host::Host;
-use messages::input::{Form, NAME_ROOM, argument, arguments, fill, open_input, read_file};
+use messages::input::{Form, NAME_ROOM, argument, arguments, fill_or_tell, open_input, read_file};
 use messages::texts::row_into;
 use messages::words::{or_tell, print};
 use records::sizes::FILE_ROOM;
@@ -79,7 +79,7 @@ fn lead_file(rt: &impl Host, s: &[u8], name: &[u8]) {
         return
     };
     let mut bytes = [0u8; 262145];
-    let Some(size) = or_tell(rt, name, fill(&mut input, &mut bytes)) else {
+    let Ok(size) = fill_or_tell(rt, name, &mut input, &mut bytes) else {
         return
     };
     if is_path(rt, name, size) {
@@ -89,7 +89,7 @@ fn lead_file(rt: &impl Host, s: &[u8], name: &[u8]) {
 
 fn lead_named(rt: &impl Host, set: &[u8], path: &[u8]) {
     let mut file = [0u8; FILE_ROOM];
-    let Some(size) = read_file(rt, set, &mut file, Form::Set) else {
+    let Ok(size) = read_file(rt, set, &mut file, Form::Set) else {
         return
     };
     lead_file(rt, &file[..size], path);

@@ -1,12 +1,11 @@
 // Arguments and files: a file named by an argument, - for standard input, read whole; one that is longer than any set or table is refused as it is read.
-ghost use Rattle.std.specs.Io.{ReadsAtMost};
-ghost use Rattle.std.specs.Prelude.{◌≡◌, ◌≤◌, ◌<◌, IfSome, None, Some, length};
+ghost use Rattle.std.specs.Prelude.{◌≡◌, ◌≤◌, ◌<◌, IfErr, IfOk, IfSome, None, Some, length};
 ghost use Rattle.records.specs.Bytes.{four};
 ghost use Rattle.messages.specs.Counts.{IsPrefixLen};
 
 use crate::files::tell_file;
 use crate::host::Host;
-use crate::words::or_tell;
+use crate::words::{or_tell, tell_failed};
 use file_kinds::{Seen, is_dash, is_table, last_kind, long_refusal, seen_as};
 use records::refusals::Refusal;
 use std::env::FillError;
@@ -37,6 +36,13 @@ impl<F: Read, I: Read> Read for Source<F, I> {
             Source::Input(input) => input.read(buf),
         }
     }
+}
+
+// Why a read failed, and how many bytes had come before it.
+#[derive(Clone, Copy)]
+pub struct ReadFailed {
+    pub why: Error,
+    pub size: usize,
 }
 
 // What a file is read as; either is told by the first record's kind. A value that is passed on, and no choice of a step: what is said of a refused file
@@ -104,18 +110,39 @@ pub fn argument_or_empty(rt: &impl Host, i: usize, word: &mut [u8]) -> usize
 
 // ---- reading
 
-// Reads until the buffer is full or the input ends; answers how many bytes there are.
-pub fn fill(input: &mut impl Read, buf: &mut [u8]) -> io::Result<usize>
-    ensures { ReadsAtMost result buf.new }
+// Reads until the buffer is full or the input ends; answers how many bytes there are, also where a read fails.
+pub fn fill(input: &mut impl Read, buf: &mut [u8]) -> Result<usize, ReadFailed>
+    ensures filled { IfOk result (λ n. IsPrefixLen n buf.new) }
+    ensures failed { IfErr result (λ f. IsPrefixLen f.size buf.new) }
 {
     let mut size = 0;
     while size < buf.len() {
-        match input.read(&mut buf[size..])? {
-            0 => return Ok(size),
-            more => size += more,
+        match input.read(&mut buf[size..]) {
+            Ok(0) => return Ok(size),
+            Ok(more) => size += more,
+            Err(why) => return Err(ReadFailed { why, size }),
         }
     }
     Ok(size)
+}
+
+// How many bytes there are; where a read fails that is told, and Err has how many had come.
+pub fn fill_or_tell(
+    rt: &impl Host,
+    name: &[u8],
+    input: &mut impl Read,
+    buf: &mut [u8],
+) -> Result<usize, usize>
+    ensures filled { IfOk result (λ n. IsPrefixLen n buf.new) }
+    ensures failed { IfErr result (λ n. IsPrefixLen n buf.new) }
+{
+    match fill(input, buf) {
+        Ok(size) => Ok(size),
+        Err(failed) => {
+            tell_failed(rt, name, failed.why);
+            Err(failed.size)
+        }
+    }
 }
 
 // The event mask in the first four bytes; None where there are fewer.
@@ -132,7 +159,7 @@ pub fn mask_in(bytes: &[u8]) -> Option<u32>
 // The next event mask of standard input; None at a partial one, at the end, and where a read fails, which is told.
 pub fn next_mask(rt: &impl Host, input: &mut impl Read) -> Option<u32> {
     let mut mask = [0u8; 4];
-    let size = or_tell(rt, b"standard input", fill(input, &mut mask))?;
+    let size = fill_or_tell(rt, b"standard input", input, &mut mask).ok()?;
     mask_in(&mask[..size])
 }
 
@@ -149,7 +176,7 @@ fn refuse_long(
 ) {
     let mut kind = last_kind(buf, Some(1));
     for _ in 0..u64::MAX {
-        let Some(size) = or_tell(rt, name, fill(input, buf)) else {
+        let Ok(size) = fill_or_tell(rt, name, input, buf) else {
             return
         };
         kind = last_kind(&buf[..size], kind);
@@ -188,16 +215,19 @@ pub fn open_input<R: Host>(rt: &R, name: &[u8]) -> io::Result<Source<R::File, R:
     Ok(Source::File(fs::open(rt, path_of(name)?)?))
 }
 
-// Reads a file into a buffer that is longer than any set or table; answers how many bytes it has. None where it is missing, unreadable or fills the buffer,
-// which is told.
-pub fn read_file(rt: &impl Host, name: &[u8], buf: &mut [u8], form: Form) -> Option<usize>
-    ensures { IfSome result (λ n. IsPrefixLen n buf.new) }
+// Reads a file into a buffer that is longer than any set or table; answers how many bytes it has. Where it is missing, unreadable or fills the buffer, that is
+// told, and Err has how many bytes had come before a read failed.
+pub fn read_file(rt: &impl Host, name: &[u8], buf: &mut [u8], form: Form) -> Result<usize, usize>
+    ensures read { IfOk result (λ n. IsPrefixLen n buf.new) }
+    ensures failed { IfErr result (λ n. IsPrefixLen n buf.new) }
 {
-    let mut input = or_tell(rt, name, open_input(rt, name))?;
-    let size = or_tell(rt, name, fill(&mut input, buf))?;
+    let Some(mut input) = or_tell(rt, name, open_input(rt, name)) else {
+        return Err(0)
+    };
+    let size = fill_or_tell(rt, name, &mut input, buf)?;
     if size < buf.len() {
-        return Some(size);
+        return Ok(size);
     }
     refuse_full(rt, &mut input, name, buf, form);
-    None
+    Err(0)
 }

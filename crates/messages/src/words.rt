@@ -53,9 +53,15 @@ fn say_numbered(rt: &impl Host, word: &[u8], number: u8, meaning: &[u8]) {
     rt.tell(meaning);
 }
 
-// The refusal's number and meaning, without the line's end.
-pub fn say(rt: &impl Host, w: Refusal) {
-    say_numbered(rt, b"refusal ", refusal_number(w), refusal_meaning(w));
+// The number and meaning of a refusal or fault, without the line's end.
+pub fn say<W>(rt: &impl Host, why: W)
+where
+    Stop: From<W>,
+{
+    match Stop::from(why) {
+        Stop::Fault(w) => say_numbered(rt, b"fault ", reason_number(w), fault_meaning(w)),
+        Stop::Refused(w) => say_numbered(rt, b"refusal ", refusal_number(w), refusal_meaning(w)),
+    }
 }
 
 pub fn tell_refusal(rt: &impl Host, w: Refusal) {
@@ -64,7 +70,7 @@ pub fn tell_refusal(rt: &impl Host, w: Refusal) {
 }
 
 pub fn tell_fault(rt: &impl Host, w: Reason) {
-    say_numbered(rt, b"fault ", reason_number(w), fault_meaning(w));
+    say(rt, w);
     rt.tell(b"\n");
 }
 

@@ -73,7 +73,7 @@ fn play_file(rt: &impl Host, s: &[u8]) {
 
 fn play_named(rt: &impl Host, name: &[u8]) {
     let mut file = [0u8; FILE_ROOM];
-    let Some(size) = read_file(rt, name, &mut file, Form::Set) else {
+    let Ok(size) = read_file(rt, name, &mut file, Form::Set) else {
         return
     };
     play_file(rt, &file[..size]);

@@ -3,7 +3,6 @@
 // file is -, the twin goes to standard output, and nothing else does. A refusal's number and meaning go to standard error.
 #![tactic(auto)]
 
-ghost use Rattle.std.specs.Io.{ReadsAtMost};
 ghost use Rattle.std.specs.Prelude.{◌≤◌, length};
 ghost use Rattle.model.specs.Limits.{longest_table};
 
@@ -18,6 +17,7 @@ use messages::input::{
 use messages::texts::written_into;
 use messages::words::{or_tell, print};
 use records::sizes::{FILE_ROOM, LONGEST_TABLE};
+use std::io::Read;
 use std::{fs, io};
 
 fn print_written(rt: &impl Host, size: u32, shape: Shape) {
@@ -35,17 +35,23 @@ fn write_file(rt: &impl Host, name: &[u8], bytes: &[u8]) -> bool {
     or_tell(rt, name, put_file(rt, name, bytes)).is_some()
 }
 
-fn fill_from(rt: &impl Host, name: &[u8], buf: &mut [u8]) -> io::Result<usize>
-    ensures { ReadsAtMost result buf.new }
-{
-    fill(&mut fs::open(rt, path_of(name)?)?, buf)
+// Whether what is read is an accepted set. No set fills the buffer.
+fn is_set(input: &mut impl Read) -> bool {
+    let mut file = [0u8; FILE_ROOM];
+    match fill(input, &mut file) {
+        Ok(size) => chart_files::check(&file[..size]).is_ok(),
+        Err(_) => false,
+    }
 }
 
-// Whether the file of that name is there, can be read, and is an accepted set. No set fills the buffer.
+fn open_named<R: Host>(rt: &R, name: &[u8]) -> io::Result<R::File> {
+    fs::open(rt, path_of(name)?)
+}
+
+// Whether the file of that name is there, can be read, and is an accepted set. The buffer is cleared only where there is one.
 fn holds_set(rt: &impl Host, name: &[u8]) -> bool {
-    let mut file = [0u8; FILE_ROOM];
-    match fill_from(rt, name, &mut file) {
-        Ok(size) => chart_files::check(&file[..size]).is_ok(),
+    match open_named(rt, name) {
+        Ok(mut input) => is_set(&mut input),
         Err(_) => false,
     }
 }
@@ -98,7 +104,7 @@ fn translate_file(rt: &impl Host, s: &[u8], name: &[u8], force: bool) {
 
 fn translate_named(rt: &impl Host, set: &[u8], twin: &[u8], force: bool) {
     let mut file = [0u8; FILE_ROOM];
-    let Some(size) = read_file(rt, set, &mut file, Form::Set) else {
+    let Ok(size) = read_file(rt, set, &mut file, Form::Set) else {
         return
     };
     translate_file(rt, &file[..size], twin, force);
