@@ -24,9 +24,9 @@ use Rattle.paths.specs.declared.Walk.{Walk}
 use Rattle.paths.specs.LedOf.{walk_in, next_position, next_cycles, no_edge, IsEdge, HasEdges}
 use Rattle.paths.proofs.LedOfEdges.{edges-in, automaton-known}
 
-module _ (s : List ℕ) (sh : Shape) (ok : Accepted s sh) (e : ℕ) (w : Walk) where
+module _ (s : List ℕ) (sh : Shape) (ok : Accepted s sh) (e : ℕ) (at : List ℕ) (w : Walk) where
   abbrev pub here : M.Walk
-  here = walk_in sh.charts w
+  here = walk_in sh.charts at w
 
   abbrev onward : M.Walk
   onward = record {
@@ -41,23 +41,23 @@ module _ (s : List ℕ) (sh : Shape) (ok : Accepted s sh) (e : ℕ) (w : Walk) w
   -- ---- the edge that is named
 
   module _ (x : Edge) (is : IsEdge s sh.charts e x) (h : e < length (twin (read_charts s)).edges) where
-    fits_by : (b : Bool) → eqb (x.automaton + 1) w.position ≡ b → edge_fits (read_charts s) e here ≡ (b && eqb x.source (get_or (take sh.charts w.locations) x.automaton 0))
+    fits_by : (b : Bool) → eqb (x.automaton + 1) w.position ≡ b → edge_fits (read_charts s) e here ≡ (b && eqb x.source (get_or (take sh.charts at) x.automaton 0))
     fits_by b eb =
         (λ i. lt-ltb e (length (twin (read_charts s)).edges) h i
-        && eqb (sym is.automaton i + 1) w.position && eqb (sym is.source i) (get_or (take sh.charts w.locations) (sym is.automaton i) 0))
-        ∙ ap (λ t. t && eqb x.source (get_or (take sh.charts w.locations) x.automaton 0)) eb
+        && eqb (sym is.automaton i + 1) w.position && eqb (sym is.source i) (get_or (take sh.charts at) (sym is.automaton i) 0))
+        ∙ ap (λ t. t && eqb x.source (get_or (take sh.charts at) x.automaton 0)) eb
 
-    pub edge-there : eqb (x.automaton + 1) w.position ≡ true → edge_fits (read_charts s) e here ≡ eqb x.source (get_or w.locations x.automaton 0)
-    edge-there n = fits_by true n ∙ ap (eqb x.source) (get_or-take sh.charts w.locations x.automaton 0 is.known)
+    pub edge-there : eqb (x.automaton + 1) w.position ≡ true → edge_fits (read_charts s) e here ≡ eqb x.source (get_or at x.automaton 0)
+    edge-there n = fits_by true n ∙ ap (eqb x.source) (get_or-take sh.charts at x.automaton 0 is.known)
 
     -- where it leads
-    pub led-edge : (e ≡ 65535 → ⊥) → walk_in sh.charts (record { locations = set w.locations x.automaton x.target; position = w.position + 1; cycles = w.cycles }) ≡ walked (read_charts s) e here
+    pub led-edge : (e ≡ 65535 → ⊥) → walk_in sh.charts (set at x.automaton x.target) (record { position = w.position + 1; cycles = w.cycles }) ≡ walked (read_charts s) e here
     led-edge n =
-        (λ i. record { locations = take-set-lt sh.charts w.locations x.automaton x.target is.known i; position = w.position + 1; cycles = w.cycles })
-        ∙ (λ i. record { locations = set (take sh.charts w.locations) (is.automaton i) (is.target i); position = w.position + 1; cycles = w.cycles })
+        (λ i. record { locations = take-set-lt sh.charts at x.automaton x.target is.known i; position = w.position + 1; cycles = w.cycles })
+        ∙ (λ i. record { locations = set (take sh.charts at) (is.automaton i) (is.target i); position = w.position + 1; cycles = w.cycles })
         ∙ sym (ap (λ b. cond b later onward) (ne_eqb e 65535 n))
 
-  pub led-time : e ≡ 65535 → walk_in sh.charts (record { locations = w.locations; position = 1; cycles = w.cycles + 1 }) ≡ walked (read_charts s) e here
+  pub led-time : e ≡ 65535 → walk_in sh.charts at (record { position = 1; cycles = w.cycles + 1 }) ≡ walked (read_charts s) e here
   led-time m = sym (ap (λ b. cond b later onward) (eq-eqb e 65535 m))
 
 -- ---- the step, from anywhere

@@ -16,8 +16,8 @@ use Rattle.paths.specs.declared.Walk.{Walk}
 use Rattle.paths.specs.Along.{all_fit, rows_along}
 
 -- a walk of so many charts, the locations in the first places
-abbrev pub walk_in : ℕ → Walk → M.Walk
-walk_in charts w = record { locations = take charts w.locations; position = w.position; cycles = w.cycles }
+abbrev pub walk_in : ℕ → List ℕ → Walk → M.Walk
+walk_in charts locations w = record { locations = take charts locations; position = w.position; cycles = w.cycles }
 
 -- position and count of cycles after a step
 abbrev pub next_position : ℕ → ℕ → ℕ

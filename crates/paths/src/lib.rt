@@ -24,7 +24,7 @@ use records::sizes::{
 const IDLE_EDGES: usize = 2 * STATES;
 
 // Of each idle edge, counted from the first, its state; and how many there are: room for the most, as there is no heap.
-#[derive(Drop)]
+#[derive(Clone, Copy)]
 pub struct Idling {
     pub states: [u16; IDLE_EDGES],
     pub count: u16,
@@ -39,16 +39,16 @@ pub struct Edge {
 }
 
 // The edges of the twin, made once for a path, and how many there are: room for the most, as there is no heap.
-#[derive(Drop)]
+#[derive(Clone, Copy)]
 pub struct EdgeTable {
     pub edges: [Edge; EDGES],
     pub count: u16,
 }
 
-// Where the steps so far have led: the automata's locations, and of the next step its position in its cycle.
-#[derive(Drop)]
+// Where in its cycles a walk is: the next step's position, and how many cycles are done. The automata's locations stand apart: they are named by number and so
+// lie in memory, and these two stay in registers (docs/SPEED.md, "A path by numbers").
+#[derive(Clone, Copy)]
 pub struct Walk {
-    pub locations: Places,
     pub position: u32,
     pub cycles: u32,
 }
@@ -128,22 +128,24 @@ fn edges_of(s: &[u8], shape: Shape) -> EdgeTable
 }
 
 // A path starts where a run does, at position 1 of cycle 0.
-fn start_walk(s: &[u8], shape: Shape) -> Walk
+fn start_locations(s: &[u8], shape: Shape) -> Places
     requires { Accepted s.now shape }
-    ensures { walk_in shape.charts result ≡ walk_start (read_charts s.now) }
+    ensures { walk_in shape.charts result (record { position = 1; cycles = 0 }) ≡ walk_start (read_charts s.now) }
 {
     let run = chart_runs::start(s, shape);
-    let locations = run.states;
-    Walk {
-        locations,
-        position: 1,
-        cycles: 0,
-    }
+    run.states
 }
 
-fn edge_fits(s: &[u8], shape: Shape, table: &EdgeTable, e: u16, walk: &Walk) -> bool
+fn edge_fits(
+    s: &[u8],
+    shape: Shape,
+    table: &EdgeTable,
+    e: u16,
+    locations: &Places,
+    walk: Walk,
+) -> bool
     requires { Accepted s.now shape × HasEdges s.now shape table.now }
-    ensures { result ≡ edge_fits (read_charts s.now) e (walk_in shape.charts walk.now) }
+    ensures { result ≡ edge_fits (read_charts s.now) e (walk_in shape.charts locations.now walk) }
 {
     if table.count <= e {
         return false;
@@ -151,16 +153,23 @@ fn edge_fits(s: &[u8], shape: Shape, table: &EdgeTable, e: u16, walk: &Walk) -> 
     let edge = table.edges[e as usize];
     let a = edge.automaton as usize;
     if (edge.automaton as u32) + 1 == walk.position {
-        edge.source == walk.locations[a]
+        edge.source == locations[a]
     } else {
         false
     }
 }
 
 // 65535 is time: so the C interface has a path's words.
-fn step_fits(s: &[u8], shape: Shape, table: &EdgeTable, e: u16, walk: &Walk) -> bool
+fn step_fits(
+    s: &[u8],
+    shape: Shape,
+    table: &EdgeTable,
+    e: u16,
+    locations: &Places,
+    walk: Walk,
+) -> bool
     requires { Accepted s.now shape × HasEdges s.now shape table.now }
-    ensures { result ≡ step_fits (read_charts s.now) e (walk_in shape.charts walk.now) }
+    ensures { result ≡ step_fits (read_charts s.now) e (walk_in shape.charts locations.now walk) }
 {
     if MOST_CYCLES <= walk.cycles {
         return false;
@@ -168,7 +177,7 @@ fn step_fits(s: &[u8], shape: Shape, table: &EdgeTable, e: u16, walk: &Walk) -> 
     if e == 65535 {
         walk.position == (shape.charts as u32) + 1
     } else {
-        edge_fits(s, shape, table, e, walk)
+        edge_fits(s, shape, table, e, locations, walk)
     }
 }
 
@@ -187,10 +196,17 @@ fn next_cycles(e: u16, cycles: u32) -> u32
 }
 
 // A step that fits leads an automaton to its edge's target; time moves none.
-fn follow_step(s: &[u8], shape: Shape, table: &EdgeTable, e: u16, walk: &mut Walk)
+fn follow_step(
+    s: &[u8],
+    shape: Shape,
+    table: &EdgeTable,
+    e: u16,
+    locations: &mut Places,
+    walk: &mut Walk,
+)
     requires accepted { Accepted s.now shape × HasEdges s.now shape table.now }
-    requires fits { step_fits (read_charts s.now) e (walk_in shape.charts walk.old) ≡ true }
-    ensures { walk_in shape.charts walk.new ≡ walkedOn (read_charts s.now) e (walk_in shape.charts walk.old) }
+    requires fits { step_fits (read_charts s.now) e (walk_in shape.charts locations.old walk.old) ≡ true }
+    ensures { walk_in shape.charts locations.new walk.new ≡ walkedOn (read_charts s.now) e (walk_in shape.charts locations.old walk.old) }
 {
     if e == 65535 {
         walk.position = 1;
@@ -198,7 +214,7 @@ fn follow_step(s: &[u8], shape: Shape, table: &EdgeTable, e: u16, walk: &mut Wal
         return;
     }
     let edge = table.edges[e as usize];
-    walk.locations[edge.automaton as usize] = edge.target;
+    locations[edge.automaton as usize] = edge.target;
     walk.position += 1;
 }
 
@@ -214,14 +230,18 @@ fn count_rows(s: &[u8], shape: Shape, table: &EdgeTable, path: &[u16]) -> Option
     requires { Accepted s.now shape × HasEdges s.now shape table.now }
     ensures { count_of result ≡ counted (led_back (read_charts s.now) path.now (walk_start (read_charts s.now))) }
 {
-    let mut walk = start_walk(s, shape);
+    let mut locations = start_locations(s, shape);
+    let mut walk = Walk {
+        position: 1,
+        cycles: 0,
+    };
     let mut rows: usize = 0;
     for &e in path {
-        if !step_fits(s, shape, table, e, &walk) {
+        if !step_fits(s, shape, table, e, &locations, walk) {
             return None;
         }
         rows += rows_of_step(shape, e);
-        follow_step(s, shape, table, e, &mut walk);
+        follow_step(s, shape, table, e, &mut locations, &mut walk);
     }
     Some(rows)
 }

@@ -10,13 +10,13 @@ use Rattle.paths.proofs.count_rows.Goals as goal
 pub loop-e-init : goal.loop-e-init
 loop-e-init c =
     let a = c.args in
-    followed-none (read_charts a.s.now) a.path.now (walk_in a.shape.charts c.start_walk-walk.result) c.start_walk-walk.ensures
+    followed-none (read_charts a.s.now) a.path.now (walk_in a.shape.charts c.start_locations-locations.result (record { position = 1; cycles = 0 })) c.start_locations-locations.ensures
 
 pub returns-then-not-step_fits : goal.returns-then-not-step_fits
 returns-then-not-step_fits c =
     let a = c.args in
     let l = c.loop-e in
-    sym (followed-broken (read_charts a.s.now) a.path.now l.e-index (walk_in a.shape.charts l.walk) l.rows l.invariant c.loop-e-test.true
+    sym (followed-broken (read_charts a.s.now) a.path.now l.e-index (walk_in a.shape.charts l.locations l.walk) l.rows l.invariant c.loop-e-test.true
     (sym c.step_fits.ensures ∙ c.if-not-step_fits.true))
 
 pub loop-e-preserved : goal.loop-e-preserved
@@ -25,7 +25,7 @@ loop-e-preserved c =
     let l = c.loop-e in
     let s = a.s.now in
     let cs = read_charts s in
-    let w = walk_in a.shape.charts l.walk in
+    let w = walk_in a.shape.charts l.locations l.walk in
     let e = get_or a.path.now l.e-index 0 in
     followed-more cs a.path.now l.e-index w l.rows l.invariant c.loop-e-test.true
     (sym c.step_fits.ensures ∙ c.if-not-step_fits.false)
@@ -36,4 +36,4 @@ pub returns : goal.returns
 returns c =
     let a = c.args in
     let l = c.loop-e in
-    sym (followed-all (read_charts a.s.now) a.path.now l.e-index (walk_in a.shape.charts l.walk) l.rows l.invariant c.loop-e-test.false)
+    sym (followed-all (read_charts a.s.now) a.path.now l.e-index (walk_in a.shape.charts l.locations l.walk) l.rows l.invariant c.loop-e-test.false)

@@ -6,4 +6,4 @@ use Rattle.paths.proofs.AlongFollowed.{Followed}
 use Rattle.paths.proofs.count_rows.Given as goal
 
 abbrev pub invariant-loop-e : goal.invariant-loop-e
-invariant-loop-e l = Followed (read_charts l.s) l.path l.e-index (walk_in l.shape.charts l.walk) l.rows
+invariant-loop-e l = Followed (read_charts l.s) l.path l.e-index (walk_in l.shape.charts l.locations l.walk) l.rows

@@ -18,21 +18,21 @@ in-table {s} {sh} ok has {e} n w fits = let f = fits-edge s sh ok e w n fits in 
 
 pub returns-then-e-eq65535 : goal.returns-then-e-eq65535
 returns-then-e-eq65535 c =
-    let a = c.args in led-time a.s.now a.shape c.requires.accepted.0 a.e a.walk.now c.if-e-eq65535.true
+    let a = c.args in led-time a.s.now a.shape c.requires.accepted.0 a.e a.locations.now a.walk.now c.if-e-eq65535.true
 
 pub bounds-table-e : goal.bounds-table-e
 bounds-table-e c =
     let q = c.requires in
-    edge-room q.accepted.0 q.accepted.1 (in-table q.accepted.0 q.accepted.1 c.if-e-eq65535.false (walk_in c.args.shape.charts c.args.walk.now) q.fits)
+    edge-room q.accepted.0 q.accepted.1 (in-table q.accepted.0 q.accepted.1 c.if-e-eq65535.false (walk_in c.args.shape.charts c.args.locations.now c.args.walk.now) q.fits)
 
-pub bounds-walk-edge : goal.bounds-walk-edge
-bounds-walk-edge c =
+pub bounds-locations-edge : goal.bounds-locations-edge
+bounds-locations-edge c =
     let q = c.requires in
-    few-automata q.accepted.0 q.accepted.1 (in-table q.accepted.0 q.accepted.1 c.if-e-eq65535.false (walk_in c.args.shape.charts c.args.walk.now) q.fits)
+    few-automata q.accepted.0 q.accepted.1 (in-table q.accepted.0 q.accepted.1 c.if-e-eq65535.false (walk_in c.args.shape.charts c.args.locations.now c.args.walk.now) q.fits)
 
 pub returns : goal.returns
 returns c =
     let a = c.args in
     let has = c.requires.accepted.1 in
-    let h = in-table c.requires.accepted.0 has c.if-e-eq65535.false (walk_in a.shape.charts a.walk.now) c.requires.fits in
-    led-edge a.s.now a.shape c.requires.accepted.0 a.e a.walk.now (get_or a.table.now.edges a.e no_edge) (has.each a.e h) (omega (arith, h, has.count)) c.if-e-eq65535.false
+    let h = in-table c.requires.accepted.0 has c.if-e-eq65535.false (walk_in a.shape.charts a.locations.now a.walk.now) c.requires.fits in
+    led-edge a.s.now a.shape c.requires.accepted.0 a.e a.locations.now a.walk.now (get_or a.table.now.edges a.e no_edge) (has.each a.e h) (omega (arith, h, has.count)) c.if-e-eq65535.false

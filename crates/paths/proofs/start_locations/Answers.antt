@@ -4,7 +4,7 @@ use lib.ListN.{length, take, replicate}
 use lib.Seq.{take_at}
 use Rattle.model.specs.ChartSet.{read_charts}
 use Rattle.chart_records.proofs.PlacesRead.{length-initial}
-use Rattle.paths.proofs.start_walk.Goals as goal
+use Rattle.paths.proofs.start_locations.Goals as goal
 
 pub returns : goal.returns
 returns c =
