@@ -15,12 +15,13 @@ use records::sizes::{
 };
 
 // Of each state its leaving transitions and where its row ends; of each key its first action, and of each action the next of its key. None is 65,535, and 256
-// in a row: an Option would take twice the bytes (docs/SPEED.md, "Fixed tables").
+// in a row: an Option would take twice the bytes (docs/SPEED.md, "Fixed tables"). The two chains, which are cleared alike, stand apart: together they are above the
+// 2 KiB that are cleared by plain stores.
 #[derive(Drop)]
 pub struct Tables {
+    pub first: ActionHeads,
     pub rows: Rows,
     pub ends: Ends,
-    pub first: ActionHeads,
     pub next: ActionLinks,
 }
 
@@ -68,9 +69,9 @@ pub fn no_tables() -> Tables
 {
     let empty = [256u16; PRIORITIES];
     Tables {
+        first: [65535u16; ACTION_KEYS],
         rows: [empty; STATES],
         ends: [0u8; STATES],
-        first: [65535u16; ACTION_KEYS],
         next: [65535u16; ACTIONS],
     }
 }

@@ -1,6 +1,6 @@
 // Resets by edge, then clock: all clocks of the transitions that leave the target, then its waiting clock.
 ghost use Rattle.std.specs.Prelude.{◌≡◌, map, ◌<◌, ◌^◌, drop, replicate};
-ghost use Rattle.model.specs.Limits.{most_transitions};
+ghost use Rattle.model.specs.Limits.{most_states, most_transitions};
 ghost use Rattle.prelude.specs.Lists.{gather, upto};
 ghost use Rattle.model.specs.ChartSet.{read_charts};
 ghost use Rattle.model.specs.Translation.{from_transition, transition_count, clocks_of, clocks_leaving};
@@ -26,19 +26,34 @@ pub struct Leaving {
     pub next: [u16; TRANSITIONS],
 }
 
-// From the last transition down, so that each finds the one behind it; places past the transitions have none.
-pub fn leaving_of(s: &[u8], shape: Shape) -> Leaving
-    requires { Accepted s.now shape }
-    ensures { HasLeaving (read_charts s.now) result.first result.next × (drop (transition_count (read_charts s.now)) result.next ≡ drop (transition_count (read_charts s.now)) (replicate most_transitions 65535)) }
+// From the last transition down, so that each finds the one behind it; places past the transitions are kept.
+pub fn fill_leaving(
+    s: &[u8],
+    shape: Shape,
+    first: &mut [u16; STATES],
+    next: &mut [u16; TRANSITIONS],
+)
+    requires { Accepted s.now shape × (first.old ≡ replicate most_states 65535) × (next.old ≡ replicate most_transitions 65535) }
+    ensures { HasLeaving (read_charts s.now) first.new next.new × (drop (transition_count (read_charts s.now)) next.new ≡ drop (transition_count (read_charts s.now)) next.old) }
 {
-    let mut first = [65535u16; STATES];
-    let mut next = [65535u16; TRANSITIONS];
     for t in (0..shape.transitions).rev() {
         let source = source_of(s, shape, t) as usize;
         next[t as usize] = first[source];
         first[source] = t;
     }
-    Leaving { first, next }
+}
+
+// Filled where they stand: arrays that are made first are copied into the struct. Places past the transitions have none.
+pub fn leaving_of(s: &[u8], shape: Shape) -> Leaving
+    requires { Accepted s.now shape }
+    ensures { HasLeaving (read_charts s.now) result.first result.next × (drop (transition_count (read_charts s.now)) result.next ≡ drop (transition_count (read_charts s.now)) (replicate most_transitions 65535)) }
+{
+    let mut leaving = Leaving {
+        first: [65535u16; STATES],
+        next: [65535u16; TRANSITIONS],
+    };
+    fill_leaving(s, shape, &mut leaving.first, &mut leaving.next);
+    leaving
 }
 
 fn put_reset(trigger: Trigger, clock: u16, out: &mut [u8], at: usize, edge: u16) -> usize
