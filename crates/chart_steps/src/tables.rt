@@ -15,8 +15,7 @@ use records::sizes::{
 };
 
 // Of each state its leaving transitions and where its row ends; of each key its first action, and of each action the next of its key. None is 65,535, and 256
-// in a row: an Option would take twice the bytes (docs/SPEED.md, "Fixed tables"). The two chains, which are cleared alike, stand apart: together they are above the
-// 2 KiB that are cleared by plain stores.
+// in a row: an Option would take twice the bytes. With a chain at the front less is cleared before it is filled (docs/SPEED.md, "Fixed tables").
 #[derive(Drop)]
 pub struct Tables {
     pub first: ActionHeads,

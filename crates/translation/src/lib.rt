@@ -16,12 +16,12 @@ pub mod lengths;
 use chart_records::Shape;
 use chart_steps::tables::{Tables, fill_tables, no_tables};
 use edge_records::literals::{put_idle_literals, put_literals};
-use edge_records::resets::{leaving_of, put_resets};
+use edge_records::resets::{Leaving, fill_leaving, put_resets};
 use edge_records::updates::{put_due_updates, put_updates};
 use lengths::twin_length;
 use records::refusals::Refusal;
-use records::sizes::LONGEST_TABLE;
-use twin_records::clocks::{ClockNumbers, clock_numbers, put_clocks};
+use records::sizes::{LONGEST_TABLE, STATES, TRANSITIONS};
+use twin_records::clocks::{ClockNumbers, fill_clocks, fill_waiting, put_clocks};
 use twin_records::edges::put_edges;
 use twin_records::sections::{put_homes, put_initials, put_nodes, put_variables};
 
@@ -76,18 +76,28 @@ fn put_effects(
         out,
         dues_at,
     );
-    let leaving = leaving_of(s, shape);
+    let mut leaving = Leaving {
+        first: [65535u16; STATES],
+        next: [65535u16; TRANSITIONS],
+    };
+    fill_leaving(s, shape, &mut leaving.first, &mut leaving.next);
     put_resets(s, shape, clocks, &leaving, out, resets_at)
 }
 
-// The twin's file from the buffer's start; answers its length, also where the buffer is shorter.
+// The twin's file from the buffer's start; answers its length, also where the buffer is shorter. The clocks' numbers are filled where they stand: given back by
+// value they are copied.
 fn put_twin(s: &[u8], shape: Shape, out: &mut [u8]) -> usize
     requires { Accepted s.now shape }
     ensures { Puts out.old 0 (twin_bytes s.now) out.new result (2 ^ 50) }
 {
+    let mut clocks = ClockNumbers {
+        own: [0u16; TRANSITIONS],
+        waiting: [65535u16; STATES],
+    };
     let mut tables = no_tables();
     fill_tables(s, shape, &mut tables);
-    let clocks = clock_numbers(s, shape, &tables.first);
+    let count = fill_clocks(s, shape, &mut clocks.own);
+    fill_waiting(s, shape, &tables.first, count, &mut clocks.waiting);
     let tests_at = put_places(s, shape, &clocks, out, 0);
     let effects_at = put_tests(s, shape, &clocks, &tables, out, tests_at);
     put_effects(s, shape, &clocks, &tables, out, effects_at)

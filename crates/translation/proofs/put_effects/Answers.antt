@@ -17,9 +17,13 @@ pub put_due_updates-resets_at-requires : goal.put_due_updates-resets_at-requires
 put_due_updates-resets_at-requires c =
     (c.requires.0.accepted, c.requires.2, c.requires.0.has_actions, omega (arith, c.requires.3, c.put_updates-dues_at.ensures.near))
 
+pub fill_leaving-requires : goal.fill_leaving-requires
+fill_leaving-requires c =
+    (c.requires.0.accepted, refl, refl)
+
 pub put_resets-requires : goal.put_resets-requires
 put_resets-requires c =
-    (c.requires.0.accepted, c.requires.1, c.requires.2, c.leaving_of-leaving.ensures.0, omega (arith, c.requires.3, c.put_updates-dues_at.ensures.near, c.put_due_updates-resets_at.ensures.near))
+    (c.requires.0.accepted, c.requires.1, c.requires.2, c.fill_leaving.ensures.0, omega (arith, c.requires.3, c.put_updates-dues_at.ensures.near, c.put_due_updates-resets_at.ensures.near))
 
 pub returns : goal.returns
 returns c =

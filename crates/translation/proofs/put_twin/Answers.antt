@@ -1,3 +1,4 @@
+use mathlib.Core.Path.{refl}
 use Prim.Native.Nat.{◌^◌}
 use native.Mathlib.Omega.{arith}
 use Rattle.model.specs.ChartSet.{read_charts}
@@ -6,21 +7,25 @@ use Rattle.twin_records.proofs.TextsWritten.{puts-as, puts_then}
 use Rattle.translation.proofs.TextsFile.{file-text}
 use Rattle.translation.proofs.put_twin.Goals as goal
 
-pub clock_numbers-clocks-requires : goal.clock_numbers-clocks-requires
-clock_numbers-clocks-requires c =
-    (c.requires, c.fill_tables.ensures.has_actions.first_of)
+pub fill_clocks-count-requires : goal.fill_clocks-count-requires
+fill_clocks-count-requires c =
+    (c.requires.shape, refl)
+
+pub fill_waiting-requires : goal.fill_waiting-requires
+fill_waiting-requires c =
+    (c.requires, c.fill_tables.ensures.has_actions.first_of, c.fill_clocks-count.ensures.0, refl)
 
 pub put_places-tests_at-requires : goal.put_places-tests_at-requires
 put_places-tests_at-requires c =
-    (c.requires, c.clock_numbers-clocks.ensures.1, omega arith)
+    (c.requires, c.fill_waiting.ensures, omega arith)
 
 pub put_tests-effects_at-requires : goal.put_tests-effects_at-requires
 put_tests-effects_at-requires c =
-    (c.fill_tables.ensures, c.clock_numbers-clocks.ensures.0, c.clock_numbers-clocks.ensures.1, omega (arith, c.put_places-tests_at.ensures.near))
+    (c.fill_tables.ensures, c.fill_clocks-count.ensures.1, c.fill_waiting.ensures, omega (arith, c.put_places-tests_at.ensures.near))
 
 pub put_effects-requires : goal.put_effects-requires
 put_effects-requires c =
-    (c.fill_tables.ensures, c.clock_numbers-clocks.ensures.0, c.clock_numbers-clocks.ensures.1, omega (arith, c.put_places-tests_at.ensures.near, c.put_tests-effects_at.ensures.near))
+    (c.fill_tables.ensures, c.fill_clocks-count.ensures.1, c.fill_waiting.ensures, omega (arith, c.put_places-tests_at.ensures.near, c.put_tests-effects_at.ensures.near))
 
 pub returns : goal.returns
 returns c =
