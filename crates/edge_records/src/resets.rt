@@ -43,19 +43,6 @@ pub fn fill_leaving(
     }
 }
 
-// Filled where they stand: arrays that are made first are copied into the struct. Places past the transitions have none.
-pub fn leaving_of(s: &[u8], shape: Shape) -> Leaving
-    requires { Accepted s.now shape }
-    ensures { HasLeaving (read_charts s.now) result.first result.next × (drop (transition_count (read_charts s.now)) result.next ≡ drop (transition_count (read_charts s.now)) (replicate most_transitions 65535)) }
-{
-    let mut leaving = Leaving {
-        first: [65535u16; STATES],
-        next: [65535u16; TRANSITIONS],
-    };
-    fill_leaving(s, shape, &mut leaving.first, &mut leaving.next);
-    leaving
-}
-
 fn put_reset(trigger: Trigger, clock: u16, out: &mut [u8], at: usize, edge: u16) -> usize
     requires { at < 2 ^ 62 }
     ensures { Puts out.old at (reset_texts edge (map (λ _. clock) (clocks_of (trigger_for trigger)))) out.new result 16 }

@@ -86,20 +86,6 @@ pub fn fill_waiting(
     }
 }
 
-// Filled where they stand: arrays that are made first are copied into the struct.
-pub fn clock_numbers(s: &[u8], shape: Shape, first: &ActionHeads) -> ClockNumbers
-    requires { Accepted s.now shape × HasFirsts s.now shape first.now }
-    ensures { HasClocks (read_charts s.now) result.own × HasWaiting (read_charts s.now) result.waiting }
-{
-    let mut numbers = ClockNumbers {
-        own: [0u16; TRANSITIONS],
-        waiting: [65535u16; STATES],
-    };
-    let count = fill_clocks(s, shape, &mut numbers.own);
-    fill_waiting(s, shape, first, count, &mut numbers.waiting);
-    numbers
-}
-
 fn put_clock(trigger: Trigger, out: &mut [u8], at: usize) -> usize
     requires { at < 2 ^ 62 }
     ensures { Puts out.old at (section 37 (map write_clock (clocks_of (trigger_for trigger)))) out.new result 16 }
